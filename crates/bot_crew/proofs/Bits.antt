@@ -97,12 +97,12 @@ same_list a b h = same_filter (is_seed a) (is_seed b) 0 64 (λ k l m. h k)
 back : (a n : ℕ) (ks : List ℕ) → Rising a ks → ((k : ℕ) → contains ks k ≡ true → k < a + n)
     → filter (contains ks) (numbers_from a n) ≡ ks
 back a zero [] h w = refl
-back a zero (j ∷ ks) h w = let l : j < a + 0 = w j (let e : (j == j) ≡ true = test_equal j j refl in rw e refl) in absurd (omega (arith, h.0))
+back a zero (j ∷ ks) h w = let below_a : j < a + 0 = w j (let e : (j == j) ≡ true = test_equal j j refl in rw e refl) in absurd (omega (arith, h.0))
 back a (suc n) [] h w = nothing_left (λ k. false) a (suc n) (λ k l m. refl)
 back a (suc n) (j ∷ ks) h w =
     by (cases_order a j)
-    (λ e. back (a + 1) n ks (weaker (j + 1) (a + 1) ks (omega arith) h.1) (λ k g. let l : k < a + suc n = w k (or_by_second (k == j) (contains ks k) g) in omega arith))
-    (λ l. back (a + 1) n (j ∷ ks) (omega arith, h.1) (λ k g. let m : k < a + suc n = w k g in omega arith))
+    (λ e. back (a + 1) n ks (weaker (j + 1) (a + 1) ks (omega arith) h.1) (λ k g. let below_a : k < a + suc n = w k (or_by_second (k == j) (contains ks k) g) in omega arith))
+    (λ l. back (a + 1) n (j ∷ ks) (omega arith, h.1) (λ k g. let below_a : k < a + suc n = w k g in omega arith))
   where
     by : (a ≡ j) ⊎ ((a < j) ⊎ (j < a)) → (a ≡ j → filter (contains ks) (numbers_from (a + 1) n) ≡ ks)
         → (a < j → filter (contains (j ∷ ks)) (numbers_from (a + 1) n) ≡ j ∷ ks)
@@ -148,15 +148,15 @@ pub less_is : (n j : ℕ) (ks : List ℕ) → n < 2 ^ 64 → seed_list n ≡ j �
 less_is n j ks h e =
     let s : n ≡ 2 ^ j + seed_set ks = fewer n j ks h e in
     let p = parts n j ks e in
-    let d : n - 2 ^ j ≡ seed_set ks = omega arith in
-    (omega arith, ap seed_list d ∙ list_of_set ks (weaker (j + 1) 0 ks (omega arith) p.0.1) (λ k f. p.1 k (or_by_second (k == j) (contains ks k) f)))
+    let n_is : n - 2 ^ j ≡ seed_set ks = omega arith in
+    (omega arith, ap seed_list n_is ∙ list_of_set ks (weaker (j + 1) 0 ks (omega arith) p.0.1) (λ k f. p.1 k (or_by_second (k == j) (contains ks k) f)))
 
 -- the lowest bit is the least seed
 pub least_is : (n j : ℕ) (ks : List ℕ) → n < 2 ^ 64 → seed_list n ≡ j ∷ ks → trailing_zeros w64 n ≡ j
 least_is n j ks h e = by (cases_order (trailing_zeros w64 n) j) (bit_at-trailing_zeros w64 n some h)
   where
     some : 0 < n
-    some = let s : n ≡ 2 ^ j + seed_set ks = fewer n j ks h e in omega (arith, pow_pos j)
+    some = let n_is : n ≡ 2 ^ j + seed_set ks = fewer n j ks h e in omega (arith, pow_pos j)
 
     seed : (k : ℕ) → is_seed n k ≡ contains (j ∷ ks) k
     seed k = ap (λ v. is_seed v k) (sym (set_of_list n h) ∙ ap seed_set e) ∙ seed_is 0 (j ∷ ks) (parts n j ks e).0 k

@@ -44,7 +44,7 @@ found_in p [] b e = cc
 found_in p (x ∷ xs) b e = by (p x) refl (found_in p xs b)
   where
     by : (t : Bool) → p x ≡ t → (find p xs ≡ Some b → In b xs × (p b ≡ true)) → In b (x ∷ xs) × (p b ≡ true)
-    by true f later = let g : Some x ≡ Some b = rw f at e in let h : b ≡ x = cc in (inl h, ap p h ∙ f)
+    by true f later = let g : Some x ≡ Some b = rw f at e in let b_is : b ≡ x = cc in (inl b_is, ap p b_is ∙ f)
     by false f later = let r = later (rw f at e) in (inr r.0, r.1)
 
 module _ (bots : List Bot) (c : Coord) where
@@ -74,7 +74,7 @@ cut_apart (suc m) a [] k r e f = cc
 cut_apart (suc m) a (j ∷ ks) k r e f = by (one_of_two (k == j) (contains (take m ks) k) e) (λ g. cut_apart m (j + 1) ks k r.1 g f)
   where
     by : ((k == j) ≡ true) ⊎ (contains (take m ks) k ≡ true) → (contains (take m ks) k ≡ true → ⊥) → ⊥
-    by (inl g) later = let h : k ≡ j = (Decides-eqb k j).0 g in not_both f (none_dropped m ks k (none_below (j + 1) ks r.1 k (omega arith)))
+    by (inl g) later = let k_is : k ≡ j = (Decides-eqb k j).0 g in not_both f (none_dropped m ks k (none_below (j + 1) ks r.1 k (omega arith)))
     by (inr g) later = later g
 
 head_apart : (ks : List ℕ) → NumbersRise 0 ks → contains (drop 1 ks) (slice_index ks 0) ≡ false
@@ -288,7 +288,7 @@ row_within a (suc n) k e = by (one_of_two (k == a) (contains (numbers_from (a + 
   where
     by : ((k == a) ≡ true) ⊎ (contains (numbers_from (a + 1) n) k ≡ true)
         → (contains (numbers_from (a + 1) n) k ≡ true → (a + 1 ≤ k) × (k < a + 1 + n)) → (a ≤ k) × (k < a + suc n)
-    by (inl f) later = let g : k ≡ a = (Decides-eqb k a).0 f in (omega arith, omega arith)
+    by (inl f) later = let k_is : k ≡ a = (Decides-eqb k a).0 f in (omega arith, omega arith)
     by (inr f) later = let r = later f in (omega arith, omega arith)
 
 module _ (profile : Profile) (few : profile.seeds ≤ 39) where

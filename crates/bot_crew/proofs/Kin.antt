@@ -80,7 +80,7 @@ few : (least : ℕ) (bots : List Bot) → least ≤ 41 → Rising bots
 few least [] l r h = omega arith
 few least (x ∷ xs) l r h =
     let b = h x (inl refl) in
-    let rest = few (x.bid + 1) xs (omega arith) r.1 (λ c i. let f : x.bid < c.bid = r.0 c i in (omega arith, (h c (inr i)).1)) in
+    let rest = few (x.bid + 1) xs (omega arith) r.1 (λ c i. let below_bid : x.bid < c.bid = r.0 c i in (omega arith, (h c (inr i)).1)) in
     omega arith
 
 pub crew_of : (bots : List Bot) → Rising bots → IsKin bots → IsCrew bots
@@ -124,9 +124,9 @@ module _ (bots : List Bot) (rising : Rising bots) (kin : IsKin bots) (bids : Lis
 
   cross : (c e : Bot) (k : ℕ) → In c news → In e (without bots bids) → Own c k → Own e k → ⊥
   cross c e k i j o p =
-      let h = heir.heirs c k i o in
+      let heirs = heir.heirs c k i o in
       let s = kept e j in
-      not_both h.2 (ap (λ v. list_any (λ j. j == v) bids) (kin.owns h.0 e k h.1 s.0 h.3 p) ∙ s.1)
+      not_both heirs.2 (ap (λ v. list_any (λ j. j == v) bids) (kin.owns heirs.0 e k heirs.1 s.0 heirs.3 p) ∙ s.1)
 
   clear : (c e : Bot) → In c news → In e (without bots bids) → c.pos ≡ e.pos → ⊥
   clear c e i j f = let s = kept e j in not_both (heir.free c e i s.0 f) s.1
@@ -156,7 +156,7 @@ module _ (bots : List Bot) (rising : Rising bots) (kin : IsKin bots) (bids : Lis
   by_unborn a (inr i) = kin.unborn a (kept a i).0
 
   by_numbers : (a : Bot) (k : ℕ) → Own a k → In a news ⊎ In a (without bots bids) → IsBid k
-  by_numbers a k o (inl i) = let h = heir.heirs a k i o in kin.numbers h.0 k h.1 h.3
+  by_numbers a k o (inl i) = let heirs = heir.heirs a k i o in kin.numbers heirs.0 k heirs.1 heirs.3
   by_numbers a k o (inr i) = kin.numbers a k (kept a i).0 o
 
   pub rising_replaced : Rising (replaced bots bids news)

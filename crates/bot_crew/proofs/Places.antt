@@ -27,7 +27,7 @@ pub found_at : (bots : List Bot) (bid i : ℕ) (d : Bot) → i < length bots
 found_at [] bid i d l b e = absurd (omega arith)
 found_at (x ∷ xs) bid zero d l b e = let f : (x.bid == bid) ≡ true = test_equal x.bid bid e in rw f refl
 found_at (x ∷ xs) bid (suc i) d l b e =
-    let m : x.bid < bid = b zero (omega arith) in
+    let below_bid : x.bid < bid = b zero (omega arith) in
     let f : (x.bid == bid) ≡ false = test_unequal x.bid bid (λ g. omega arith) in
     rw f (found_at xs bid i d (omega arith) (λ k n. b (suc k) (omega arith)) e)
 
@@ -37,7 +37,7 @@ none_at bots bid i r p h c j e = let w = in_place c c bots j in by w.0 w.1 (ap (
   where
     by : (k : ℕ) → k < length bots → (get_or bots k c).bid ≡ bid → (k ≡ i) ⊎ ((k < i) ⊎ (i < k)) → ⊥
     by k l f (inl g) = h c (omega arith) (ap (λ v. (get_or bots v c).bid) (sym g) ∙ f)
-    by k l f (inr (inl g)) = let m = p.before k c g in omega arith
+    by k l f (inr (inl g)) = let before = p.before k c g in omega arith
     by k l f (inr (inr g)) = let m : (get_or bots i c).bid < (get_or bots k c).bid = rising_pairs bots r i k c g l in let n : bid ≤ (get_or bots i c).bid = p.from c (omega arith) in omega arith
 
 -- no bot with the bid is active where none stands at its place
@@ -93,10 +93,10 @@ pub remove_is : (bots : List Bot) (bid i : ℕ) → Rising bots → i < length b
     → ((d : Bot) → (get_or bots i d).bid ≡ bid) → remove bots i ≡ without bots (bid ∷ [])
 remove_is [] bid i r l e = absurd (omega arith)
 remove_is (x ∷ xs) bid zero r l e =
-    rw (not_kept bid x (sym (e x))) (sym (filter_every (λ b. not (list_any (λ k. k == b.bid) (bid ∷ []))) xs (λ c j. is_kept bid c (λ f. let m : x.bid < c.bid = r.0 c j in let g : x.bid ≡ bid = e x in omega arith))))
+    rw (not_kept bid x (sym (e x))) (sym (filter_every (λ b. not (list_any (λ k. k == b.bid) (bid ∷ []))) xs (λ c j. is_kept bid c (λ f. let below_bid : x.bid < c.bid = r.0 c j in let same_bid : x.bid ≡ bid = e x in omega arith))))
 remove_is (x ∷ xs) bid (suc i) r l e =
     let m : x.bid < (get_or xs i x).bid = r.0 (get_or xs i x) (place_in x xs i (omega arith)) in
-    let g : (get_or xs i x).bid ≡ bid = e x in
+    let bid_is : (get_or xs i x).bid ≡ bid = e x in
     rw (is_kept bid x (λ f. omega arith)) (ap (λ ys. x ∷ ys) (remove_is xs bid i r.1 (omega arith) e))
 
 pub without_rises : (bots : List Bot) (bids : List ℕ) → Rising bots → Rising (without bots bids)
@@ -114,11 +114,11 @@ pub set_is : (bots : List Bot) (bid i : ℕ) (new : Bot) → Rising bots → i <
 set_is [] bid i new r l e n = absurd (omega arith)
 set_is (x ∷ xs) bid zero new r l e n =
     let same : new.bid ≡ x.bid = n ∙ sym (e x) in
-    rw (not_kept bid x (sym (e x)), filter_every (λ b. not (list_any (λ k. k == b.bid) (bid ∷ []))) xs (λ c j. is_kept bid c (λ f. let m : x.bid < c.bid = r.0 c j in let g : x.bid ≡ bid = e x in omega arith)))
-    (sym (rising_itself (new ∷ xs) ((λ c j. let m : x.bid < c.bid = r.0 c j in omega arith), r.1)))
+    rw (not_kept bid x (sym (e x)), filter_every (λ b. not (list_any (λ k. k == b.bid) (bid ∷ []))) xs (λ c j. is_kept bid c (λ f. let below_bid : x.bid < c.bid = r.0 c j in let same_bid : x.bid ≡ bid = e x in omega arith)))
+    (sym (rising_itself (new ∷ xs) ((λ c j. let below_bid : x.bid < c.bid = r.0 c j in omega arith), r.1)))
 set_is (x ∷ xs) bid (suc i) new r l e n =
     let m : x.bid < (get_or xs i x).bid = r.0 (get_or xs i x) (place_in x xs i (omega arith)) in
-    let g : (get_or xs i x).bid ≡ bid = e x in
+    let bid_is : (get_or xs i x).bid ≡ bid = e x in
     let ws = without xs (bid ∷ []) in
     let rest : set xs i new ≡ with_bot new ws = set_is xs bid i new r.1 (omega arith) e n ∙ ap (λ ys. with_bot new ys) (rising_itself ws (without_rises xs (bid ∷ []) r.1)) in
     let rises : Rising (x ∷ ws) = ((λ c j. r.0 c (filter_in (λ b. not (list_any (λ k. k == b.bid) (bid ∷ []))) c xs j).0), without_rises xs (bid ∷ []) r.1) in
@@ -131,9 +131,9 @@ insert_with [] zero new l b f = refl
 insert_with [] (suc i) new l b f = absurd (omega arith)
 insert_with (x ∷ xs) zero new l b f = let m : nat_lt new.bid x.bid ≡ true = test_less new.bid x.bid (f x (omega arith)) in rw m refl
 insert_with (x ∷ xs) (suc i) new l b f =
-    let n : x.bid < new.bid = b zero x (omega arith) in
-    let m : nat_lt new.bid x.bid ≡ false = test_not_less new.bid x.bid (omega arith) in
-    rw m (ap (λ ys. x ∷ ys) (insert_with xs i new (omega arith) (λ k d h. b (suc k) d (omega arith)) (λ d h. f d (omega arith))))
+    let below_bid : x.bid < new.bid = b zero x (omega arith) in
+    let not_nat_lt : nat_lt new.bid x.bid ≡ false = test_not_less new.bid x.bid (omega arith) in
+    rw not_nat_lt (ap (λ ys. x ∷ ys) (insert_with xs i new (omega arith) (λ k d h. b (suc k) d (omega arith)) (λ d h. f d (omega arith))))
 
 -- an insertion at the place of a bid that no bot has
 pub insert_is : (bots : List Bot) (i : ℕ) (new : Bot) → Rising bots → IsPlace bots new.bid i

@@ -100,9 +100,9 @@ move_result bots old now bid i c e f crew place active free =
   where
     here : IsActive bots bid → IfSome (bot_at bots c) (λ b. b.bid ≡ bid) → MoveResult bots bots bots bid i c
     here a g =
-        let w : bots_moved bots bots i c ≡ set bots i (moved (get_or bots i nobody) (point c)) = written bots bots i (moved (get_or bots i nobody) (point c)) refl in (
-          subst (λ v. IsCrew v) (sym w) (move_crew bots crew bid i place a c nobody g),
-          for_bot bots crew bid i place a (λ b. bots_moved bots bots i c ≡ replaced bots (bid ∷ []) (moved b (point c) ∷ [])) nobody (w ∙ move_is bots crew bid i place a c nobody g),
+        let bots_moved_is : bots_moved bots bots i c ≡ set bots i (moved (get_or bots i nobody) (point c)) = written bots bots i (moved (get_or bots i nobody) (point c)) refl in (
+          subst (λ v. IsCrew v) (sym bots_moved_is) (move_crew bots crew bid i place a c nobody g),
+          for_bot bots crew bid i place a (λ b. bots_moved bots bots i c ≡ replaced bots (bid ∷ []) (moved b (point c) ∷ [])) nobody (bots_moved_is ∙ move_is bots crew bid i place a c nobody g),
         )
 
 -- ---- the only bot
@@ -207,10 +207,10 @@ split_result bots old now bid i c m first taken kept p e f crew place active fre
         → IfSome (bot_of bots bid) (λ b. m + 1 ≤ length (seed_list b.seeds))
         → IsPlace (bots_seeded bots bots i kept) first p → SplitResult bots bots bots bid i c m first taken kept p
     here a g s l =
-        let w : bots_seeded bots bots i kept ≡ set bots i (parent (get_or bots i nobody) m) = ap (λ v. bots_seeded bots bots i v) split.kept ∙ written bots bots i (parent (get_or bots i nobody) m) refl in
-        let n : insert (bots_seeded bots bots i kept) p (record { bid = first; pos = c; seeds = taken }) ≡ insert (set bots i (parent (get_or bots i nobody) m)) p (newborn (get_or bots i nobody) (point c) m) = λ k. insert (w k) p (record { bid = split.bid k; pos = c; seeds = split.taken k }) in
-        let q : IsPlace (set bots i (parent (get_or bots i nobody) m)) (newborn (get_or bots i nobody) (point c) m).bid p = subst (λ v. IsPlace (set bots i (parent (get_or bots i nobody) m)) v p) split.bid (subst (λ v. IsPlace v first p) w l) in (
-          subst (λ v. length v < 40) (sym w) (split_room bots crew bid i place a c m g s p q),
+        let bots_seeded_is : bots_seeded bots bots i kept ≡ set bots i (parent (get_or bots i nobody) m) = ap (λ v. bots_seeded bots bots i v) split.kept ∙ written bots bots i (parent (get_or bots i nobody) m) refl in
+        let n : insert (bots_seeded bots bots i kept) p (record { bid = first; pos = c; seeds = taken }) ≡ insert (set bots i (parent (get_or bots i nobody) m)) p (newborn (get_or bots i nobody) (point c) m) = λ k. insert (bots_seeded_is k) p (record { bid = split.bid k; pos = c; seeds = split.taken k }) in
+        let q : IsPlace (set bots i (parent (get_or bots i nobody) m)) (newborn (get_or bots i nobody) (point c) m).bid p = subst (λ v. IsPlace (set bots i (parent (get_or bots i nobody) m)) v p) split.bid (subst (λ v. IsPlace v first p) bots_seeded_is l) in (
+          subst (λ v. length v < 40) (sym bots_seeded_is) (split_room bots crew bid i place a c m g s p q),
           subst (λ v. IsCrew v) (sym n) (split_crew bots crew bid i place a c m g s p q),
           for_bot bots crew bid i place a (λ b. insert (bots_seeded bots bots i kept) p (record { bid = first; pos = c; seeds = taken }) ≡ replaced bots (bid ∷ []) (parent b m ∷ newborn b (point c) m ∷ [])) nobody (n ∙ split_is bots crew bid i place a c m g s p q),
         )
@@ -246,9 +246,9 @@ module _ (bots : List Bot) (crew : IsCrew bots) (primary secondary end : ℕ) (p
         let a = get_or (remove bots end) p nobody in
         let b = get_or bots end nobody in
         let e : b.bid ≡ secondary = bid_there bots crew secondary end place second nobody in
-        let f : a.bid ≡ primary = still.1 nobody in
-        subst (λ v. IsHeir bots (v ∷ secondary ∷ []) (fused a b ∷ [])) f (subst (λ v. IsHeir bots (a.bid ∷ v ∷ []) (fused a b ∷ [])) e
-        (fusion_heir bots (kin_of bots crew) a b (found_in (λ x. x.bid == primary) bots a primary_is).0 (there_in b) (λ g. two (sym f ∙ (g ∙ e)))))
+        let bid_is : a.bid ≡ primary = still.1 nobody in
+        subst (λ v. IsHeir bots (v ∷ secondary ∷ []) (fused a b ∷ [])) bid_is (subst (λ v. IsHeir bots (a.bid ∷ v ∷ []) (fused a b ∷ [])) e
+        (fusion_heir bots (kin_of bots crew) a b (found_in (λ x. x.bid == primary) bots a primary_is).0 (there_in b) (λ g. two (sym bid_is ∙ (g ∙ e)))))
       where
         there_in : (b : Bot) → In (get_or bots end nobody) bots
         there_in b = place_in nobody bots end (at_place bots crew secondary end place second)
@@ -294,14 +294,14 @@ fusion_result bots old rest now primary secondary end p other seeds e f g crew p
         → seeds ≡ seeds_of_both (get_or (remove bots end) p nobody) other
         → FusionResult bots bots (remove bots end) (remove bots end) primary secondary p seeds
     here a s l u =
-        let o : other ≡ get_or bots end nobody = read_is bots end other (at_place bots crew secondary end place s) read in
-        let v : seeds ≡ seeds_of_both (get_or (remove bots end) p nobody) (get_or bots end nobody) = u ∙ ap (λ x. seeds_of_both (get_or (remove bots end) p nobody) x) o in
-        let w : bots_seeded (remove bots end) (remove bots end) p seeds ≡ set (remove bots end) p (fused (get_or (remove bots end) p nobody) (get_or bots end nobody)) =
-        ap (λ x. bots_seeded (remove bots end) (remove bots end) p x) v ∙ written (remove bots end) (remove bots end) p (fused (get_or (remove bots end) p nobody) (get_or bots end nobody)) refl in (
-          subst (λ x. IsCrew x) (sym w) (fused_crew bots crew primary secondary end place a s two p l),
+        let other_is : other ≡ get_or bots end nobody = read_is bots end other (at_place bots crew secondary end place s) read in
+        let seeds_is : seeds ≡ seeds_of_both (get_or (remove bots end) p nobody) (get_or bots end nobody) = u ∙ ap (λ x. seeds_of_both (get_or (remove bots end) p nobody) x) other_is in
+        let bots_seeded_is : bots_seeded (remove bots end) (remove bots end) p seeds ≡ set (remove bots end) p (fused (get_or (remove bots end) p nobody) (get_or bots end nobody)) =
+        ap (λ x. bots_seeded (remove bots end) (remove bots end) p x) seeds_is ∙ written (remove bots end) (remove bots end) p (fused (get_or (remove bots end) p nobody) (get_or bots end nobody)) refl in (
+          subst (λ x. IsCrew x) (sym bots_seeded_is) (fused_crew bots crew primary secondary end place a s two p l),
           subst (λ x. IfSome x (λ b. IfSome (bot_of bots secondary) (λ other. bots_seeded (remove bots end) (remove bots end) p seeds ≡ replaced bots (primary ∷ secondary ∷ []) (fused b other ∷ [])))) (sym (primary_is bots crew primary secondary end place a s two p l))
               (for_bot bots crew secondary end place s (λ other. bots_seeded (remove bots end) (remove bots end) p seeds ≡ replaced bots (primary ∷ secondary ∷ []) (fused (get_or (remove bots end) p nobody) other ∷ [])) nobody
-              (w ∙ fused_is bots crew primary secondary end place a s two p l)),
+              (bots_seeded_is ∙ fused_is bots crew primary secondary end place a s two p l)),
         )
 
 -- ---- what is read
@@ -328,7 +328,7 @@ module _ (bots old now : List Bot) (crew : IsCrew bots) (e : bots ≡ old) (f : 
       again d m = either bots i d (get_or bots i d) m
 
   pub read_nothing : false ≡ nat_lt i (length now) → None ≡ bot_of old bid
-  read_nothing t = let l = not_less_by i (length now) t in sym (none_found bots bid i (rising_of bots crew) place (λ d m n. absurd (let s : length now ≡ length bots = ap length f in omega arith))) ∙ ap (λ v. bot_of v bid) e
+  read_nothing t = let l = not_less_by i (length now) t in sym (none_found bots bid i (rising_of bots crew) place (λ d m n. absurd (let same_length : length now ≡ length bots = ap length f in omega arith))) ∙ ap (λ v. bot_of v bid) e
 
 -- the bot that is found at a coordinate
 pub found_there : (bots : List Bot) (c : Coord) (i : ℕ) (b : Bot) → i < length bots

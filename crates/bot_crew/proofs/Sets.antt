@@ -45,22 +45,22 @@ pub between_is : (later kept m : ℕ) (ks : List ℕ) → later < 2 ^ 64 → kep
     → seed_list kept ≡ drop (1 + m) ks
     → (kept ≤ later) × (later - kept ≡ seed_set (take m (drop 1 ks))) × (kept ≡ seed_set (drop (m + 1) ks))
 between_is later kept m ks h g e f =
-    let a : later ≡ seed_set (drop 1 ks) = sym (set_of_list later h) ∙ ap seed_set e in
-    let b : kept ≡ seed_set (drop (1 + m) ks) = sym (set_of_list kept g) ∙ ap seed_set f in
+    let later_is : later ≡ seed_set (drop 1 ks) = sym (set_of_list later h) ∙ ap seed_set e in
+    let kept_is : kept ≡ seed_set (drop (1 + m) ks) = sym (set_of_list kept g) ∙ ap seed_set f in
     let d : seed_set (take m (drop 1 ks)) + seed_set (drop m (drop 1 ks)) ≡ seed_set (drop 1 ks) = sym (seed_join (take m (drop 1 ks)) (drop m (drop 1 ks))) ∙ ap seed_set (take-append-drop m (drop 1 ks)) in
     let p : seed_set (drop m (drop 1 ks)) ≡ seed_set (drop (1 + m) ks) = ap seed_set (drop-drop m 1 ks) in
-    let q : seed_set (drop (1 + m) ks) ≡ seed_set (drop (m + 1) ks) = ap (λ v. seed_set (drop v ks)) (omega arith) in
-    (omega arith, omega arith, b ∙ q)
+    let same_seed_set : seed_set (drop (1 + m) ks) ≡ seed_set (drop (m + 1) ks) = ap (λ v. seed_set (drop v ks)) (omega arith) in
+    (omega arith, omega arith, kept_is ∙ same_seed_set)
 
 -- seeds that follow one another
 row_is : (a n : ℕ) → seed_set (numbers_from a n) + 2 ^ a ≡ 2 ^ (a + n)
-row_is a zero = let e : a + zero ≡ a = omega arith in omega (arith, ap (λ v. 2 ^ v) e)
+row_is a zero = let a_is : a + zero ≡ a = omega arith in omega (arith, ap (λ v. 2 ^ v) a_is)
 row_is a (suc n) =
-    let s : seed_set (a ∷ numbers_from (a + 1) n) ≡ 2 ^ a + seed_set (numbers_from (a + 1) n) = seed_more a (numbers_from (a + 1) n) in
+    let seed_set_is : seed_set (a ∷ numbers_from (a + 1) n) ≡ 2 ^ a + seed_set (numbers_from (a + 1) n) = seed_more a (numbers_from (a + 1) n) in
     let t : 2 ^ (a + 1) ≡ 2 ^ a * 2 = pow-add 2 a 1 in
     let r = row_is (a + 1) n in
-    let e : a + 1 + n ≡ a + suc n = omega arith in
-    omega (arith, r, ap (λ v. 2 ^ v) e)
+    let same_a : a + 1 + n ≡ a + suc n = omega arith in
+    omega (arith, r, ap (λ v. 2 ^ v) same_a)
 
 pub first_row : (n : ℕ) → n ≤ 39 → (1 * 2 ^ n % 2 ^ 64 - 1) * 4 % 2 ^ 64 ≡ seed_set (drop 2 (numbers_below (n + 2)))
 first_row n h =

@@ -33,8 +33,8 @@ chain-stays m m' s f n others free_of = chain-same m m' f n (λ t held. others t
 pub chain-opens : (m : ℕ → ℕ) (s n : ℕ) → 0 < n → chain m s n ≡ s ∷ chain m (m (512 * s)) (n - 1)
 unfolding chain
 chain-opens m s zero lt = absurd (omega arith)
-chain-opens m s (suc n) lt = let e : n ≡ suc n - 1 = omega arith in ap (λ k. s ∷ chain m (m (512 * s)) k) e
+chain-opens m s (suc n) lt = let n_is : n ≡ suc n - 1 = omega arith in ap (λ k. s ∷ chain m (m (512 * s)) k) n_is
 
 pub chain-adds : (m : ℕ → ℕ) (s n : ℕ) → chain m s (n + 1) ≡ s ∷ chain m (m (512 * s)) n
 unfolding chain
-chain-adds m s n = let e : n + 1 ≡ suc n = omega arith in ap (λ k. chain m s k) e
+chain-adds m s n = let same_n : n + 1 ≡ suc n = omega arith in ap (λ k. chain m s k) same_n

@@ -38,8 +38,8 @@ module _ (v : Slots) (s : ℕ) where
   some_live live = elim (cases_lt 0 (len v)) [
     | inl lt ↦ lt
     | inr none ↦
-        let e : len v ≡ 0 = omega (arith, none) in
-        let z : false ≡ true = sym (ap is_some (ap (λ w. get w s) (empty_of_len v e) ∙ get-empty nat_cmp s)) ∙ live in cc
+        let len_is : len v ≡ 0 = omega (arith, none) in
+        let z : false ≡ true = sym (ap is_some (ap (λ w. get w s) (empty_of_len v len_is) ∙ get-empty nat_cmp s)) ∙ live in cc
   ]
 
   pub len_removed : IsLive v s → len (remove v s) + 1 ≡ len v

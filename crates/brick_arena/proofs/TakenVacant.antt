@@ -41,7 +41,7 @@ module _ (cs : List (List ℕ)) (free vacant reached : ℕ) (old : IsArena cs fr
     m' = chunk_word ds
 
     first_stays : (t : ℕ) → (t ≡ free → ⊥) → m' (512 * t) ≡ m (512 * t)
-    first_stays t ne = let e : 512 * t ≡ 512 * t + 0 = omega arith in ap m' e ∙ cleared.others t 0 ne (omega arith) ∙ ap m (sym e)
+    first_stays t ne = let same_t : 512 * t ≡ 512 * t + 0 = omega arith in ap m' same_t ∙ cleared.others t 0 ne (omega arith) ∙ ap m (sym same_t)
 
     words_stay : (t : ℕ) → (t ≡ free → ⊥) → slot_words m' t ≡ slot_words m t
     words_stay t ne = row-same m m' (512 * t) 512 (λ k lt. cleared.others t k ne lt)
@@ -51,8 +51,8 @@ module _ (cs : List (List ℕ)) (free vacant reached : ℕ) (old : IsArena cs fr
 
     shorter : chain m' next (vacant - 1) ≡ ts
     shorter =
-        let e : p ≡ 512 * free = omega (arith, at) in
-        ap (λ k. chain m' k (vacant - 1)) (link ∙ ap m e) ∙ chain-same m m' (m (512 * free)) (vacant - 1) (λ t in_ts. first_stays t (apart free t ts split.0 in_ts))
+        let p_is : p ≡ 512 * free = omega (arith, at) in
+        ap (λ k. chain m' k (vacant - 1)) (link ∙ ap m p_is) ∙ chain-same m m' (m (512 * free)) (vacant - 1) (λ t in_ts. first_stays t (apart free t ts split.0 in_ts))
 
     pub view_taken : view_of ds next (vacant - 1) reached ≡ insert v free (replicate 512 0)
     view_taken =
@@ -66,8 +66,8 @@ module _ (cs : List (List ℕ)) (free vacant reached : ℕ) (old : IsArena cs fr
 
     past_stay : (q : ℕ) → 512 * reached ≤ q → m' q ≡ m q
     past_stay q past =
-        let e : q ≡ 512 * (q / 512) + q % 512 = omega arith in
-        ap m' e ∙ cleared.others (q / 512) (q % 512) (λ same. absurd (omega (arith, same, past, vacant_inside))) (omega arith) ∙ ap m (sym e)
+        let q_is : q ≡ 512 * (q / 512) + q % 512 = omega arith in
+        ap m' q_is ∙ cleared.others (q / 512) (q % 512) (λ same. absurd (omega (arith, same, past, vacant_inside))) (omega arith) ∙ ap m (sym q_is)
 
     pub arena_taken : IsArena ds next (vacant - 1) reached
     arena_taken = record {

@@ -18,7 +18,7 @@ abbrev pub IsElsewhere : ℕ → ℕ → Type 0
 IsElsewhere s q = (q < 512 * s) ⊎ (512 * s + 512 ≤ q)
 
 elsewhere : (s t k : ℕ) → (t ≡ s → ⊥) → k < 512 → IsElsewhere s (512 * t + k)
-elsewhere s t k ne l = elim (cases_lt t s) [ inl b ↦ inl (omega arith) | inr b ↦ inr (let c : s < t = elim (cases_lt s t) [ inl d ↦ d | inr d ↦ absurd (ne (omega arith)) ] in omega arith) ]
+elsewhere s t k ne l = elim (cases_lt t s) [ inl b ↦ inl (omega arith) | inr b ↦ inr (let below_t : s < t = elim (cases_lt s t) [ inl d ↦ d | inr d ↦ absurd (ne (omega arith)) ] in omega arith) ]
 
 module _ (cs ds : List (List ℕ)) (free vacant reached s : ℕ) (ws : List ℕ) (old : IsArena cs free vacant reached) (same_length : length ds ≡ length cs) (chunks : AreChunks ds)
     (here : slot_words (chunk_word ds) s ≡ ws) (others : (q : ℕ) → IsElsewhere s q → chunk_word ds q ≡ chunk_word cs q)
@@ -39,7 +39,7 @@ module _ (cs ds : List (List ℕ)) (free vacant reached s : ℕ) (ws : List ℕ)
   kept_words t ne = row-same m m' (512 * t) 512 (λ k lk. others (512 * t + k) (elsewhere s t k ne lk))
 
   first_stays : (t : ℕ) → (t ≡ s → ⊥) → m' (512 * t) ≡ m (512 * t)
-  first_stays t ne = let e : 512 * t ≡ 512 * t + 0 = omega arith in ap m' e ∙ (others (512 * t + 0) (elsewhere s t 0 ne (omega arith)) ∙ ap m (sym e))
+  first_stays t ne = let same_t : 512 * t ≡ 512 * t + 0 = omega arith in ap m' same_t ∙ (others (512 * t + 0) (elsewhere s t 0 ne (omega arith)) ∙ ap m (sym same_t))
 
   kept_links : chain m' free vacant ≡ fs
   kept_links = chain-stays m m' s free vacant first_stays live
@@ -72,7 +72,7 @@ module _ (cs ds : List (List ℕ)) (free vacant reached s i w p : ℕ) (old : Is
   others q ne = stored.others q (λ e. ne (omega (arith, e, at)))
 
   word_here : chunk_word ds (512 * s + i) ≡ w
-  word_here = let e : 512 * s + i ≡ p = omega (arith, at) in ap (chunk_word ds) e ∙ stored.here
+  word_here = let s_is : 512 * s + i ≡ p = omega (arith, at) in ap (chunk_word ds) s_is ∙ stored.here
 
   words_set : slot_words (chunk_word ds) s ≡ set (words_of (view_of cs free vacant reached) s) i w
   words_set =
@@ -136,10 +136,10 @@ unfolding with_row
 row_inserted v s i zero w live = inserted v s v (words_of v s) (the_words v s live) (λ q ne. refl)
 row_inserted v s i (suc n) w live =
     let ws = with_words (words_of v s) i n w in
-    let e : with_row v s i n w ≡ insert v s ws = row_inserted v s i n w live in
-    let f : words_of (with_row v s i n w) s ≡ ws = ap (λ u. words_of u s) e ∙ ap (λ o. unwrap_or o []) (get-insert_here v s ws s refl) in
-    ap (λ u. insert u s (set (words_of (with_row v s i n w) s) (i + n) w)) e
-    ∙ (ap (λ us. insert (insert v s ws) s (set us (i + n) w)) f
+    let with_row_is : with_row v s i n w ≡ insert v s ws = row_inserted v s i n w live in
+    let words_is : words_of (with_row v s i n w) s ≡ ws = ap (λ u. words_of u s) with_row_is ∙ ap (λ o. unwrap_or o []) (get-insert_here v s ws s refl) in
+    ap (λ u. insert u s (set (words_of (with_row v s i n w) s) (i + n) w)) with_row_is
+    ∙ (ap (λ us. insert (insert v s ws) s (set us (i + n) w)) words_is
     ∙ inserted v s (insert (insert v s ws) s (set ws (i + n) w)) (set ws (i + n) w) (get-insert_here (insert v s ws) s (set ws (i + n) w) s refl)
     (λ q ne. get-insert_other (insert v s ws) s (set ws (i + n) w) q ne ∙ get-insert_other v s ws q ne))
 
@@ -154,7 +154,7 @@ row_last v s i k w live long l =
 module _ (cs ds : List (List ℕ)) (free vacant reached s i w p : ℕ) (old : IsArena cs free vacant reached) (stored : IsRowStored cs ds p w) (at : p ≡ s * 512 + i) (li : i + 8 ≤ 512)
     (lt : s < reached) (live : is_listed s (chain (chunk_word cs) free vacant) ≡ false) where
   row_here : (k : ℕ) → k < 8 → chunk_word ds (512 * s + (i + k)) ≡ w
-  row_here k l = let e : 512 * s + (i + k) ≡ p + k = omega (arith, at) in ap (chunk_word ds) e ∙ stored.here k l
+  row_here k l = let s_is : 512 * s + (i + k) ≡ p + k = omega (arith, at) in ap (chunk_word ds) s_is ∙ stored.here k l
 
   row_others : (q : ℕ) → ((k : ℕ) → k < 8 → q ≡ 512 * s + (i + k) → ⊥) → chunk_word ds q ≡ chunk_word cs q
   row_others q ne = stored.others q (λ k l e. ne k l (omega (arith, e, at)))
@@ -165,15 +165,15 @@ module _ (cs ds : List (List ℕ)) (free vacant reached s i w p : ℕ) (old : Is
       let long : length ws ≡ 512 = length-row (chunk_word cs) (512 * s) 512 in
       let long' : length (slot_words (chunk_word ds) s) ≡ 512 = length-row (chunk_word ds) (512 * s) 512 in
       ext_get_or 0 (slot_words (chunk_word ds) s) (with_words ws i 8 w) (long' ∙ sym (length-with_words ws i 8 w ∙ long))
-      (λ k l. let b : k < 512 = omega arith in get-row (chunk_word ds) (512 * s) 512 k 0 b ∙ each k b (cases_lt k i) (cases_lt k (i + 8)))
+      (λ k l. let k_below_512 : k < 512 = omega arith in get-row (chunk_word ds) (512 * s) 512 k 0 k_below_512 ∙ each k k_below_512 (cases_lt k i) (cases_lt k (i + 8)))
     where
       each : (k : ℕ) → k < 512 → (k < i) ⊎ (i ≤ k) → (k < i + 8) ⊎ (i + 8 ≤ k)
           → chunk_word ds (512 * s + k) ≡ get_or (with_words (slot_words (chunk_word cs) s) i 8 w) k 0
       each k b (inl f) o = row_others (512 * s + k) (λ j l e. absurd (omega arith)) ∙ sym (outside (slot_words (chunk_word cs) s) i 8 w k (λ j l e. absurd (omega arith)) ∙ get-row (chunk_word cs) (512 * s) 512 k 0 b)
       each k b (inr f) (inr o) = row_others (512 * s + k) (λ j l e. absurd (omega arith)) ∙ sym (outside (slot_words (chunk_word cs) s) i 8 w k (λ j l e. absurd (omega arith)) ∙ get-row (chunk_word cs) (512 * s) 512 k 0 b)
       each k b (inr f) (inl o) =
-          let e : 512 * s + k ≡ 512 * s + (i + (k - i)) = omega arith in
-          ap (chunk_word ds) e ∙ (row_here (k - i) (omega arith) ∙ sym (inside (slot_words (chunk_word cs) s) i 8 w k f o (let long : length (slot_words (chunk_word cs) s) ≡ 512 = length-row (chunk_word cs) (512 * s) 512 in omega arith)))
+          let same_s : 512 * s + k ≡ 512 * s + (i + (k - i)) = omega arith in
+          ap (chunk_word ds) same_s ∙ (row_here (k - i) (omega arith) ∙ sym (inside (slot_words (chunk_word cs) s) i 8 w k f o (let long : length (slot_words (chunk_word cs) s) ≡ 512 = length-row (chunk_word cs) (512 * s) 512 in omega arith)))
 
   row_apart : (q : ℕ) → IsElsewhere s q → chunk_word ds q ≡ chunk_word cs q
   row_apart q (inl b) = row_others q (λ k l e. absurd (omega arith))

@@ -65,7 +65,7 @@ at_most k y z e h = subst (λ (w : ℤ). IsAtMost k w) (sym e) h
 
 -- how many coordinates of the matrix are in a small region
 inside_most : (m : Matrix) (s : Span) → size s ≤ 29791 → count_by (λ c. is_within s (point c)) (all_of m) ≤ 29791
-inside_most m s h = let l : count_by (λ c. is_within s (point c)) (all_of m) ≤ size s = region_count_most m.resolution s in omega arith
+inside_most m s h = let at_most_size : count_by (λ c. is_within s (point c)) (all_of m) ≤ size s = region_count_most m.resolution s in omega arith
 
 filled_most : (m : Matrix) (s : Span) → size s ≤ 29791 → IsAtMost 357492 (filling m s)
 filled_most m s h =

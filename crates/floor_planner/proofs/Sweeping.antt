@@ -113,7 +113,7 @@ place_above r target x z legal e wanted =
     subst (λ n. IsInSpace n (coord x 1 z)) (sym e) (record { x = i.x; y = (full_in_box target (coord x 0 z) legal wanted).y_end; z = i.z })
 
 area : (x r : ℕ) → x ≤ r → r ≤ 400 → x * r ≤ 160000
-area x r h l = let k : x ≤ 400 = omega arith in mul-le-mul k l
+area x r h l = let x_to_400 : x ≤ 400 = omega arith in mul-le-mul x_to_400 l
 
 -- no way takes the tape past its limit
 pub room_left : (t : TapeState) (target : Matrix) (x z : ℕ) (to : Coord) → IsSweptTo t target x z

@@ -22,15 +22,15 @@ cut_at_start m x y = λ t. refl
 
 -- directly after a void voxel no full one stands before
 before_void : (m : Matrix) (x y z : ℕ) → is_full_at m x y z ≡ false → full_before m x y (z + 1) ≡ 0
-before_void m x y z e = (let s : z + 1 ≡ suc z = omega arith in ap (full_before m x y) s) ∙ (before-suc m x y z ∙ ap (λ b. cond b (full_before m x y z + 1) 0) e)
+before_void m x y z e = (let same_z : z + 1 ≡ suc z = omega arith in ap (full_before m x y) same_z) ∙ (before-suc m x y z ∙ ap (λ b. cond b (full_before m x y z + 1) 0) e)
 
 -- n full voxels are n more
 before_full : (m : Matrix) (x y a n : ℕ) → ((k : ℕ) → a ≤ k → k < a + n → is_full_at m x y k ≡ true)
     → full_before m x y (a + n) ≡ full_before m x y a + n
-before_full m x y a zero h = (let s : a + 0 ≡ a = omega arith in ap (full_before m x y) s) ∙ (let t : full_before m x y a ≡ full_before m x y a + 0 = omega arith in t)
+before_full m x y a zero h = (let a_is : a + 0 ≡ a = omega arith in ap (full_before m x y) a_is) ∙ (let same_full_before : full_before m x y a ≡ full_before m x y a + 0 = omega arith in same_full_before)
 before_full m x y a (suc n) h =
     let rest = before_full m x y a n (λ k l p. h k l (omega arith)) in
-    (let s : a + suc n ≡ suc (a + n) = omega arith in ap (full_before m x y) s)
+    (let same_a : a + suc n ≡ suc (a + n) = omega arith in ap (full_before m x y) same_a)
     ∙ (before-suc m x y (a + n) ∙ (ap (λ b. cond b (full_before m x y (a + n) + 1) 0) (h (a + n) (omega arith) (omega arith)) ∙ omega (arith, rest)))
 
 not_multiple : (b : Bool) (n : ℕ) → 0 < n % 31 → (b && n % 31 == 0) ≡ false
@@ -60,10 +60,10 @@ module _ (m : Matrix) (x y : ℕ) where
     where
       by : (z < first) ⊎ (first ≤ z) → full_before m x y first % 31 ≡ 0
       by (inl h) =
-          let e : first - 1 + 1 ≡ first = omega arith in
+          let first_is : first - 1 + 1 ≡ first = omega arith in
           let none = before_void m x y (first - 1) (void (first - 1) (omega arith) (omega arith)) in
-          ap (λ k. full_before m x y k % 31) (sym e) ∙ ap (λ n. n % 31) none
-      by (inr h) = let e : z ≡ first = omega arith in subst (λ k. full_before m x y k % 31 ≡ 0) e (cut (ap (is_full_at m x y) e ∙ full))
+          ap (λ k. full_before m x y k % 31) (sym first_is) ∙ ap (λ n. n % 31) none
+      by (inr h) = let z_is : z ≡ first = omega arith in subst (λ k. full_before m x y k % 31 ≡ 0) z_is (cut (ap (is_full_at m x y) z_is ∙ full))
 
   -- void voxels begin no run
   pub no_more : (a b : ℕ) → a ≤ b → IsAll m x y a b false → runs_before m x y b ≡ runs_before m x y a
@@ -72,9 +72,9 @@ module _ (m : Matrix) (x y : ℕ) where
   -- full voxels after the first begin no run, if they are fewer than 31
   inside : (first end : ℕ) → end ≤ first + 31 → full_before m x y first % 31 ≡ 0 → IsAll m x y first end true → (k : ℕ) → first + 1 ≤ k → k < end → one_if (begins_run m x y k) ≡ 0
   inside first end most cut full k l p =
-      let e : first + (k - first) ≡ k = omega arith in
+      let first_is : first + (k - first) ≡ k = omega arith in
       let n = before_full m x y first (k - first) (λ j a b. full j a (omega arith)) in
-      let count : full_before m x y k ≡ full_before m x y first + (k - first) = sym (ap (full_before m x y) e) ∙ n in
+      let count : full_before m x y k ≡ full_before m x y first + (k - first) = sym (ap (full_before m x y) first_is) ∙ n in
       no_begin (begins_run m x y k) (not_multiple (is_full_at m x y k) (full_before m x y k) (omega (arith, count, cut)))
 
   pub run_found : (z first end : ℕ) → IsCut m x y z → z ≤ first → first < end → end ≤ first + 31 → end ≤ m.resolution
@@ -97,9 +97,9 @@ module _ (m : Matrix) (x y : ℕ) where
           → full_before m x y end % 31 ≡ 0
       by t start (inl h) = absurd (let f = sym t ∙ after h in cc)
       by t start (inr h) =
-          let e : end ≡ first + 31 = omega arith in
+          let end_is : end ≡ first + 31 = omega arith in
           let n = before_full m x y first 31 (λ j a b. full j a (omega arith)) in
-          let count : full_before m x y end ≡ full_before m x y first + 31 = ap (full_before m x y) e ∙ n in
+          let count : full_before m x y end ≡ full_before m x y first + 31 = ap (full_before m x y) end_is ∙ n in
           omega (arith, count, start)
 
   -- past the matrix nothing is full
@@ -114,16 +114,16 @@ module _ (m : Matrix) (x y : ℕ) where
     where
       longer : (first < end) ⊎ (end ≤ first) → first < end
       longer (inl h) = h
-      longer (inr h) = absurd (let s : first ≡ end = omega (arith, b.low) in let v = b.here (omega arith) in let f = a.here l ∙ refl in let g = sym (ap (is_full_at m x y) s) ∙ a.here l in let k = sym g ∙ v in cc)
+      longer (inr h) = absurd (let first_is : first ≡ end = omega (arith, b.low) in let v = b.here (omega arith) in let here = a.here l ∙ refl in let g = sym (ap (is_full_at m x y) first_is) ∙ a.here l in let k = sym g ∙ v in cc)
 
       after : end < first + 31 → (end < most) ⊎ (most ≤ end) → is_full_at m x y end ≡ false
       after h (inl k) = b.here k
-      after h (inr k) = let s : m.resolution ≡ end = omega (arith, b.high) in ap (is_full_at m x y) (sym s) ∙ past
+      after h (inr k) = let resolution_is : m.resolution ≡ end = omega (arith, b.high) in ap (is_full_at m x y) (sym resolution_is) ∙ past
 
   -- a line with a run is a row, and one without is none
   pub row_of_some : (run : RowRun) → IsNextRun m x y 0 run → is_row m x y ≡ true
   row_of_some run h =
-      let one = one_of_sum (λ z. one_if (is_full_at m x y z)) run.first m.resolution (let a = h.is_run.some in let b = h.is_run.within in omega arith) in
+      let one = one_of_sum (λ z. one_if (is_full_at m x y z)) run.first m.resolution (let a = h.is_run.some in let within = h.is_run.within in omega arith) in
       let here = ap one_if (h.is_run.full run.first (omega arith) h.is_run.some) in
       positive (count_below (is_full_at m x y) m.resolution) (omega (arith, one, here))
 

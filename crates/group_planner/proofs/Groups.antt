@@ -113,14 +113,14 @@ module _ (p : TapeState) (full : Bool) (k l : Command) (first last : ℕ) (h : I
   front_how = subst (λ (c : Command). Together c full (pos first -ℤ pos last)) (sym er) (together full (pos first -ℤ pos last))
 
   in_order : first < last
-  in_order = let o = h.in_row.order in omega arith
+  in_order = let order = h.in_row.order in omega arith
 
   pub one_group : AreOneGroup (state_of p) below_both full (acts p.bots (k ∷ l ∷ []))
   one_group =
       let t = both_bots p.bots h.two in
       let a = t.first in
-      let b = t.second in
-      let r = p.matrix.resolution in
+      let second = t.second in
+      let resolution = p.matrix.resolution in
       let x = (rear p).x in
       let y = (rear p).y in
       let ra = ap (λ (c : Coord). c.x) t.rear_is in
@@ -130,18 +130,18 @@ module _ (p : TapeState) (full : Bool) (k l : Command) (first last : ℕ) (h : I
       let fb = ap (λ (c : Coord). c.y) t.front_is in
       let fc = ap (λ (c : Coord). c.z) t.front_is in
       let o = in_order in
-      let lz : last < r = (let z = h.in_row.z in omega arith) in
+      let lz : last < resolution = (let in_row_z = h.in_row.z in omega arith) in
       let w = rear_how in
       let v = front_how in
       let sx = h.in_row.same_x in
       let sy = h.in_row.same_y in
       subst (λ (bots : List Bot). AreOneGroup (state_of p) below_both full (acts bots (k ∷ l ∷ []))) (sym t.are) (record {
         each = (
-          record { allowed = all_allowed p.profile k h.full w.allowed; joins = w.joins r below_both (point a.pos) (cornered r x y first last a.pos below_both (sym ra) (sym rb) (sym rc ∙ sym ef) above h.in_row.x h.in_row.y (omega arith) lz (same_as_it x (y - 1) first last) (outside x (y - 1) first last a.pos (omega arith))) },
-          (record { allowed = all_allowed p.profile l h.full v.allowed; joins = v.joins r below_both (point b.pos) (cornered r x y last first b.pos below_both (sym fa ∙ sx) (sym fb ∙ sy) (sym fc ∙ sym el) above h.in_row.x h.in_row.y lz (omega arith) (same_turned x (y - 1) first last) (outside x (y - 1) first last b.pos (omega arith))) }, tt),
+          record { allowed = all_allowed p.profile k h.full w.allowed; joins = w.joins resolution below_both (point a.pos) (cornered resolution x y first last a.pos below_both (sym ra) (sym rb) (sym rc ∙ sym ef) above h.in_row.x h.in_row.y (omega arith) lz (same_as_it x (y - 1) first last) (outside x (y - 1) first last a.pos (omega arith))) },
+          (record { allowed = all_allowed p.profile l h.full v.allowed; joins = v.joins resolution below_both (point second.pos) (cornered resolution x y last first second.pos below_both (sym fa ∙ sx) (sym fb ∙ sy) (sym fc ∙ sym el) above h.in_row.x h.in_row.y lz (omega arith) (same_turned x (y - 1) first last) (outside x (y - 1) first last second.pos (omega arith))) }, tt),
         );
         many = two_corners x (y - 1) first last o;
-        corners = corners_differ a b t.rear_is t.front_is;
+        corners = corners_differ a second t.rear_is t.front_is;
       })
     where
       corners_differ : (a b : Bot) → rear p ≡ a.pos → front p ≡ b.pos
@@ -162,9 +162,9 @@ module _ (p : TapeState) (full : Bool) (k l : Command) (first last : ℕ) (h : I
       → Sets p q (rear p).x ((rear p).y - 1) (rear p).z ((front p).z + 1) full (rear p) (front p) 1 1
   wrote_both q s =
       let r = p.matrix.resolution in
-      let y = h.in_row.y in
+      let in_row_y = h.in_row.y in
       let o = in_order in
-      let lz : last < r = (let z = h.in_row.z in omega arith) in
+      let lz : last < r = (let in_row_z = h.in_row.z in omega arith) in
       let rear_is : rear q ≡ rear p = ap spot s.bots_are in
       let front_is : front q ≡ front p = ap second_spot s.bots_are in
       let same : q.matrix.resolution ≡ r = ap (λ (m : Matrix). m.resolution) s.matrix in

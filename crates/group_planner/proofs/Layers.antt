@@ -37,7 +37,7 @@ model_sum m = sum_of_both (rows_of_layer m) (runs_of_layer m) m.resolution
 -- ---- layers
 
 pub no_lines : (m : Matrix) (y : ℕ) (c : Coord) → (in_layer 0 y c && is_full m c) ≡ false
-no_lines m y c = let e : nat_lt c.x 0 ≡ false = grind (arith, nat_tests) in by (nat_lt c.x 0) (c.y == y) (is_full m c) e
+no_lines m y c = let not_nat_lt : nat_lt c.x 0 ≡ false = grind (arith, nat_tests) in by (nat_lt c.x 0) (c.y == y) (is_full m c) not_nat_lt
   where
     by : (s t u : Bool) → s ≡ false → ((s && t) && u) ≡ false
     by s t u e = rw e refl
@@ -93,7 +93,7 @@ cleared a b m y n h g = λ c l. g.stamped c ∙ (ap (λ t. cond (t && is_full m 
 -- the next layer can be voided
 pub clear_on : (a b : TapeState) (m : Matrix) (y z n : ℕ) → CanVoidModel a m → Stamps a b m false (from_layer y) n
     → z + 1 ≡ y → y < a.matrix.resolution → CanStamp b m z
-clear_on a b m y z n h g e l = record { pair = g.pair; same = h.same ∙ sym g.resolution; within = let r = g.resolution in omega arith; above = subst (IsVoidFrom b.matrix) (sym e) (cleared a b m y n h g) }
+clear_on a b m y z n h g e l = record { pair = g.pair; same = h.same ∙ sym g.resolution; within = let resolution = g.resolution in omega arith; above = subst (IsVoidFrom b.matrix) (sym e) (cleared a b m y n h g) }
 
 -- ---- from below up
 

@@ -57,11 +57,11 @@ pub can_move : (p : TapeState) (k l : Command) → IsPair p → IsTrue (is_allow
     (between (point (front p)) (goal_of (point (front p)) l)) → CanMoveAll p (k ∷ l ∷ [])
 can_move p k l h ak al gk gl apart =
     let t = both_bots p.bots h.two in
-    let a = t.first in
+    let first = t.first in
     let b = t.second in
-    let rg : MayGo p.matrix (point a.pos) k = subst (λ (c : Coord). MayGo p.matrix (point c) k) t.rear_is gk in
+    let rg : MayGo p.matrix (point first.pos) k = subst (λ (c : Coord). MayGo p.matrix (point c) k) t.rear_is gk in
     let fg : MayGo p.matrix (point b.pos) l = subst (λ (c : Coord). MayGo p.matrix (point c) l) t.front_is gl in
-    let lies : LieApart (between (point a.pos) (goal_of (point a.pos) k)) (between (point b.pos) (goal_of (point b.pos) l)) = subst (λ (c : Coord). LieApart (between (point c) (goal_of (point c) k)) (between (point b.pos) (goal_of (point b.pos) l))) t.rear_is (subst (λ (c : Coord). LieApart (between (point (rear p)) (goal_of (point (rear p)) k)) (between (point c) (goal_of (point c) l))) t.front_is apart) in
+    let lies : LieApart (between (point first.pos) (goal_of (point first.pos) k)) (between (point b.pos) (goal_of (point b.pos) l)) = subst (λ (c : Coord). LieApart (between (point c) (goal_of (point c) k)) (between (point b.pos) (goal_of (point b.pos) l))) t.rear_is (subst (λ (c : Coord). LieApart (between (point (rear p)) (goal_of (point (rear p)) k)) (between (point c) (goal_of (point c) l))) t.front_is apart) in
     record {
       each = subst (λ (bots : List Bot). AllByRecursion (CanGo p) (acts bots (k ∷ l ∷ []))) (sym t.are) (record { allowed = all_allowed p.profile k h.full ak; may = rg }, (record { allowed = all_allowed p.profile l h.full al; may = fg }, tt));
       apart = subst (λ (bots : List Bot). AreWaysApart (acts bots (k ∷ l ∷ []))) (sym t.are) ((lies, tt), (tt, tt));
@@ -182,15 +182,15 @@ module _ (p : TapeState) (axis : Axis) (at next : ℕ) (d e : Diff) (h : IsPair 
 
   pub both_ways : CanMoveAll p (SMove d ∷ SMove e ∷ [])
   both_ways =
-      let r = p.matrix.resolution in
+      let resolution = p.matrix.resolution in
       let a = put axis (rear p) next in
       let b = put axis (front p) next in
       can_move p (SMove d) (SMove e) h refl refl
-      (free_way p.matrix (rear p) a _ rear_led (rear_within r a b there_in_row) h.free free)
-      (free_way p.matrix (front p) b _ front_led (front_within r a b there_in_row) (front_free p h) (subst (IsVoidFrom p.matrix) (sym there_in_row.same_y) free))
+      (free_way p.matrix (rear p) a _ rear_led (rear_within resolution a b there_in_row) h.free free)
+      (free_way p.matrix (front p) b _ front_led (front_within resolution a b there_in_row) (front_free p h) (subst (IsVoidFrom p.matrix) (sym there_in_row.same_y) free))
       (subst (λ (q : Point). LieApart (between (point (rear p)) q) (between (point (front p)) (plus (point (front p)) e))) (sym rear_led)
       (subst (λ (q : Point). LieApart (between (point (rear p)) (point a)) (between (point (front p)) q)) (sym front_led)
-      (both_apart r axis (rear p) (front p) next flat h.in_row)))
+      (both_apart resolution axis (rear p) (front p) next flat h.in_row)))
 
   pub both_moved : (q : TapeState)
       → AllStep p q (SMove d ∷ SMove e ∷ []) p.matrix p.harmonics (bots_gone p.bots (SMove d ∷ SMove e ∷ []))
@@ -255,12 +255,12 @@ module _ (p : TapeState) (behind rear_next ahead front_next : ℕ) (d e : Diff) 
 
   pub slide_ways : CanMoveAll p (SMove d ∷ SMove e ∷ [])
   slide_ways =
-      let r = p.matrix.resolution in
+      let resolution = p.matrix.resolution in
       let a = put Z (rear p) rear_next in
       let b = put Z (front p) front_next in
       can_move p (SMove d) (SMove e) h refl refl
-      (free_way p.matrix (rear p) a _ slid_rear (rear_within r a b slid_in_row) h.free h.free)
-      (free_way p.matrix (front p) b _ slid_front (front_within r a b slid_in_row) (front_free p h) (front_free p h))
+      (free_way p.matrix (rear p) a _ slid_rear (rear_within resolution a b slid_in_row) h.free h.free)
+      (free_way p.matrix (front p) b _ slid_front (front_within resolution a b slid_in_row) (front_free p h) (front_free p h))
       (subst (λ (q : Point). LieApart (between (point (rear p)) q) (between (point (front p)) (plus (point (front p)) e))) (sym slid_rear)
       (subst (λ (q : Point). LieApart (between (point (rear p)) (point a)) (between (point (front p)) q)) (sym slid_front)
       (apart_z (rear p) a (front p) b h.in_row.order (omega (arith, rear_here, past)) (omega (arith, front_here, clear)) order)))

@@ -96,12 +96,12 @@ pub home_steps : (t b : TapeState) (s g : Matrix) → PairHasRebuilt t s g → s
 home_steps t b s g k l e j =
     let er : t.matrix.resolution ≡ g.resolution = ap (λ (m : Matrix). m.resolution) k.matrix in
     let row = k.pair.in_row in
-    let x = row.x in
-    let y = row.y in
-    let z = row.z in
-    let o = row.order in
-    let gathered = gather_moves (rear t).x (rear t).z (front t).z t.matrix.resolution x (omega (arith, o, z)) z (omega (arith, er, e, l)) in
-    let down = down_moves (rear t).y t.matrix.resolution y (omega (arith, er, e, l)) in
+    let row_x = row.x in
+    let row_y = row.y in
+    let row_z = row.z in
+    let order = row.order in
+    let gathered = gather_moves (rear t).x (rear t).z (front t).z t.matrix.resolution row_x (omega (arith, order, row_z)) row_z (omega (arith, er, e, l)) in
+    let down = down_moves (rear t).y t.matrix.resolution row_y (omega (arith, er, e, l)) in
     let way = ap (λ (c : Coord). moves_to c (coord 0 0 0)) j.there in
     let steps = j.steps_are in
     omega (arith, gathered, down, way, steps)

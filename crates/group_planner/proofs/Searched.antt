@@ -39,7 +39,7 @@ first_by test (suc n) c last d e f = by (test c) refl (λ later. first_by test n
         at_or_after : (z : ℕ) → c.z ≤ z → z < d.z → test c ≡ false → IsFirst test (at c (c.z + 1)) last d
             → (c.z < z) ⊎ (z ≤ c.z) → test (at c z) ≡ false
         at_or_after z l m t h (inl a) = h.before z (omega arith) m
-        at_or_after z l m t h (inr a) = let e : c.z ≡ z = omega arith in sym (ap (λ k. test (at c k)) e) ∙ t
+        at_or_after z l m t h (inr a) = let same_z : c.z ≡ z = omega arith in sym (ap (λ k. test (at c k)) same_z) ∙ t
 
 none_by : (test : Coord → Bool) (n : ℕ) (c : Coord) (last : ℕ) → n ≡ last + 1 - c.z → find test (row c last) ≡ None
     → (z : ℕ) → c.z ≤ z → z ≤ last → test (at c z) ≡ false
@@ -50,7 +50,7 @@ none_by test (suc n) c last e f z l m = by (test c) refl (λ later a. none_by te
         → (c.z < z) ⊎ (z ≤ c.z) → test (at c z) ≡ false
     by true t rest k = absurd (let more = row-more c last (omega arith) in let here : Some c ≡ None = sym (ap (find test) more ∙ ap (λ b. cond b (Some c) (find test (row (at c (c.z + 1)) last))) t) ∙ f in cc)
     by false t rest (inl a) = let more = row-more c last (omega arith) in rest (sym (ap (find test) more ∙ ap (λ b. cond b (Some c) (find test (row (at c (c.z + 1)) last))) t) ∙ f) (omega arith)
-    by false t rest (inr a) = let e : c.z ≡ z = omega arith in sym (ap (λ k. test (at c k)) e) ∙ t
+    by false t rest (inr a) = let same_z : c.z ≡ z = omega arith in sym (ap (λ k. test (at c k)) same_z) ∙ t
 
 state_true : (m : Matrix) (full : Bool) (c : Coord) → is_state m full c ≡ true → is_full m c ≡ full
 state_true m true c e = e

@@ -92,16 +92,16 @@ module _ (p : TapeState) (k : Command) (full : Bool) (e : k ≡ one_below full) 
   pub rear_calm : AreCalm p (k ∷ Wait ∷ [])
   rear_calm =
       let t = both_bots p.bots h.two in
-      let a = t.first in
-      let b = t.second in
+      let first = t.first in
+      let second = t.second in
       let w = how in
-      let l = order a.pos b.pos t.rear_is t.front_is in
-      let i : IsInSpace p.matrix.resolution a.pos = subst (IsInSpace p.matrix.resolution) t.rear_is (rear_within p.matrix.resolution (rear p) (front p) h.in_row) in
-      let u : 1 ≤ a.pos.y = subst (λ (c : Coord). 1 ≤ c.y) t.rear_is above in
+      let l = order first.pos second.pos t.rear_is t.front_is in
+      let i : IsInSpace p.matrix.resolution first.pos = subst (IsInSpace p.matrix.resolution) t.rear_is (rear_within p.matrix.resolution (rear p) (front p) h.in_row) in
+      let some_y : 1 ≤ first.pos.y = subst (λ (c : Coord). 1 ≤ c.y) t.rear_is above in
       record {
         free = subst (λ (bots : List Bot). AreFree (state_of p) (acts bots (k ∷ Wait ∷ []))) (sym t.are) (record {
-          each = (record { allowed = all_allowed p.profile k h.full w.allowed; may = w.may (state_of p) (acts (a ∷ b ∷ []) (k ∷ Wait ∷ [])) (record { bot = a; command = k }) (below_within p.matrix.resolution a.pos i u) }, (record { allowed = all_allowed p.profile Wait h.full refl; may = tt }, tt));
-          untangled = ((inr (writes_apart k full a.pos b.pos w u l), tt), (tt, tt));
+          each = (record { allowed = all_allowed p.profile k h.full w.allowed; may = w.may (state_of p) (acts (first ∷ second ∷ []) (k ∷ Wait ∷ [])) (record { bot = first; command = k }) (below_within p.matrix.resolution first.pos i some_y) }, (record { allowed = all_allowed p.profile Wait h.full refl; may = tt }, tt));
+          untangled = ((inr (writes_apart k full first.pos second.pos w some_y l), tt), (tt, tt));
         });
         calm = subst (λ (bots : List Bot). AllByRecursion (λ x. IsFalse (is_flip x.command)) (acts bots (k ∷ Wait ∷ []))) (sym t.are) (w.calm, (refl, tt));
       }
@@ -109,16 +109,16 @@ module _ (p : TapeState) (k : Command) (full : Bool) (e : k ≡ one_below full) 
   pub front_calm : AreCalm p (Wait ∷ k ∷ [])
   front_calm =
       let t = both_bots p.bots h.two in
-      let a = t.first in
-      let b = t.second in
+      let first = t.first in
+      let second = t.second in
       let w = how in
-      let l = order a.pos b.pos t.rear_is t.front_is in
-      let i : IsInSpace p.matrix.resolution b.pos = subst (IsInSpace p.matrix.resolution) t.front_is (front_within p.matrix.resolution (rear p) (front p) h.in_row) in
-      let u : 1 ≤ b.pos.y = subst (λ (c : Coord). 1 ≤ c.y) t.front_is above_too in
+      let l = order first.pos second.pos t.rear_is t.front_is in
+      let i : IsInSpace p.matrix.resolution second.pos = subst (IsInSpace p.matrix.resolution) t.front_is (front_within p.matrix.resolution (rear p) (front p) h.in_row) in
+      let some_y : 1 ≤ second.pos.y = subst (λ (c : Coord). 1 ≤ c.y) t.front_is above_too in
       record {
         free = subst (λ (bots : List Bot). AreFree (state_of p) (acts bots (Wait ∷ k ∷ []))) (sym t.are) (record {
-          each = (record { allowed = all_allowed p.profile Wait h.full refl; may = tt }, (record { allowed = all_allowed p.profile k h.full w.allowed; may = w.may (state_of p) (acts (a ∷ b ∷ []) (Wait ∷ k ∷ [])) (record { bot = b; command = k }) (below_within p.matrix.resolution b.pos i u) }, tt));
-          untangled = ((inr (waits_apart k full a.pos b.pos w u l), tt), (tt, tt));
+          each = (record { allowed = all_allowed p.profile Wait h.full refl; may = tt }, (record { allowed = all_allowed p.profile k h.full w.allowed; may = w.may (state_of p) (acts (first ∷ second ∷ []) (Wait ∷ k ∷ [])) (record { bot = second; command = k }) (below_within p.matrix.resolution second.pos i some_y) }, tt));
+          untangled = ((inr (waits_apart k full first.pos second.pos w some_y l), tt), (tt, tt));
         });
         calm = subst (λ (bots : List Bot). AllByRecursion (λ x. IsFalse (is_flip x.command)) (acts bots (Wait ∷ k ∷ []))) (sym t.are) (refl, (w.calm, tt));
       }
@@ -136,9 +136,9 @@ module _ (p : TapeState) (k : Command) (full : Bool) (e : k ≡ one_below full) 
       → is_full n d ≡ cond (is_within (just (plus (point c) down)) (point d)) full (is_full p.matrix d))
       → AreSet n p.matrix (in_part (rear p).x ((rear p).y - 1) c.z (c.z + 1)) full
   set_below n c ex ey i er f =
-      let u : 1 ≤ c.y = subst (λ y. 1 ≤ y) (sym ey) above in
+      let some_y : 1 ≤ c.y = subst (λ y. 1 ≤ y) (sym ey) above in
       let y = i.y in
-      let here : AreSet n p.matrix (in_part c.x (c.y - 1) c.z (c.z + 1)) full = set_by n p.matrix c.x (c.y - 1) c.z c.z full er i.x (omega arith) i.z (omega arith) (λ d j. f d j ∙ ap (λ (q : Point). cond (is_within (just q) (point d)) full (is_full p.matrix d)) (below c u)) in
+      let here : AreSet n p.matrix (in_part c.x (c.y - 1) c.z (c.z + 1)) full = set_by n p.matrix c.x (c.y - 1) c.z c.z full er i.x (omega arith) i.z (omega arith) (λ d j. f d j ∙ ap (λ (q : Point). cond (is_within (just q) (point d)) full (is_full p.matrix d)) (below c some_y)) in
       subst (λ x. AreSet n p.matrix (in_part x ((rear p).y - 1) c.z (c.z + 1)) full) ex (subst (λ v. AreSet n p.matrix (in_part c.x (v - 1) c.z (c.z + 1)) full) ey here)
 
   -- the pair after either step

@@ -43,13 +43,13 @@ run_more m x y z run h c = by (c.x == x) (c.y == y) refl refl
         zs : (z' < z) ⊎ (z ≤ z') → (z' < run.first) ⊎ (run.first ≤ z') → (z' < run.end) ⊎ (run.end ≤ z')
             → (nat_le 0 z' && nat_lt z' run.end && is_full_at m x y z')
             ≡ ((nat_le run.first z' && nat_lt z' run.end) || (nat_le 0 z' && nat_lt z' z && is_full_at m x y z'))
-        zs (inl a) b d = let l = h.low in let s = h.is_run.some in let e1 : nat_lt z' run.end ≡ true = grind (arith, nat_tests) in let e2 : nat_le run.first z' ≡ false = grind (arith, nat_tests) in let e3 : nat_lt z' z ≡ true = grind (arith, nat_tests) in rw (e1, e2, e3) refl
-        zs (inr a) (inl b) d = let s = h.is_run.some in let v = h.void z' a b in let e1 : nat_lt z' run.end ≡ true = grind (arith, nat_tests) in let e2 : nat_le run.first z' ≡ false = grind (arith, nat_tests) in let e3 : nat_lt z' z ≡ false = grind (arith, nat_tests) in rw (v, e1, e2, e3) (ends (nat_le 0 z'))
+        zs (inl a) b d = let low = h.low in let s = h.is_run.some in let e1 : nat_lt z' run.end ≡ true = grind (arith, nat_tests) in let e2 : nat_le run.first z' ≡ false = grind (arith, nat_tests) in let e3 : nat_lt z' z ≡ true = grind (arith, nat_tests) in rw (e1, e2, e3) refl
+        zs (inr a) (inl b) d = let s = h.is_run.some in let void = h.void z' a b in let e1 : nat_lt z' run.end ≡ true = grind (arith, nat_tests) in let e2 : nat_le run.first z' ≡ false = grind (arith, nat_tests) in let e3 : nat_lt z' z ≡ false = grind (arith, nat_tests) in rw (void, e1, e2, e3) (ends (nat_le 0 z'))
           where
             ends : (s : Bool) → (s && true && false) ≡ (s && false && false)
             ends true = refl
             ends false = refl
-        zs (inr a) (inr b) (inl d) = let v = h.is_run.full z' b d in let e0 : nat_le 0 z' ≡ true = grind (arith, nat_tests) in let e1 : nat_lt z' run.end ≡ true = grind (arith, nat_tests) in let e2 : nat_le run.first z' ≡ true = grind (arith, nat_tests) in rw (v, e0, e1, e2) refl
+        zs (inr a) (inr b) (inl d) = let full = h.is_run.full z' b d in let e0 : nat_le 0 z' ≡ true = grind (arith, nat_tests) in let e1 : nat_lt z' run.end ≡ true = grind (arith, nat_tests) in let e2 : nat_le run.first z' ≡ true = grind (arith, nat_tests) in rw (full, e0, e1, e2) refl
         zs (inr a) (inr b) (inr d) = let e1 : nat_lt z' run.end ≡ false = grind (arith, nat_tests) in let e3 : nat_lt z' z ≡ false = grind (arith, nat_tests) in rw (e1, e3) (none (nat_le 0 z') (nat_le run.first z') (is_full_at m x y z'))
           where
             none : (s t f : Bool) → (s && false && f) ≡ ((t && false) || (s && false && f))
@@ -85,14 +85,14 @@ run_before m x y z run h c = by (c.x == x) (c.y == y) refl refl
     Along v = (nat_le z v && nat_lt v m.resolution && is_full_at m x y v) ≡ ((nat_le run.first v && nat_lt v run.end) || (nat_le run.end v && nat_lt v m.resolution && is_full_at m x y v))
 
     along : (v : ℕ) → (v < z) ⊎ (z ≤ v) → (v < run.first) ⊎ (run.first ≤ v) → (v < run.end) ⊎ (run.end ≤ v) → Along v
-    along v (inl a) b d = let l = h.low in let s = h.is_run.some in let e1 : nat_le z v ≡ false = grind (arith, nat_tests) in let e2 : nat_le run.first v ≡ false = grind (arith, nat_tests) in let e3 : nat_le run.end v ≡ false = grind (arith, nat_tests) in rw (e1, e2, e3) refl
-    along v (inr a) (inl b) d = let s = h.is_run.some in let w = h.void v a b in let e2 : nat_le run.first v ≡ false = grind (arith, nat_tests) in let e3 : nat_le run.end v ≡ false = grind (arith, nat_tests) in rw (w, e2, e3) (off (nat_le z v) (nat_lt v m.resolution))
+    along v (inl a) b d = let low = h.low in let s = h.is_run.some in let e1 : nat_le z v ≡ false = grind (arith, nat_tests) in let e2 : nat_le run.first v ≡ false = grind (arith, nat_tests) in let e3 : nat_le run.end v ≡ false = grind (arith, nat_tests) in rw (e1, e2, e3) refl
+    along v (inr a) (inl b) d = let s = h.is_run.some in let void = h.void v a b in let e2 : nat_le run.first v ≡ false = grind (arith, nat_tests) in let e3 : nat_le run.end v ≡ false = grind (arith, nat_tests) in rw (void, e2, e3) (off (nat_le z v) (nat_lt v m.resolution))
       where
         off : (s t : Bool) → (s && t && false) ≡ false
         off true true = refl
         off true false = refl
         off false t = refl
-    along v (inr a) (inr b) (inl d) = let r = h.is_run.within in let w = h.is_run.full v b d in let e1 : nat_le z v ≡ true = grind (arith, nat_tests) in let e2 : nat_le run.first v ≡ true = grind (arith, nat_tests) in let e3 : nat_lt v run.end ≡ true = grind (arith, nat_tests) in let e4 : nat_lt v m.resolution ≡ true = grind (arith, nat_tests) in rw (w, e1, e2, e3, e4) refl
+    along v (inr a) (inr b) (inl d) = let within = h.is_run.within in let full = h.is_run.full v b d in let e1 : nat_le z v ≡ true = grind (arith, nat_tests) in let e2 : nat_le run.first v ≡ true = grind (arith, nat_tests) in let e3 : nat_lt v run.end ≡ true = grind (arith, nat_tests) in let e4 : nat_lt v m.resolution ≡ true = grind (arith, nat_tests) in rw (full, e1, e2, e3, e4) refl
     along v (inr a) (inr b) (inr d) = let e1 : nat_le z v ≡ true = grind (arith, nat_tests) in let e2 : nat_lt v run.end ≡ false = grind (arith, nat_tests) in let e3 : nat_le run.end v ≡ true = grind (arith, nat_tests) in rw (e1, e2, e3) (rest (nat_le run.first v) (nat_lt v m.resolution && is_full_at m x y v))
       where
         rest : (s t : Bool) → t ≡ ((s && false) || t)
@@ -269,4 +269,4 @@ still_void a b m full done n height g e v = λ c l. g.stamped c ∙ (ap (λ t. c
 -- the layer can be written on
 pub stamp_on : (a b : TapeState) (m : Matrix) (full : Bool) (done : Coord → Bool) (n y : ℕ) → CanStamp a m y
     → Stamps a b m full done n → ((c : Coord) → y + 1 ≤ c.y → done c ≡ false) → CanStamp b m y
-stamp_on a b m full done n y h g e = record { pair = g.pair; same = h.same ∙ sym g.resolution; within = let w = h.within in let r = g.resolution in omega arith; above = still_void a b m full done n (y + 1) g e h.above }
+stamp_on a b m full done n y h g e = record { pair = g.pair; same = h.same ∙ sym g.resolution; within = let within = h.within in let resolution = g.resolution in omega arith; above = still_void a b m full done n (y + 1) g e h.above }

@@ -10,8 +10,8 @@ use Rattle.group_planner.specs.Stamping.{WritesRun, most_work, work_at, work_to}
 -- costs, one part after another
 pub spends_on : (a b c : TapeState) (n k most : ℕ) → Spends a b n → Spends b c k → n + k ≤ most → Spends a c most
 spends_on a b c n k most g h l = record {
-  commands_are = let x = g.commands_are in let y = h.commands_are in omega arith;
-  bytes_are = let x = g.bytes_are in let y = h.bytes_are in omega arith;
+  commands_are = let x = g.commands_are in let commands_are = h.commands_are in omega arith;
+  bytes_are = let x = g.bytes_are in let bytes_are = h.bytes_are in omega arith;
 }
 
 -- the bots have gone somewhere in their row and written there

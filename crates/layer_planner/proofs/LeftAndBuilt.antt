@@ -12,7 +12,7 @@ use Rattle.plan_tape.proofs.LegalModels.{void_at_top}
 -- below the layer down to which the source was voided all is as it was
 pub left_alone : (source b nothing : Matrix) (low : ℕ) → IsPartlyBuilt b source nothing (from_layer low) → (c : Coord)
     → c.y < low → is_full b c ≡ is_full source c
-left_alone source b nothing low p c l = let f : from_layer low c ≡ false = grind (arith, nat_tests) in p c ∙ ap (λ t. cond t (is_full nothing c) (is_full source c)) f
+left_alone source b nothing low p c l = let not_from_layer : from_layer low c ≡ false = grind (arith, nat_tests) in p c ∙ ap (λ t. cond t (is_full nothing c) (is_full source c)) not_from_layer
 
 -- and from it on all is void
 pub void_from : (source b nothing : Matrix) (low : ℕ) → IsVoidFrom nothing 0

@@ -150,8 +150,8 @@ paints_more a b c goal first last all p q s k n most h g e l = record {
   resolution = g.resolution ∙ h.resolution;
   painted = painted_more c.matrix b.matrix a.matrix goal first last all h.painted g.painted e;
   ready = g.ready;
-  bytes_are = let x = h.bytes_are in let y = g.bytes_are in omega arith;
-  steps_are = let x = h.steps_are in let y = g.steps_are in omega arith;
+  bytes_are = let x = h.bytes_are in let bytes_are = g.bytes_are in omega arith;
+  steps_are = let x = h.steps_are in let steps_are = g.steps_are in omega arith;
 }
 
 -- the way to another coordinate
@@ -162,14 +162,14 @@ paints_to a b goal done p q s k n most h l m = record {
   resolution = h.resolution;
   painted = h.painted;
   ready = h.ready;
-  bytes_are = let x = h.bytes_are in let w = moves_on (spot b.bots) q s in omega arith;
-  steps_are = let x = h.steps_are in let w = moves_on (spot b.bots) q s in omega arith;
+  bytes_are = let bytes_are = h.bytes_are in let w = moves_on (spot b.bots) q s in omega arith;
+  steps_are = let steps_are = h.steps_are in let w = moves_on (spot b.bots) q s in omega arith;
 }
 
 -- a greater bound holds too
 pub paints_few : (a b : TapeState) (goal : Matrix) (done : Coord → Bool) (p q : Coord) (k most : ℕ)
     → Paints a b goal done p q k → k ≤ most → Paints a b goal done p q most
-paints_few a b goal done p q k most h l = record { source = h.source; resolution = h.resolution; painted = h.painted; ready = h.ready; bytes_are = let x = h.bytes_are in omega arith; steps_are = let x = h.steps_are in omega arith }
+paints_few a b goal done p q k most h l = record { source = h.source; resolution = h.resolution; painted = h.painted; ready = h.ready; bytes_are = let bytes_are = h.bytes_are in omega arith; steps_are = let steps_are = h.steps_are in omega arith }
 
 -- where the voxels that are told by another test are the same
 pub paints_as : (a b : TapeState) (goal : Matrix) (done all : Coord → Bool) (p q : Coord) (k : ℕ)
@@ -181,6 +181,6 @@ pub paints_on : (a b : TapeState) (goal : Matrix) (y : ℕ) (done : Coord → Bo
     → CanPaint a goal y → Paints a b goal done p q k → ((c : Coord) → y + 1 ≤ c.y → done c ≡ false) → CanPaint b goal y
 paints_on a b goal y done p q k c h n = record {
   sweep = h.ready;
-  within = let w = c.within in let r = h.resolution in omega arith;
+  within = let within = c.within in let resolution = h.resolution in omega arith;
   above = λ d l. h.painted d ∙ (ap (λ t. cond t (is_full goal d) (is_full a.matrix d)) (n d l) ∙ c.above d l);
 }

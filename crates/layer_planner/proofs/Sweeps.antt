@@ -58,14 +58,14 @@ wrote a b c goal k v cost x y z ready hx hz m w s n e =
         placed = rw (stays, er) (record { x = hx; y = high; z = hz });
         here = λ q l. painted q ∙ (ap (λ t. cond t (is_full goal q) (is_full a.matrix q)) (not_there y q (coord x y z) (let f = ap (λ (d : Coord). d.y) stays in omega arith) refl) ∙ ready.above q (let f = ap (λ (d : Coord). d.y) stays in omega arith));
       };
-      bytes_are = let p = w.bytes_are in let q = m.bytes_are in omega arith;
-      steps_are = let p = w.steps in let q = m.steps in omega arith;
+      bytes_are = let p = w.bytes_are in let bytes_are = m.bytes_are in omega arith;
+      steps_are = let p = w.steps in let steps = m.steps in omega arith;
     }
 
 -- ---- layers
 
 pub fewer_layers : (r y n : ℕ) → (r - 1 - y) * n ≤ (r - 1) * n
-fewer_layers r y n = mul-le-mul (let l : r - 1 - y ≤ r - 1 = omega arith in l) (let s : n ≤ n = omega arith in s)
+fewer_layers r y n = mul-le-mul (let at_most_r : r - 1 - y ≤ r - 1 = omega arith in at_most_r) (let at_most_n : n ≤ n = omega arith in at_most_n)
 
 -- both sweeps together
 pub spent : (built cleared shifted start ra rb rs rt : ℕ) → built ≤ shifted + (rb - 1) * layer_bytes rb

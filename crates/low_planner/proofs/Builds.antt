@@ -35,13 +35,13 @@ use Rattle.plan_tape.proofs.LegalModels.{empty_is_void, full_within}
 
 pub length_all : {X : Type 0} (f : ℕ → X) (n a : ℕ) → length (map f (numbers_from a n)) ≡ n
 length_all f zero a = refl
-length_all f (suc n) a = let e : length (map f (numbers_from (a + 1) n)) ≡ n = length_all f n (a + 1) in ap suc e
+length_all f (suc n) a = let length_is : length (map f (numbers_from (a + 1) n)) ≡ n = length_all f n (a + 1) in ap suc length_is
 
 pub full_most : (m : Matrix) → full_count m ≤ m.resolution * m.resolution * m.resolution
 full_most m =
-    let r = m.resolution in
-    let most : count_by (is_full m) (coordinates r) ≤ length (coordinates r) = count_by-le-length (is_full m) (coordinates r) in
-    let size : length (coordinates r) ≡ r * r * r = length_all (coordinate_at r) (r * r * r) 0 in
+    let resolution = m.resolution in
+    let most : count_by (is_full m) (coordinates resolution) ≤ length (coordinates resolution) = count_by-le-length (is_full m) (coordinates resolution) in
+    let size : length (coordinates resolution) ≡ resolution * resolution * resolution = length_all (coordinate_at resolution) (resolution * resolution * resolution) 0 in
     omega arith
 
 -- ---- the trail
@@ -81,7 +81,7 @@ module _ (m : Matrix) (s : Sweep) (p : TapeState) (h : IsSweep m s) (b : IsBuilt
     where
       by : (x : Bool) → is_full p.matrix d ≡ x → x ≡ false
       by false e = refl
-      by true e = let a = h.ahead d (built_is_visited d e) in absurd (omega arith)
+      by true e = let ahead = h.ahead d (built_is_visited d e) in absurd (omega arith)
 
   on_trail_is : (most : List Coord) (last : Coord) → s.trail.items ≡ most ++ last ∷ []
       → IsVisited m s.remaining last × (last.y ≡ s.at.y)
@@ -207,7 +207,7 @@ module _ (m : Matrix) (s t : Sweep) (p : TapeState) (h : IsSweep m s) (g : IsSwe
         where
           only_one : (xs most : List Coord) (last : Coord) → xs ≡ most ++ last ∷ [] → IsTrail s.at xs → length xs ≤ 1
               → last ≡ s.at
-          only_one xs [] last e k l = let i : IsTrail s.at (last ∷ []) = subst (IsTrail s.at) e k in i.0
+          only_one xs [] last e k l = let trail : IsTrail s.at (last ∷ []) = subst (IsTrail s.at) e k in trail.0
           only_one xs (x ∷ most) last e k l = let n = ap length e ∙ length-append (x ∷ most) (last ∷ []) in absurd (omega arith)
 
   pub built_first : (q : TapeState)
@@ -332,6 +332,6 @@ steps_home m p most h =
     let full = full_most m in
     let size = most_cube m.resolution most in
     let few = h.few in
-    let x = h.placed.x in
+    let placed_x = h.placed.x in
     let moves = moves_most m.resolution (spot p.bots) origin most h.placed (record { x = omega arith; y = omega arith; z = omega arith }) in
     omega arith

@@ -27,7 +27,7 @@ same_count p q f zero a h = refl
 same_count p q f (suc n) a h =
     let b = counted p (f a) (map f (numbers_from (a + 1) n)) in
     let c = counted q (f a) (map f (numbers_from (a + 1) n)) in
-    let d : tally (p (f a)) ≡ tally (q (f a)) = ap tally (h a (omega arith) (omega arith)) in
+    let same_tally : tally (p (f a)) ≡ tally (q (f a)) = ap tally (h a (omega arith) (omega arith)) in
     let e : count_by p (map f (numbers_from (a + 1) n)) ≡ count_by q (map f (numbers_from (a + 1) n)) = same_count p q f n (a + 1) (λ j k l. h j (omega arith) (omega arith)) in
     omega arith
 
@@ -42,11 +42,11 @@ change_at p q f (suc n) a k l m h =
     elim (cases_eq a k) [
       | inl e ↦
           let s : tally (p (f a)) ≡ tally (p (f k)) = ap (λ (i : ℕ). tally (p (f i))) e in
-          let t : tally (q (f a)) ≡ tally (q (f k)) = ap (λ (i : ℕ). tally (q (f i))) e in
+          let same_tally : tally (q (f a)) ≡ tally (q (f k)) = ap (λ (i : ℕ). tally (q (f i))) e in
           let d : count_by p (map f (numbers_from (a + 1) n)) ≡ count_by q (map f (numbers_from (a + 1) n)) = same_count p q f n (a + 1) (λ j i o. h j (λ u. omega arith)) in
           omega arith
       | inr ne ↦
-          let d : tally (p (f a)) ≡ tally (q (f a)) = ap tally (h a ne) in
+          let same_tally : tally (p (f a)) ≡ tally (q (f a)) = ap tally (h a ne) in
           let more : count_by q (map f (numbers_from (a + 1) n)) + tally (p (f k)) ≡ count_by p (map f (numbers_from (a + 1) n)) + tally (q (f k)) = change_at p q f n (a + 1) k (omega arith) (omega arith) h in
           omega arith
     ]
@@ -54,14 +54,14 @@ change_at p q f (suc n) a k l m h =
 -- a voxel that is full no longer
 pub one_less : (old new : Matrix) (c : Coord) → LosesVoxel old new c → full_count new + 1 ≡ full_count old
 one_less old new c h =
-    let r = old.resolution in
+    let resolution = old.resolution in
     let within = full_within old c h.before in
-    let at : coordinate_at r (place r c) ≡ c = coordinate_at-place r c within in
-    let below : place r c < r * r * r = place_below r c within in
-    let change : count_by (is_full new) (coordinates r) + tally (is_full old (coordinate_at r (place r c))) ≡ count_by (is_full old) (coordinates r) + tally (is_full new (coordinate_at r (place r c))) = change_at (is_full old) (is_full new) (coordinate_at r) (r * r * r) 0 (place r c) (omega arith) (omega arith) (λ j u. sym (h.others (coordinate_at r j) (λ v. u (sym (place-coordinate_at r j) ∙ ap (place r) v)))) in
-    let one : tally (is_full old (coordinate_at r (place r c))) ≡ 1 = ap tally (ap (is_full old) at ∙ h.before) in
-    let none : tally (is_full new (coordinate_at r (place r c))) ≡ 0 = ap tally (ap (is_full new) at ∙ h.after) in
-    let same : count_by (is_full new) (coordinates new.resolution) ≡ count_by (is_full new) (coordinates r) = ap (λ n. count_by (is_full new) (coordinates n)) h.resolution in
+    let at : coordinate_at resolution (place resolution c) ≡ c = coordinate_at-place resolution c within in
+    let below : place resolution c < resolution * resolution * resolution = place_below resolution c within in
+    let change : count_by (is_full new) (coordinates resolution) + tally (is_full old (coordinate_at resolution (place resolution c))) ≡ count_by (is_full old) (coordinates resolution) + tally (is_full new (coordinate_at resolution (place resolution c))) = change_at (is_full old) (is_full new) (coordinate_at resolution) (resolution * resolution * resolution) 0 (place resolution c) (omega arith) (omega arith) (λ j u. sym (h.others (coordinate_at resolution j) (λ v. u (sym (place-coordinate_at resolution j) ∙ ap (place resolution) v)))) in
+    let one : tally (is_full old (coordinate_at resolution (place resolution c))) ≡ 1 = ap tally (ap (is_full old) at ∙ h.before) in
+    let none : tally (is_full new (coordinate_at resolution (place resolution c))) ≡ 0 = ap tally (ap (is_full new) at ∙ h.after) in
+    let same : count_by (is_full new) (coordinates new.resolution) ≡ count_by (is_full new) (coordinates resolution) = ap (λ n. count_by (is_full new) (coordinates n)) h.resolution in
     omega arith
 
 -- each visit leaves less to do

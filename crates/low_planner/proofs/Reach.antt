@@ -18,7 +18,7 @@ pub moves_paid : (a b : Coord) → 15 * moves_to a b ≤ distance a b + 42
 moves_paid a b = omega arith
 
 pub one_move : (a b : Coord) → AreBesideInLayer a b → moves_to (above a) (above b) ≡ 1
-one_move a b h = let g = beside_gap a b h in let l = h.level in omega arith
+one_move a b h = let g = beside_gap a b h in let level = h.level in omega arith
 
 -- ---- legal models
 

@@ -152,13 +152,13 @@ pub reach_on : (r : ℕ) (a b c : Coord) → IsWithinReach r a b → IsWithinRea
 reach_on r a b c h k = let d = distance_on a b c in omega arith
 
 pub reach_here : (r : ℕ) (a : Coord) → IsWithinReach r a a
-reach_here r a = let e : distance a a ≡ 0 = omega arith in omega arith
+reach_here r a = let distance_is : distance a a ≡ 0 = omega arith in omega arith
 
 -- to a coordinate of the same row
 pub reach_row : (r : ℕ) (a b : Coord) → b.x ≡ a.x → b.y ≡ a.y → a.z ≤ b.z → IsWithinReach r a b
 reach_row r a b x y z =
-    let d : distance a b ≡ b.z - a.z = omega arith in
-    let e : 3 * r * (b.y * r + b.x) ≡ 3 * r * (a.y * r + a.x) = (λ i. 3 * r * (y i * r + x i)) in
+    let distance_is : distance a b ≡ b.z - a.z = omega arith in
+    let same_r : 3 * r * (b.y * r + b.x) ≡ 3 * r * (a.y * r + a.x) = (λ i. 3 * r * (y i * r + x i)) in
     omega arith
 
 -- where the voxels of a row that rest were visited, those before a coordinate further on in it were too

@@ -17,7 +17,7 @@ use Rattle.low_planner.proofs.Beside.{beside-sym}
 use Rattle.low_planner.proofs.Paths.{in_part}
 
 pub in_none : {X : Type 0} (xs : List X) (x : X) → xs ≡ [] → Contains xs x → ⊥
-in_none xs x e h = let l : length xs ≡ 0 = ap length e in omega (arith, h.1)
+in_none xs x e h = let length_is : length xs ≡ 0 = ap length e in omega (arith, h.1)
 
 -- ---- a new start
 
@@ -29,7 +29,7 @@ moved m s t c er et ea h none swept up within = record {
   fewer = λ d f. ap (λ (l : Matrix). is_full l d) er ∙ h.fewer d f;
   supported = λ d k. h.supported d (was d k);
   closed = λ a b k n f. subst (λ (xs : List Coord). Contains xs a) (sym et) (h.closed a b (was a k) n (sym (ap (λ (l : Matrix). is_full l b) er) ∙ f));
-  ahead = λ d k. let l = h.ahead d (was d k) in let e = ap (λ (q : Coord). q.y) ea in omega arith;
+  ahead = λ d k. let ahead = h.ahead d (was d k) in let e = ap (λ (q : Coord). q.y) ea in omega arith;
   swept = subst (λ (q : Coord). AreSwept m t.remaining q) (sym ea) (subst (λ (l : Matrix). AreSwept m l c) (sym er) swept);
   place = subst (λ (q : Coord). IsInSpace m.resolution q) (sym ea) within;
   trail = subst (λ (xs : List Coord). IsTrail t.at xs) (sym (et ∙ none)) tt;
@@ -99,10 +99,10 @@ module _ (m : Matrix) (s t : Sweep) (c : Coord) (h : IsSweep m s) (k : TakesVoxe
 
       low : (d : Coord) → (d ≡ c) ⊎ IsVisited m s.remaining d → d.y ≤ t.at.y
       low d (inl e) = let y = ap (λ (q : Coord). q.y) e in let u = up in omega arith
-      low d (inr v) = let l = h.ahead d v in let u = up in omega arith
+      low d (inr v) = let ahead = h.ahead d v in let u = up in omega arith
 
       member : (d : Coord) → (Contains s.trail.items d ⊎ (c ≡ d)) → IsVisited m t.remaining d × (d.y ≡ t.at.y)
-      member d (inl i) = let w = h.on_trail d i in (record { before = w.0.before; after = fewer_now d w.0.after }, w.1 ∙ sym up)
+      member d (inl i) = let on_trail = h.on_trail d i in (record { before = on_trail.0.before; after = fewer_now d on_trail.0.after }, on_trail.1 ∙ sym up)
       member d (inr e) = subst (λ (q : Coord). IsVisited m t.remaining q × (q.y ≡ t.at.y)) e (visited_now, level ∙ sym up)
 
 -- ---- a voxel less on the trail
@@ -114,12 +114,12 @@ popped m s t last h er ea ends alone trail = record {
   resolution = ap (λ (l : Matrix). l.resolution) er ∙ h.resolution;
   fewer = λ d f. ap (λ (l : Matrix). is_full l d) er ∙ h.fewer d f;
   supported = λ d k. h.supported d (was d k);
-  closed = λ a b k n f. let g : IsTrue (is_full s.remaining b) = sym (ap (λ (l : Matrix). is_full l b) er) ∙ f in near a b n g (Contains-push_cases t.trail.items last a (subst (λ (xs : List Coord). Contains xs a) ends (h.closed a b (was a k) n g)));
-  ahead = λ d k. let l = h.ahead d (was d k) in let e = ap (λ (q : Coord). q.y) ea in omega arith;
+  closed = λ a b k n f. let full : IsTrue (is_full s.remaining b) = sym (ap (λ (l : Matrix). is_full l b) er) ∙ f in near a b n full (Contains-push_cases t.trail.items last a (subst (λ (xs : List Coord). Contains xs a) ends (h.closed a b (was a k) n full)));
+  ahead = λ d k. let ahead = h.ahead d (was d k) in let e = ap (λ (q : Coord). q.y) ea in omega arith;
   swept = subst (λ (q : Coord). AreSwept m t.remaining q) (sym ea) (subst (λ (l : Matrix). AreSwept m l s.at) (sym er) h.swept);
   place = subst (λ (q : Coord). IsInSpace m.resolution q) (sym ea) h.place;
   trail = subst (λ (q : Coord). IsTrail q t.trail.items) (sym ea) trail;
-  on_trail = λ d i. let w = h.on_trail d (subst (λ (xs : List Coord). Contains xs d) (sym ends) (Contains-append_left t.trail.items (last ∷ []) d i)) in (record { before = w.0.before; after = ap (λ (l : Matrix). is_full l d) er ∙ w.0.after }, w.1 ∙ sym (ap (λ (q : Coord). q.y) ea));
+  on_trail = λ d i. let on_trail = h.on_trail d (subst (λ (xs : List Coord). Contains xs d) (sym ends) (Contains-append_left t.trail.items (last ∷ []) d i)) in (record { before = on_trail.0.before; after = ap (λ (l : Matrix). is_full l d) er ∙ on_trail.0.after }, on_trail.1 ∙ sym (ap (λ (q : Coord). q.y) ea));
 }
   where
     was : (d : Coord) → IsVisited m t.remaining d → IsVisited m s.remaining d

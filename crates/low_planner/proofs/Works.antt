@@ -60,11 +60,11 @@ no_leg axis a b cs e h = none_of cs (h.least ∙ (ap (λ (n : ℕ). moves a n) (
 pub went_nowhere : (old new : TapeState) (to : Coord) → spot old.bots ≡ to → Moves old new to
     → new.commands ≡ old.commands
 went_nowhere old new to e m =
-    let h = m.legs in
-    let x = no_leg X (spot old.bots).x to.x h.x (ap (λ (q : Coord). q.x) e) h.along_x in
-    let y = no_leg Y (spot old.bots).y to.y h.y (ap (λ (q : Coord). q.y) e) h.along_y in
-    let z = no_leg Z (spot old.bots).z to.z h.z (ap (λ (q : Coord). q.z) e) h.along_z in
-    let none : m.commands ≡ [] = h.joined ∙ (λ i. x i ++ y i ++ z i) in
+    let legs = m.legs in
+    let x = no_leg X (spot old.bots).x to.x legs.x (ap (λ (q : Coord). q.x) e) legs.along_x in
+    let y = no_leg Y (spot old.bots).y to.y legs.y (ap (λ (q : Coord). q.y) e) legs.along_y in
+    let z = no_leg Z (spot old.bots).z to.z legs.z (ap (λ (q : Coord). q.z) e) legs.along_z in
+    let none : m.commands ≡ [] = legs.joined ∙ (λ i. x i ++ y i ++ z i) in
     m.added ∙ (ap (λ (cs : List Command). old.commands ++ cs) none ∙ append-nil old.commands)
 
 -- ---- a voxel that is filled from above
@@ -80,7 +80,7 @@ filled a b c at n cost w f = record {
   working = record { alone = ap length f.bots_are ∙ w.working.alone; low = f.harmonics ∙ w.working.low; light = f.profile ∙ w.working.light };
   there = ap spot f.bots_are ∙ w.there;
   matrix = f.matrix ∙ (λ i. with_voxel (w.matrix i) (below_spot b at w.there i) true);
-  steps = (let s = w.steps in let t = f.steps in omega arith);
+  steps = (let s = w.steps in let steps = f.steps in omega arith);
   plain = λ p. subst (All IsPlain) (sym f.commands) (plain_and b.commands (Fill down) tt (w.plain p));
 }
 

@@ -74,14 +74,14 @@ looks_none m area a bare = record { takes = takes_none (Grounded m) a a refl (λ
 pub looks_then : (m : Matrix) (one two both : Coord → Type 0) (a b c : Flood) → ((d : Coord) → IsInSpace m.resolution d → both d → one d ⊎ two d) →
     LooksAround m one a b → LooksAround m two b c → LooksAround m both a c
 looks_then m one two both a b c joined h k = record {
-  takes = (let t = h.takes in let u = k.takes in takes_then (Grounded m) a b c t u);
+  takes = (let t = h.takes in let takes = k.takes in takes_then (Grounded m) a b c t takes);
   bare = λ e d area t n. by e d t n (joined e (full_within m e t.before) area);
 }
   where
     by : (e d : Coord) → IsTaken m a.remaining e → IsTrue (are_adjacent e d) → (one e ⊎ two e)
         → is_full c.remaining d ≡ false
-    by e d t n (inl l) = let u = k.takes in u.fewer d (h.bare e d l t n)
-    by e d t n (inr l) = let u = h.takes in k.bare e d l (record { before = t.before; after = u.fewer e t.after }) n
+    by e d t n (inl l) = let takes = k.takes in takes.fewer d (h.bare e d l t n)
+    by e d t n (inr l) = let takes = h.takes in k.bare e d l (record { before = t.before; after = takes.fewer e t.after }) n
 
 pub looks_wider : (m : Matrix) (one all : Coord → Type 0) (a b : Flood)
     → ((d : Coord) → IsInSpace m.resolution d → all d → one d) → LooksAround m one a b → LooksAround m all a b
@@ -132,7 +132,7 @@ pub looks_taken : (m : Matrix) (a b : Flood) (first : Coord) (bits : ℕ) → Is
     ((d : Coord) → IsBeside (record { first = first; bits = bits }) d → is_full b.remaining d ≡ false) → LooksAround m (IsNextTo first) a b
 looks_taken m a b first bits h o t none = record {
   takes = takes_wider (IsBeside (record { first = first; bits = bits })) (Grounded m) a b
-      (λ d f k. one_more m d k.one (true_by_false (is_full m d) (is_full a.remaining d) (h.fewer d) f) (adjacent-sym k.one d k.adjacent) (h.grounded k.one (let u = o.out k.one k.among in u))) t;
+      (λ d f k. one_more m d k.one (true_by_false (is_full m d) (is_full a.remaining d) (h.fewer d) f) (adjacent-sym k.one d k.adjacent) (h.grounded k.one (let out = o.out k.one k.among in out))) t;
   bare = λ c d area u n. none d (record { one = c; among = o.all c area u; adjacent = n });
 }
 
@@ -157,14 +157,14 @@ none_left m first count bits few size h d a = by (cases_lt d.z (first.z + count)
         let u : d.z - first.z < count = omega arith in
         lost (bit bits (d.z - first.z)) (is_full m d) a.here
         (sym (void (d.z - first.z)) ∙ (h (d.z - first.z) u ∙ ap (λ c. bit bits (d.z - first.z) && is_full m c) (its_place first d a.x a.y a.from)))
-    by (inr l) = void_by m d (λ i. let k = i.z in let t = a.to in let f = a.from in absurd (omega arith))
+    by (inr l) = void_by m d (λ i. let k = i.z in let t = a.to in let from = a.from in absurd (omega arith))
 
 -- the word that says which are left has no bit
 pub nothing_left : (m : Matrix) (first : Coord) (bits : ℕ) → bits ≡ 0 → (d : Coord)
     → IsAmong (record { first = first; bits = bits }) d → is_full m d ≡ false
 nothing_left m first bits e d a =
     let z : bit bits (d.z - first.z) ≡ false = ap (λ n. bit n (d.z - first.z)) e ∙ ap (λ d. d == 1) (bit_at_above 0 0 (d.z - first.z) (omega arith) (omega arith)) in
-    let b = a.here in
+    let here = a.here in
     cc
 
 -- ---- the search has begun
@@ -175,9 +175,9 @@ flood_begun m start begun none h floor looks = record {
   resolution = now.resolution;
   fewer = now.fewer;
   grounded = now.grounded;
-  found = λ c k. let t = looks.takes in found c (t.found c k);
+  found = λ c k. let takes = looks.takes in found c (takes.found c k);
   looked = λ a b k n f. looked a b k n f (is_full start.remaining a) refl;
-  floor = λ c e. let t = looks.takes in t.fewer c (floor c e);
+  floor = λ c e. let takes = looks.takes in takes.fewer c (floor c e);
 }
   where
     now : IsBegun m begun
@@ -189,5 +189,5 @@ flood_begun m start begun none h floor looks = record {
 
     looked : (a b : Coord) → IsTaken m begun.remaining a → IsTrue (are_adjacent a b)
         → IsTrue (is_full begun.remaining b) → (f : Bool) → is_full start.remaining a ≡ f → HasFound begun a
-    looked a b k n f true e = let t = looks.takes in (t.taken a (record { before = e; after = k.after })).1
+    looked a b k n f true e = let takes = looks.takes in (takes.taken a (record { before = e; after = k.after })).1
     looked a b k n f false e = anything_by (is_full begun.remaining b) f (looks.bare a b tt (record { before = k.before; after = e }) n)

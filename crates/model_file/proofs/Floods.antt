@@ -157,7 +157,7 @@ below_count n count k l b = by (cases_lt k count)
   where
     by : ((k < count) ⊎ (count ≤ k)) → k < count
     by (inl h) = h
-    by (inr h) = let z : bit n k ≡ false = ap (λ d. d == 1) (bit_at_above n count k l h) in cc
+    by (inr h) = let not_bit : bit n k ≡ false = ap (λ d. d == 1) (bit_at_above n count k l h) in cc
 
 -- the coordinate of a row at a component
 pub its_place : (first d : Coord) → d.x ≡ first.x → d.y ≡ first.y → first.z ≤ d.z
@@ -224,10 +224,10 @@ module _ (a b : Flood) (first : Coord) (count bits taken : ℕ) (r : b.remaining
       → IsTaken a.remaining b.remaining d
   row_was below d h =
       let u : d.z - first.z < count = below_count taken count (d.z - first.z) below h.here in
-      let l = h.from in
-      let m : d.z < first.z + count = omega arith in
-      let both = both_true (bit bits (d.z - first.z)) (is_full a.remaining d) (sym (taken_bit d h.x h.y h.from m) ∙ h.here) in
-      record { before = both.1; after = row_gone d h.x h.y h.from m both.0 }
+      let from = h.from in
+      let below_z : d.z < first.z + count = omega arith in
+      let both = both_true (bit bits (d.z - first.z)) (is_full a.remaining d) (sym (taken_bit d h.x h.y h.from below_z) ∙ h.here) in
+      record { before = both.1; after = row_gone d h.x h.y h.from below_z both.0 }
 
   pub row_lighter : taken < 2 ^ count → (taken ≡ 0 → ⊥) → taken < 2 ^ 64
       → full_of a.remaining.resolution b.remaining + 1 ≤ full_of a.remaining.resolution a.remaining
@@ -266,7 +266,7 @@ module _ (a b : Flood) (first : Coord) (count bits taken : ℕ) (r : b.remaining
       known d (inr h) = inr (row_was below d h)
 
       start : (s : Stretch)
-          → (Contains a.found.items s ⊎ ((let t : Stretch = record { first = first; bits = taken } in t) ≡ s))
+          → (Contains a.found.items s ⊎ ((let stretch : Stretch = record { first = first; bits = taken } in stretch) ≡ s))
           → Contains a.found.items s ⊎ (IsInSpace a.remaining.resolution s.first × (s.first.z % 64 ≡ 0))
       start s (inl k) = inl k
       start s (inr e) = inr (subst (λ (t : Stretch). IsInSpace a.remaining.resolution t.first × (t.first.z % 64 ≡ 0)) e (within, each))
@@ -281,7 +281,7 @@ takes_then near a b c h k = record {
   kept = λ d m. k.kept d (h.kept d m);
   found = λ d m. of d (k.found d m);
   starts = λ s m. start s (k.starts s m);
-  weighs = (let x = k.weighs in let y = h.weighs in omega arith);
+  weighs = (let x = k.weighs in let weighs = h.weighs in omega arith);
 }
   where
     taken : (d : Coord) → IsTaken a.remaining c.remaining d → (f : Bool) → is_full b.remaining d ≡ f
@@ -340,7 +340,7 @@ gone_outside m first bits r e o d h = void_by m d (λ i. by i o)
     by : IsInSpace m.resolution d → ((r ≤ first.x) ⊎ ((r ≤ first.y) ⊎ (r ≤ first.z))) → ⊥
     by i (inl l) = let x = h.x in let k = i.x in omega arith
     by i (inr (inl l)) = let y = h.y in let k = i.y in omega arith
-    by i (inr (inr l)) = let z = h.from in let k = i.z in omega arith
+    by i (inr (inr l)) = let from = h.from in let k = i.z in omega arith
 
 -- of a stretch nothing is there after its row was taken
 pub gone_row : (a b : Flood) (first : Coord) (count bits taken : ℕ) (r : b.remaining.resolution ≡ a.remaining.resolution) (few : count ≤ 64)
@@ -351,7 +351,7 @@ gone_row a b first count bits taken r few was left size d h = by (cases_lt d.z (
   where
     by : ((d.z < first.z + count) ⊎ (first.z + count ≤ d.z)) → is_full b.remaining d ≡ false
     by (inl l) = row_gone a b first count bits taken r few was left d h.x h.y h.from l h.here
-    by (inr l) = void_by b.remaining d (λ i. let k = i.z in let t = h.to in let f = h.from in absurd (omega arith))
+    by (inr l) = void_by b.remaining d (λ i. let k = i.z in let t = h.to in let from = h.from in absurd (omega arith))
 
 -- ---- around a stretch
 

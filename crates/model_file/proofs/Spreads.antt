@@ -94,10 +94,10 @@ module _ (popped new : Flood) (p : Stretch) (count more : ℕ) (r : new.remainin
   wide = record { first = p.first; bits = bit_or p.bits more }
 
   or_left : (k : ℕ) → bit p.bits k ≡ true → bit (bit_or p.bits more) k ≡ true
-  or_left k h = let e : bit_at p.bits k ≡ 1 = one_of (bit_at p.bits k) h in let l = bit_at-lt more k in is_one (bit_at (bit_or p.bits more) k) (bit_at_or p.bits more k ∙ omega arith)
+  or_left k h = let bit_is : bit_at p.bits k ≡ 1 = one_of (bit_at p.bits k) h in let l = bit_at-lt more k in is_one (bit_at (bit_or p.bits more) k) (bit_at_or p.bits more k ∙ omega arith)
 
   or_right : (k : ℕ) → bit more k ≡ true → bit (bit_or p.bits more) k ≡ true
-  or_right k h = let e : bit_at more k ≡ 1 = one_of (bit_at more k) h in let l = bit_at-lt p.bits k in is_one (bit_at (bit_or p.bits more) k) (bit_at_or p.bits more k ∙ omega arith)
+  or_right k h = let bit_is : bit_at more k ≡ 1 = one_of (bit_at more k) h in let l = bit_at-lt p.bits k in is_one (bit_at (bit_or p.bits more) k) (bit_at_or p.bits more k ∙ omega arith)
 
   or_either : (k : ℕ) → bit (bit_or p.bits more) k ≡ true → (bit p.bits k ≡ true) ⊎ (bit more k ≡ true)
   or_either k h = by (bit_at p.bits k) (bit_at-lt p.bits k) refl
@@ -106,7 +106,7 @@ module _ (popped new : Flood) (p : Stretch) (count more : ℕ) (r : new.remainin
       all = sym (bit_at_or p.bits more k) ∙ one_of (bit_at (bit_or p.bits more) k) h
 
       by : (d : ℕ) → d < 2 → bit_at p.bits k ≡ d → (bit p.bits k ≡ true) ⊎ (bit more k ≡ true)
-      by zero l e = let a : max (bit_at p.bits k) (bit_at more k) ≡ 1 = all in inr (is_one (bit_at more k) (omega arith))
+      by zero l e = let max_is : max (bit_at p.bits k) (bit_at more k) ≡ 1 = all in inr (is_one (bit_at more k) (omega arith))
       by (suc zero) l e = inl (is_one (bit_at p.bits k) e)
       by (suc (suc d)) l e = absurd (omega arith)
 
@@ -161,7 +161,7 @@ module _ (popped new : Flood) (p : Stretch) (count more : ℕ) (r : new.remainin
 
       found : (d : Coord) → (HasFound popped d ⊎ IsAmong (record { first = p.first; bits = bit_or p.bits more }) d)
           → IsTaken m new.remaining d
-      found d (inl k) = let t = fl.found d (has_more popped s p held d k) in record { before = t.before; after = less d t.after }
+      found d (inl k) = let found = fl.found d (has_more popped s p held d k) in record { before = found.before; after = less d found.after }
       found d (inr k) = by (either d k)
         where
           by : (IsAmong p d ⊎ IsAmong (record { first = p.first; bits = more }) d) → IsTaken m new.remaining d
@@ -178,7 +178,7 @@ module _ (popped new : Flood) (p : Stretch) (count more : ℕ) (r : new.remainin
           of (inr h) = has_last popped new (record { first = p.first; bits = bit_or p.bits more }) items a (widened a h)
 
 pub in_none : (f : Flood) (d : Coord) → f.found.items ≡ [] → HasFound f d → ⊥
-in_none f d e h = let l : length f.found.items ≡ 0 = ap length e in let k = h.is_found in omega (arith, k.1)
+in_none f d e h = let length_is : length f.found.items ≡ 0 = ap length e in let is_found = h.is_found in omega (arith, is_found.1)
 
 -- ---- the end
 
@@ -215,7 +215,7 @@ left_is_ungrounded m f test fl none sound complete =
     first_failing (λ c. IsTrue (is_full m c) → Grounded m c) test bad good (all_of m)
   where
     bad : (c : Coord) → test c ≡ true → (IsTrue (is_full m c) → Grounded m c) → ⊥
-    bad c e g = let t : IsTrue (is_full f.remaining c) = sound c e in left_floats m f fl none c t (g (true_by_false (is_full m c) (is_full f.remaining c) (fl.fewer c) t))
+    bad c e g = let full : IsTrue (is_full f.remaining c) = sound c e in left_floats m f fl none c full (g (true_by_false (is_full m c) (is_full f.remaining c) (fl.fewer c) full))
 
     good : (c : Coord) → test c ≡ false → IsTrue (is_full m c) → Grounded m c
     good c e t = by (is_full f.remaining c) refl
@@ -231,7 +231,7 @@ flood_same m a b same items fl = record {
   resolution = ap (λ (l : Matrix). l.resolution) same ∙ fl.resolution;
   fewer = λ d f. ap (λ (l : Matrix). is_full l d) same ∙ fl.fewer d f;
   grounded = λ d k. fl.grounded d (was d k);
-  found = λ d k. let t = fl.found d (has_same b a (sym items) d k) in record { before = t.before; after = ap (λ (l : Matrix). is_full l d) same ∙ t.after };
+  found = λ d k. let found = fl.found d (has_same b a (sym items) d k) in record { before = found.before; after = ap (λ (l : Matrix). is_full l d) same ∙ found.after };
   looked = λ d e k n f. has_same a b items d (fl.looked d e (was d k) n (sym (ap (λ (l : Matrix). is_full l e) same) ∙ f));
   floor = λ d e. ap (λ (l : Matrix). is_full l d) same ∙ fl.floor d e;
 }

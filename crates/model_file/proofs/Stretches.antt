@@ -33,14 +33,14 @@ raised_bit : (n s j : ℕ) → s ≤ j → j < 64 → bit_at (n * 2 ^ s % 2 ^ 64
 raised_bit n s j l u =
     let split : n * 2 ^ s / 2 ^ 64 * 2 ^ 64 + n * 2 ^ s % 2 ^ 64 ≡ n * 2 ^ s = omega (arith, div-add-mod (n * 2 ^ s) (2 ^ 64)) in
     sym (bit_at_cat_low (n * 2 ^ s / 2 ^ 64) 64 (n * 2 ^ s % 2 ^ 64) j u)
-    ∙ (ap (λ v. bit_at v j) (split ∙ (let e : n * 2 ^ s ≡ n * 2 ^ s + 0 = omega arith in e))
+    ∙ (ap (λ v. bit_at v j) (split ∙ (let same_n : n * 2 ^ s ≡ n * 2 ^ s + 0 = omega arith in same_n))
     ∙ bit_at_cat_high n s 0 j (pow_pos s) l)
 
 low_zero : (n s j : ℕ) → j < s → s ≤ 64 → bit_at (n * 2 ^ s % 2 ^ 64) j ≡ 0
 low_zero n s j l u =
     let split : n * 2 ^ s / 2 ^ 64 * 2 ^ 64 + n * 2 ^ s % 2 ^ 64 ≡ n * 2 ^ s = omega (arith, div-add-mod (n * 2 ^ s) (2 ^ 64)) in
     sym (bit_at_cat_low (n * 2 ^ s / 2 ^ 64) 64 (n * 2 ^ s % 2 ^ 64) j (omega arith))
-    ∙ (ap (λ v. bit_at v j) (split ∙ (let e : n * 2 ^ s ≡ n * 2 ^ s + 0 = omega arith in e))
+    ∙ (ap (λ v. bit_at v j) (split ∙ (let same_n : n * 2 ^ s ≡ n * 2 ^ s + 0 = omega arith in same_n))
     ∙ (bit_at_cat_low n s 0 j l ∙ bit_at_above 0 0 j (omega arith) (omega arith)))
 
 pub one_of : (d : ℕ) → (d == 1) ≡ true → d ≡ 1
@@ -54,7 +54,7 @@ inside n k l h = by (cases_lt k 64)
   where
     by : ((k < 64) ⊎ (64 ≤ k)) → k < 64
     by (inl m) = m
-    by (inr m) = let z : bit n k ≡ false = ap (λ d. d == 1) (bit_at_above n 64 k l m) in cc
+    by (inr m) = let not_bit : bit n k ≡ false = ap (λ d. d == 1) (bit_at_above n 64 k l m) in cc
 
 up : (n k : ℕ) → k + 1 < 64 → bit n k ≡ true → bit (moved n) (k + 1) ≡ true
 up n k l h =
@@ -95,7 +95,7 @@ from_side n k l fits h = by (cases (bit_at (n / 2 ^ 1) k) (bit_at-lt (n / 2 ^ 1)
         raised = omega (arith, all)
 
         at : (j : ℕ) → j < 64 → j ≡ k → ((1 ≤ k) × (bit n (k - 1) ≡ true)) ⊎ ((k + 1 < 64) × (bit n (k + 1) ≡ true))
-        at zero u s = let z : bit_at (n * 2 ^ 1 % 2 ^ 64) k ≡ 0 = low_zero n 1 k (omega arith) (omega arith) in let one : bit_at (n * 2 ^ 1 % 2 ^ 64) k ≡ 1 = raised in absurd (omega arith)
+        at zero u s = let bit_is : bit_at (n * 2 ^ 1 % 2 ^ 64) k ≡ 0 = low_zero n 1 k (omega arith) (omega arith) in let one : bit_at (n * 2 ^ 1 % 2 ^ 64) k ≡ 1 = raised in absurd (omega arith)
         at (suc j) u s = inl (omega arith, is_one (bit_at n (k - 1)) (sym (raised_bit n 1 k (omega arith) l) ∙ raised))
 
 -- ---- what is near
@@ -134,7 +134,7 @@ module _ (s : Stretch) (r : ℕ) (start : IsStart MOST_R s) (most : r ≤ MOST_R
       → IsAmong (record { first = record { x = one_less s.first.x; y = s.first.y; z = s.first.z }; bits = s.bits }) d
       → IsBeside s d
   near_left d i a =
-      let l : s.first.x < MOST_R = (let w = start.within in w.x) in
+      let l : s.first.x < MOST_R = (let within = start.within in within.x) in
       let e = a.x in
       let h = i.x in
       let one : s.first.x ≡ one_less s.first.x + 1 = omega arith in
@@ -149,7 +149,7 @@ module _ (s : Stretch) (r : ℕ) (start : IsStart MOST_R s) (most : r ≤ MOST_R
       → IsAmong (record { first = record { x = s.first.x; y = one_less s.first.y; z = s.first.z }; bits = s.bits }) d
       → IsBeside s d
   near_below d i a =
-      let l : s.first.y < MOST_R = (let w = start.within in w.y) in
+      let l : s.first.y < MOST_R = (let within = start.within in within.y) in
       let e = a.y in
       let h = i.y in
       let one : s.first.y ≡ one_less s.first.y + 1 = omega arith in
@@ -161,54 +161,54 @@ module _ (s : Stretch) (r : ℕ) (start : IsStart MOST_R s) (most : r ≤ MOST_R
 
   pub near_moved : (d : Coord) → IsInSpace r d → IsAmong (record { first = s.first; bits = moved s.bits }) d
       → IsBeside s d
-  near_moved d i a = by (from_side s.bits (d.z - s.first.z) (let f = a.from in let t = a.to in omega arith) fits a.here)
+  near_moved d i a = by (from_side s.bits (d.z - s.first.z) (let from = a.from in let t = a.to in omega arith) fits a.here)
     where
       by : ((1 ≤ d.z - s.first.z) × (bit s.bits (d.z - s.first.z - 1) ≡ true))
           ⊎ ((d.z - s.first.z + 1 < 64) × (bit s.bits (d.z - s.first.z + 1) ≡ true)) → IsBeside s d
       by (inl h) =
-          let f = a.from in
+          let from = a.from in
           let t = a.to in
           let l = h.0 in
-          let e : d.z - s.first.z - 1 ≡ d.z - 1 - s.first.z = omega arith in
-          along (d.z - 1) d a.x a.y (omega arith) (omega arith) (ap (bit s.bits) (sym e) ∙ h.1) (omega arith)
+          let same_z : d.z - s.first.z - 1 ≡ d.z - 1 - s.first.z = omega arith in
+          along (d.z - 1) d a.x a.y (omega arith) (omega arith) (ap (bit s.bits) (sym same_z) ∙ h.1) (omega arith)
       by (inr h) =
-          let f = a.from in
+          let from = a.from in
           let l = h.0 in
-          let e : d.z - s.first.z + 1 ≡ d.z + 1 - s.first.z = omega arith in
-          along (d.z + 1) d a.x a.y (omega arith) (omega arith) (ap (bit s.bits) (sym e) ∙ h.1) (omega arith)
+          let same_z : d.z - s.first.z + 1 ≡ d.z + 1 - s.first.z = omega arith in
+          along (d.z + 1) d a.x a.y (omega arith) (omega arith) (ap (bit s.bits) (sym same_z) ∙ h.1) (omega arith)
 
   pub near_after : (d : Coord) → IsInSpace r d
       → IsAmong (record { first = record { x = s.first.x; y = s.first.y; z = s.first.z + 64 }; bits = s.bits / 2 ^ 63 }) d
       → IsBeside s d
   near_after d i a =
-      let f = a.from in
+      let from = a.from in
       let k : ℕ = d.z - (s.first.z + 64) in
       let b : bit s.bits (63 + (d.z - (s.first.z + 64))) ≡ true = is_one (bit_at s.bits (63 + (d.z - (s.first.z + 64)))) (sym (shifted_bit s.bits 63 (d.z - (s.first.z + 64))) ∙ one_of (bit_at (s.bits / 2 ^ 63) (d.z - (s.first.z + 64))) a.here) in
-      let u : 63 + (d.z - (s.first.z + 64)) < 64 = inside s.bits (63 + (d.z - (s.first.z + 64))) fits b in
-      let e : 63 + (d.z - (s.first.z + 64)) ≡ s.first.z + 63 - s.first.z = omega arith in
-      along (s.first.z + 63) d a.x a.y (omega arith) (omega arith) (ap (bit s.bits) (sym e) ∙ b) (omega arith)
+      let z_below_64 : 63 + (d.z - (s.first.z + 64)) < 64 = inside s.bits (63 + (d.z - (s.first.z + 64))) fits b in
+      let same_z : 63 + (d.z - (s.first.z + 64)) ≡ s.first.z + 63 - s.first.z = omega arith in
+      along (s.first.z + 63) d a.x a.y (omega arith) (omega arith) (ap (bit s.bits) (sym same_z) ∙ b) (omega arith)
 
   pub near_before : (d : Coord) → IsInSpace r d
       → IsAmong (record { first = record { x = s.first.x; y = s.first.y; z = word_less s.first.z }; bits = s.bits * 2 ^ 63 % 2 ^ 64 }) d
       → IsBeside s d
   near_before d i a =
-      let f = a.from in
+      let from = a.from in
       let t = a.to in
       let h = i.z in
-      let l : s.first.z < MOST_R = (let w = start.within in w.z) in
-      let w : s.first.z ≡ word_less s.first.z + 64 = omega arith in
-      by (cases_lt (d.z - word_less s.first.z) 63) (omega arith) w
+      let l : s.first.z < MOST_R = (let within = start.within in within.z) in
+      let z_is : s.first.z ≡ word_less s.first.z + 64 = omega arith in
+      by (cases_lt (d.z - word_less s.first.z) 63) (omega arith) z_is
     where
       by : ((d.z - word_less s.first.z < 63) ⊎ (63 ≤ d.z - word_less s.first.z)) → d.z - word_less s.first.z < 64
           → s.first.z ≡ word_less s.first.z + 64 → IsBeside s d
       by (inl l) u w =
-          let z : bit (s.bits * 2 ^ 63 % 2 ^ 64) (d.z - word_less s.first.z) ≡ false = ap (λ v. v == 1) (low_zero s.bits 63 (d.z - word_less s.first.z) l (omega arith)) in
-          let b = a.here in
+          let not_bit : bit (s.bits * 2 ^ 63 % 2 ^ 64) (d.z - word_less s.first.z) ≡ false = ap (λ v. v == 1) (low_zero s.bits 63 (d.z - word_less s.first.z) l (omega arith)) in
+          let here = a.here in
           cc
       by (inr l) u w =
-          let f = a.from in
-          let e : d.z - word_less s.first.z - 63 ≡ s.first.z - s.first.z = omega arith in
-          let b : bit s.bits (s.first.z - s.first.z) ≡ true = is_one (bit_at s.bits (s.first.z - s.first.z)) (ap (bit_at s.bits) (sym e) ∙ (sym (raised_bit s.bits 63 (d.z - word_less s.first.z) l u) ∙ one_of (bit_at (s.bits * 2 ^ 63 % 2 ^ 64) (d.z - word_less s.first.z)) a.here)) in
+          let from = a.from in
+          let same_z : d.z - word_less s.first.z - 63 ≡ s.first.z - s.first.z = omega arith in
+          let b : bit s.bits (s.first.z - s.first.z) ≡ true = is_one (bit_at s.bits (s.first.z - s.first.z)) (ap (bit_at s.bits) (sym same_z) ∙ (sym (raised_bit s.bits 63 (d.z - word_less s.first.z) l u) ∙ one_of (bit_at (s.bits * 2 ^ 63 % 2 ^ 64) (d.z - word_less s.first.z)) a.here)) in
           along s.first.z d a.x a.y (omega arith) (omega arith) b (omega arith)
 
   -- what holds of all seven stretches holds of each coordinate that is beside
@@ -230,53 +230,53 @@ module _ (s : Stretch) (r : ℕ) (start : IsStart MOST_R s) (most : r ≤ MOST_R
       w = start.within
 
       by : Side h.one d → P d
-      by (right x y z) = (let a = h.among in p1 d (record { x = x ∙ ap (λ v. v + 1) a.x; y = y ∙ a.y; from = subst (λ (v : ℕ). s.first.z ≤ v) (sym z) a.from; to = subst (λ (v : ℕ). v < s.first.z + 64) (sym z) a.to; here = ap (λ v. bit s.bits (v - s.first.z)) z ∙ a.here }))
-      by (left x y z) = (let a = h.among in let e = a.x in let l = w.x in p2 d (record { x = omega arith; y = y ∙ a.y; from = subst (λ (v : ℕ). s.first.z ≤ v) (sym z) a.from; to = subst (λ (v : ℕ). v < s.first.z + 64) (sym z) a.to; here = ap (λ v. bit s.bits (v - s.first.z)) z ∙ a.here }))
-      by (above x y z) = (let a = h.among in p3 d (record { x = x ∙ a.x; y = y ∙ ap (λ v. v + 1) a.y; from = subst (λ (v : ℕ). s.first.z ≤ v) (sym z) a.from; to = subst (λ (v : ℕ). v < s.first.z + 64) (sym z) a.to; here = ap (λ v. bit s.bits (v - s.first.z)) z ∙ a.here }))
-      by (below x y z) = (let a = h.among in let e = a.y in let l = w.y in p4 d (record { x = x ∙ a.x; y = omega arith; from = subst (λ (v : ℕ). s.first.z ≤ v) (sym z) a.from; to = subst (λ (v : ℕ). v < s.first.z + 64) (sym z) a.to; here = ap (λ v. bit s.bits (v - s.first.z)) z ∙ a.here }))
+      by (right x y z) = (let among = h.among in p1 d (record { x = x ∙ ap (λ v. v + 1) among.x; y = y ∙ among.y; from = subst (λ (v : ℕ). s.first.z ≤ v) (sym z) among.from; to = subst (λ (v : ℕ). v < s.first.z + 64) (sym z) among.to; here = ap (λ v. bit s.bits (v - s.first.z)) z ∙ among.here }))
+      by (left x y z) = (let among = h.among in let e = among.x in let l = w.x in p2 d (record { x = omega arith; y = y ∙ among.y; from = subst (λ (v : ℕ). s.first.z ≤ v) (sym z) among.from; to = subst (λ (v : ℕ). v < s.first.z + 64) (sym z) among.to; here = ap (λ v. bit s.bits (v - s.first.z)) z ∙ among.here }))
+      by (above x y z) = (let among = h.among in p3 d (record { x = x ∙ among.x; y = y ∙ ap (λ v. v + 1) among.y; from = subst (λ (v : ℕ). s.first.z ≤ v) (sym z) among.from; to = subst (λ (v : ℕ). v < s.first.z + 64) (sym z) among.to; here = ap (λ v. bit s.bits (v - s.first.z)) z ∙ among.here }))
+      by (below x y z) = (let among = h.among in let e = among.y in let l = w.y in p4 d (record { x = x ∙ among.x; y = omega arith; from = subst (λ (v : ℕ). s.first.z ≤ v) (sym z) among.from; to = subst (λ (v : ℕ). v < s.first.z + 64) (sym z) among.to; here = ap (λ v. bit s.bits (v - s.first.z)) z ∙ among.here }))
       by (ahead x y z) = next x y z (cases_lt (h.one.z - s.first.z + 1) 64)
         where
           next : d.x ≡ h.one.x → d.y ≡ h.one.y → d.z ≡ h.one.z + 1
               → ((h.one.z - s.first.z + 1 < 64) ⊎ (64 ≤ h.one.z - s.first.z + 1)) → P d
           next x y z (inl l) =
-              let a = h.among in
-              let f = a.from in
-              let e : d.z - s.first.z ≡ h.one.z - s.first.z + 1 = omega arith in
-              p5 d (record { x = x ∙ a.x; y = y ∙ a.y; from = omega arith; to = omega arith; here = ap (bit (moved s.bits)) e ∙ up s.bits (h.one.z - s.first.z) l a.here })
+              let among = h.among in
+              let f = among.from in
+              let same_z : d.z - s.first.z ≡ h.one.z - s.first.z + 1 = omega arith in
+              p5 d (record { x = x ∙ among.x; y = y ∙ among.y; from = omega arith; to = omega arith; here = ap (bit (moved s.bits)) same_z ∙ up s.bits (h.one.z - s.first.z) l among.here })
           next x y z (inr l) =
-              let a = h.among in
-              let f = a.from in
-              let t = a.to in
+              let among = h.among in
+              let f = among.from in
+              let t = among.to in
               let k : h.one.z - s.first.z ≡ 63 + 0 = omega arith in
-              let e : d.z - (s.first.z + 64) ≡ 0 = omega arith in
+              let z_is : d.z - (s.first.z + 64) ≡ 0 = omega arith in
               p6 d (record {
-                x = x ∙ a.x;
-                y = y ∙ a.y;
+                x = x ∙ among.x;
+                y = y ∙ among.y;
                 from = omega arith;
                 to = omega arith;
-                here = ap (bit (s.bits / 2 ^ 63)) e ∙ is_one (bit_at (s.bits / 2 ^ 63) 0) (shifted_bit s.bits 63 0 ∙ (ap (bit_at s.bits) (sym k) ∙ one_of (bit_at s.bits (h.one.z - s.first.z)) a.here));
+                here = ap (bit (s.bits / 2 ^ 63)) z_is ∙ is_one (bit_at (s.bits / 2 ^ 63) 0) (shifted_bit s.bits 63 0 ∙ (ap (bit_at s.bits) (sym k) ∙ one_of (bit_at s.bits (h.one.z - s.first.z)) among.here));
               })
       by (behind x y z) = last x y z (cases_lt 0 (h.one.z - s.first.z))
         where
           last : d.x ≡ h.one.x → d.y ≡ h.one.y → h.one.z ≡ d.z + 1
               → ((0 < h.one.z - s.first.z) ⊎ (h.one.z - s.first.z ≤ 0)) → P d
           last x y z (inl l) =
-              let a = h.among in
-              let t = a.to in
-              let e : h.one.z - s.first.z ≡ d.z - s.first.z + 1 = omega arith in
-              p5 d (record { x = x ∙ a.x; y = y ∙ a.y; from = omega arith; to = omega arith; here = down s.bits (d.z - s.first.z) (ap (bit s.bits) (sym e) ∙ a.here) })
+              let among = h.among in
+              let t = among.to in
+              let same_z : h.one.z - s.first.z ≡ d.z - s.first.z + 1 = omega arith in
+              p5 d (record { x = x ∙ among.x; y = y ∙ among.y; from = omega arith; to = omega arith; here = down s.bits (d.z - s.first.z) (ap (bit s.bits) (sym same_z) ∙ among.here) })
           last x y z (inr l) =
-              let a = h.among in
-              let f = a.from in
+              let among = h.among in
+              let f = among.from in
               let each = start.each in
               let u = w.z in
               let k : h.one.z - s.first.z ≡ 63 - 63 = omega arith in
               let less : s.first.z ≡ word_less s.first.z + 64 = omega arith in
-              let e : d.z - word_less s.first.z ≡ 63 = omega arith in
+              let z_is : d.z - word_less s.first.z ≡ 63 = omega arith in
               p7 d (record {
-                x = x ∙ a.x;
-                y = y ∙ a.y;
+                x = x ∙ among.x;
+                y = y ∙ among.y;
                 from = omega arith;
                 to = omega arith;
-                here = ap (bit (s.bits * 2 ^ 63 % 2 ^ 64)) e ∙ is_one (bit_at (s.bits * 2 ^ 63 % 2 ^ 64) 63) (raised_bit s.bits 63 63 (omega arith) (omega arith) ∙ (ap (bit_at s.bits) (sym k) ∙ one_of (bit_at s.bits (h.one.z - s.first.z)) a.here));
+                here = ap (bit (s.bits * 2 ^ 63 % 2 ^ 64)) z_is ∙ is_one (bit_at (s.bits * 2 ^ 63 % 2 ^ 64) 63) (raised_bit s.bits 63 63 (omega arith) (omega arith) ∙ (ap (bit_at s.bits) (sym k) ∙ one_of (bit_at s.bits (h.one.z - s.first.z)) among.here));
               })

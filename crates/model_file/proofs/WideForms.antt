@@ -190,7 +190,7 @@ run_more r bytes old new at index sum run full h four less er nz fits set resolu
     back = omega arith
 
     few : (n : ℕ) → (n ≡ 0 → index ≡ 0) → index + 1 ≤ sum + n + 1
-    few zero z = let i : index ≡ 0 = z refl in omega arith
+    few zero z = let index_is : index ≡ 0 = z refl in omega arith
     few (suc n) z = omega (arith, h.few)
 
 -- ---- where the runs end
@@ -235,7 +235,7 @@ runs_end r bytes m at index sum full h none all =
     ∙ ap Ok (λ i. record { resolution = sym h.resolution i; voxels = sym same i })
   where
     size : length m.voxels ≡ length (voxels_of false h.done)
-    size = let w = h.whole in let v : volume m.resolution ≡ volume r = ap volume h.resolution in let e : volume m.resolution ≡ sum = omega (arith, h.most) in w.voxels ∙ (e ∙ sym h.size)
+    size = let whole = h.whole in let same_volume : volume m.resolution ≡ volume r = ap volume h.resolution in let volume_is : volume m.resolution ≡ sum = omega (arith, h.most) in whole.voxels ∙ (volume_is ∙ sym h.size)
 
     same : m.voxels ≡ voxels_of false h.done
     same = ext_get_or false m.voxels (voxels_of false h.done) size (λ p l. h.voxels p)

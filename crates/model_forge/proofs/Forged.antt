@@ -103,7 +103,7 @@ module _ (number : ℕ) (tower : Tower) (r x : ℕ) (m : Matrix) (same_r : m.res
 
       same : m.voxels ≡ (matrix_where r (is_forged number r tower)).voxels
       same = ext_get_or false m.voxels (matrix_where r (is_forged number r tower)).voxels (size ∙ sym (length-where r (is_forged number r tower)))
-          (λ p l. let k : p < r * r * r = omega (arith, size) in voxel p k ∙ sym (get_or-where r (is_forged number r tower) p k))
+          (λ p l. let below_r : p < r * r * r = omega (arith, size) in voxel p below_r ∙ sym (get_or-where r (is_forged number r tower) p below_r))
 
   -- the model of the definition
   pub done : tower.height ≡ tallest number r → (0 < tower.height → tower.z ≡ line_of_tallest number r)

@@ -11,7 +11,7 @@ pub same_bytes : (xs ys : List ℕ) → IsTrue (bytes_eq xs ys) → xs ≡ ys
 same_bytes [] [] h = refl
 same_bytes [] (y ∷ ys) h = cc
 same_bytes (x ∷ xs) [] h = cc
-same_bytes (x ∷ xs) (y ∷ ys) h = let e : x ≡ y = head x y (first_of_two (x == y) (bytes_eq xs ys) h) in λ i. e i ∷ same_bytes xs ys (second_of_two (x == y) (bytes_eq xs ys) h) i
+same_bytes (x ∷ xs) (y ∷ ys) h = let x_is : x ≡ y = head x y (first_of_two (x == y) (bytes_eq xs ys) h) in λ i. x_is i ∷ same_bytes xs ys (second_of_two (x == y) (bytes_eq xs ys) h) i
   where
     head : (a b : ℕ) → (a == b) ≡ true → a ≡ b
     head a b k = grind (arith, nat_tests)

@@ -51,10 +51,10 @@ alone b P h (suc k) d l = absurd (omega arith)
 -- the seeds of the first bot begin with 2, so its own bid is none of them
 pub first_bid : (profile : Profile) → IsFalse (is_seed (first_bot profile).seeds 1)
 first_bid profile =
-    let e : profile.seeds + 2 ≡ suc (suc profile.seeds) = omega arith in
+    let same_seeds : profile.seeds + 2 ≡ suc (suc profile.seeds) = omega arith in
     let rising = numbers_rise 2 profile.seeds in
     let two : 1 < 2 = omega arith in
-    rw e (seed_is 2 (numbers_from 2 profile.seeds) rising 1 ∙ none_below 2 (numbers_from 2 profile.seeds) rising 1 two)
+    rw same_seeds (seed_is 2 (numbers_from 2 profile.seeds) rising 1 ∙ none_below 2 (numbers_from 2 profile.seeds) rising 1 two)
 
 -- the opening of a legal model is well-formed
 pub well_formed_opening : (m : Matrix) (profile : Profile) → IsLegal m → IsWellFormed (opening m profile)

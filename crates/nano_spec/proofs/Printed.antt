@@ -293,24 +293,24 @@ says line c p b h = is_says line c (plain_low line p) (ap (list_all is_blank) (c
 one_read : (d : Diff) → IsSmall d
     → Contains (readings (difference_parts ++ Blanks ∷ []) (spaced d)) (d.dx ∷ d.dy ∷ d.dz ∷ [])
 one_read d s =
-    let h : In (d.dx ∷ d.dy ∷ d.dz ∷ []) (readings (difference_parts ++ Blanks ∷ []) (spaced d ++ [])) = reads_difference (Blanks ∷ []) d [] [] s (inl refl) in
-    contained (d.dx ∷ d.dy ∷ d.dz ∷ []) (readings (difference_parts ++ Blanks ∷ []) (spaced d)) (subst (λ (t : List ℕ). In (d.dx ∷ d.dy ∷ d.dz ∷ []) (readings (difference_parts ++ Blanks ∷ []) t)) (append_none (spaced d)) h)
+    let member : In (d.dx ∷ d.dy ∷ d.dz ∷ []) (readings (difference_parts ++ Blanks ∷ []) (spaced d ++ [])) = reads_difference (Blanks ∷ []) d [] [] s (inl refl) in
+    contained (d.dx ∷ d.dy ∷ d.dz ∷ []) (readings (difference_parts ++ Blanks ∷ []) (spaced d)) (subst (λ (t : List ℕ). In (d.dx ∷ d.dy ∷ d.dz ∷ []) (readings (difference_parts ++ Blanks ∷ []) t)) (append_none (spaced d)) member)
 
 two_read : (d e : Diff) → IsSmall d → IsSmall e
     → Contains (readings (difference_parts ++ difference_parts ++ Blanks ∷ []) (spaced d ++ spaced e))
     (d.dx ∷ d.dy ∷ d.dz ∷ e.dx ∷ e.dy ∷ e.dz ∷ [])
 two_read d e s t =
     let h : In (e.dx ∷ e.dy ∷ e.dz ∷ []) (readings (difference_parts ++ Blanks ∷ []) (spaced e ++ [])) = reads_difference (Blanks ∷ []) e [] [] t (inl refl) in
-    let k : In (e.dx ∷ e.dy ∷ e.dz ∷ []) (readings (difference_parts ++ Blanks ∷ []) (spaced e)) = subst (λ (u : List ℕ). In (e.dx ∷ e.dy ∷ e.dz ∷ []) (readings (difference_parts ++ Blanks ∷ []) u)) (append_none (spaced e)) h in
-    contained (d.dx ∷ d.dy ∷ d.dz ∷ e.dx ∷ e.dy ∷ e.dz ∷ []) (readings (difference_parts ++ difference_parts ++ Blanks ∷ []) (spaced d ++ spaced e)) (reads_difference (difference_parts ++ Blanks ∷ []) d (spaced e) (e.dx ∷ e.dy ∷ e.dz ∷ []) s k)
+    let member : In (e.dx ∷ e.dy ∷ e.dz ∷ []) (readings (difference_parts ++ Blanks ∷ []) (spaced e)) = subst (λ (u : List ℕ). In (e.dx ∷ e.dy ∷ e.dz ∷ []) (readings (difference_parts ++ Blanks ∷ []) u)) (append_none (spaced e)) h in
+    contained (d.dx ∷ d.dy ∷ d.dz ∷ e.dx ∷ e.dy ∷ e.dz ∷ []) (readings (difference_parts ++ difference_parts ++ Blanks ∷ []) (spaced d ++ spaced e)) (reads_difference (difference_parts ++ Blanks ∷ []) d (spaced e) (e.dx ∷ e.dy ∷ e.dz ∷ []) s member)
 
 number_too : (d : Diff) (m : ℕ) → IsSmall d → m < 256
     → Contains (readings (difference_parts ++ Blanks ∷ Number ∷ Blanks ∷ []) ((spaced d ++ 32 ∷ []) ++ decimal m))
     (d.dx ∷ d.dy ∷ d.dz ∷ pos m ∷ [])
 number_too d m s l =
     let h : In (pos m ∷ []) (readings (Number ∷ Blanks ∷ []) (decimal m ++ [])) = reads_number (Blanks ∷ []) (pos m) [] [] l (inl refl) in
-    let k : In (pos m ∷ []) (readings (Number ∷ Blanks ∷ []) (decimal m)) = subst (λ (u : List ℕ). In (pos m ∷ []) (readings (Number ∷ Blanks ∷ []) u)) (append_none (decimal m)) h in
-    let spaced_too : In (pos m ∷ []) (readings (Blanks ∷ Number ∷ Blanks ∷ []) (32 ∷ decimal m)) = reads_space (Number ∷ Blanks ∷ []) (decimal m) (pos m ∷ []) (reads_here (Number ∷ Blanks ∷ []) (decimal m) (pos m ∷ []) k) in
+    let member : In (pos m ∷ []) (readings (Number ∷ Blanks ∷ []) (decimal m)) = subst (λ (u : List ℕ). In (pos m ∷ []) (readings (Number ∷ Blanks ∷ []) u)) (append_none (decimal m)) h in
+    let spaced_too : In (pos m ∷ []) (readings (Blanks ∷ Number ∷ Blanks ∷ []) (32 ∷ decimal m)) = reads_space (Number ∷ Blanks ∷ []) (decimal m) (pos m ∷ []) (reads_here (Number ∷ Blanks ∷ []) (decimal m) (pos m ∷ []) member) in
     let all : In (d.dx ∷ d.dy ∷ d.dz ∷ pos m ∷ []) (readings (difference_parts ++ Blanks ∷ Number ∷ Blanks ∷ []) (spaced d ++ (32 ∷ decimal m))) = reads_difference (Blanks ∷ Number ∷ Blanks ∷ []) d (32 ∷ decimal m) (pos m ∷ []) s spaced_too in
     contained (d.dx ∷ d.dy ∷ d.dz ∷ pos m ∷ []) (readings (difference_parts ++ Blanks ∷ Number ∷ Blanks ∷ []) ((spaced d ++ 32 ∷ []) ++ decimal m))
     (subst (λ (u : List ℕ). In (d.dx ∷ d.dy ∷ d.dz ∷ pos m ∷ []) (readings (difference_parts ++ Blanks ∷ Number ∷ Blanks ∷ []) u)) (sym (append_assoc (spaced d) (32 ∷ []) (decimal m))) all)
@@ -323,37 +323,37 @@ says_printed Halt h = refl
 says_printed Wait h = refl
 says_printed Flip h = refl
 says_printed (SMove d) h =
-    let s : IsSmall d = long_small d h in
-    says (printed (SMove d)) (SMove d) (plain_append (codes "SMove") (spaced d) refl (plain_spaced d s)) refl (_, d.dx ∷ d.dy ∷ d.dz ∷ [], refl, one_read d s, refl, h)
+    let small : IsSmall d = long_small d h in
+    says (printed (SMove d)) (SMove d) (plain_append (codes "SMove") (spaced d) refl (plain_spaced d small)) refl (_, d.dx ∷ d.dy ∷ d.dz ∷ [], refl, one_read d small, refl, h)
 says_printed (LMove d e) h =
     let s : IsSmall d = short_small d (first_of_two (is_short d) (is_short e) h) in
-    let t : IsSmall e = short_small e (second_of_two (is_short d) (is_short e) h) in
-    says (printed (LMove d e)) (LMove d e) (plain_append (codes "LMove" ++ spaced d) (spaced e) (plain_append (codes "LMove") (spaced d) refl (plain_spaced d s)) (plain_spaced e t)) refl (_, d.dx ∷ d.dy ∷ d.dz ∷ e.dx ∷ e.dy ∷ e.dz ∷ [], refl, two_read d e s t, refl, h)
+    let small : IsSmall e = short_small e (second_of_two (is_short d) (is_short e) h) in
+    says (printed (LMove d e)) (LMove d e) (plain_append (codes "LMove" ++ spaced d) (spaced e) (plain_append (codes "LMove") (spaced d) refl (plain_spaced d s)) (plain_spaced e small)) refl (_, d.dx ∷ d.dy ∷ d.dz ∷ e.dx ∷ e.dy ∷ e.dz ∷ [], refl, two_read d e s small, refl, h)
 says_printed (FusionP d) h =
-    let s : IsSmall d = near_small d h in
-    says (printed (FusionP d)) (FusionP d) (plain_append (codes "FusionP") (spaced d) refl (plain_spaced d s)) refl (_, d.dx ∷ d.dy ∷ d.dz ∷ [], refl, one_read d s, refl, h)
+    let small : IsSmall d = near_small d h in
+    says (printed (FusionP d)) (FusionP d) (plain_append (codes "FusionP") (spaced d) refl (plain_spaced d small)) refl (_, d.dx ∷ d.dy ∷ d.dz ∷ [], refl, one_read d small, refl, h)
 says_printed (FusionS d) h =
-    let s : IsSmall d = near_small d h in
-    says (printed (FusionS d)) (FusionS d) (plain_append (codes "FusionS") (spaced d) refl (plain_spaced d s)) refl (_, d.dx ∷ d.dy ∷ d.dz ∷ [], refl, one_read d s, refl, h)
+    let small : IsSmall d = near_small d h in
+    says (printed (FusionS d)) (FusionS d) (plain_append (codes "FusionS") (spaced d) refl (plain_spaced d small)) refl (_, d.dx ∷ d.dy ∷ d.dz ∷ [], refl, one_read d small, refl, h)
 says_printed (Fission d m) h =
     let near : IsTrue (is_near d) = first_of_two (is_near d) (nat_lt m 256) h in
-    let s : IsSmall d = near_small d near in
-    let l : m < 256 = below_256 m (second_of_two (is_near d) (nat_lt m 256) h) in
-    says (printed (Fission d m)) (Fission d m) (plain_append ((codes "Fission" ++ spaced d) ++ 32 ∷ []) (decimal m) (plain_append (codes "Fission" ++ spaced d) (32 ∷ []) (plain_append (codes "Fission") (spaced d) refl (plain_spaced d s)) refl) (plain_decimal m l)) refl (_, d.dx ∷ d.dy ∷ d.dz ∷ pos m ∷ [], refl, number_too d m s l, refl, h)
+    let small : IsSmall d = near_small d near in
+    let m_below_256 : m < 256 = below_256 m (second_of_two (is_near d) (nat_lt m 256) h) in
+    says (printed (Fission d m)) (Fission d m) (plain_append ((codes "Fission" ++ spaced d) ++ 32 ∷ []) (decimal m) (plain_append (codes "Fission" ++ spaced d) (32 ∷ []) (plain_append (codes "Fission") (spaced d) refl (plain_spaced d small)) refl) (plain_decimal m m_below_256)) refl (_, d.dx ∷ d.dy ∷ d.dz ∷ pos m ∷ [], refl, number_too d m small m_below_256, refl, h)
 says_printed (Fill d) h =
-    let s : IsSmall d = near_small d h in
-    says (printed (Fill d)) (Fill d) (plain_append (codes "Fill") (spaced d) refl (plain_spaced d s)) refl (_, d.dx ∷ d.dy ∷ d.dz ∷ [], refl, one_read d s, refl, h)
+    let small : IsSmall d = near_small d h in
+    says (printed (Fill d)) (Fill d) (plain_append (codes "Fill") (spaced d) refl (plain_spaced d small)) refl (_, d.dx ∷ d.dy ∷ d.dz ∷ [], refl, one_read d small, refl, h)
 says_printed (Void d) h =
-    let s : IsSmall d = near_small d h in
-    says (printed (Void d)) (Void d) (plain_append (codes "Void") (spaced d) refl (plain_spaced d s)) refl (_, d.dx ∷ d.dy ∷ d.dz ∷ [], refl, one_read d s, refl, h)
+    let small : IsSmall d = near_small d h in
+    says (printed (Void d)) (Void d) (plain_append (codes "Void") (spaced d) refl (plain_spaced d small)) refl (_, d.dx ∷ d.dy ∷ d.dz ∷ [], refl, one_read d small, refl, h)
 says_printed (GFill d f) h =
     let s : IsSmall d = near_small d (first_of_two (is_near d) (is_far f) h) in
-    let t : IsSmall f = far_small f (second_of_two (is_near d) (is_far f) h) in
-    says (printed (GFill d f)) (GFill d f) (plain_append (codes "GFill" ++ spaced d) (spaced f) (plain_append (codes "GFill") (spaced d) refl (plain_spaced d s)) (plain_spaced f t)) refl (_, d.dx ∷ d.dy ∷ d.dz ∷ f.dx ∷ f.dy ∷ f.dz ∷ [], refl, two_read d f s t, refl, h)
+    let small : IsSmall f = far_small f (second_of_two (is_near d) (is_far f) h) in
+    says (printed (GFill d f)) (GFill d f) (plain_append (codes "GFill" ++ spaced d) (spaced f) (plain_append (codes "GFill") (spaced d) refl (plain_spaced d s)) (plain_spaced f small)) refl (_, d.dx ∷ d.dy ∷ d.dz ∷ f.dx ∷ f.dy ∷ f.dz ∷ [], refl, two_read d f s small, refl, h)
 says_printed (GVoid d f) h =
     let s : IsSmall d = near_small d (first_of_two (is_near d) (is_far f) h) in
-    let t : IsSmall f = far_small f (second_of_two (is_near d) (is_far f) h) in
-    says (printed (GVoid d f)) (GVoid d f) (plain_append (codes "GVoid" ++ spaced d) (spaced f) (plain_append (codes "GVoid") (spaced d) refl (plain_spaced d s)) (plain_spaced f t)) refl (_, d.dx ∷ d.dy ∷ d.dz ∷ f.dx ∷ f.dy ∷ f.dz ∷ [], refl, two_read d f s t, refl, h)
+    let small : IsSmall f = far_small f (second_of_two (is_near d) (is_far f) h) in
+    says (printed (GVoid d f)) (GVoid d f) (plain_append (codes "GVoid" ++ spaced d) (spaced f) (plain_append (codes "GVoid") (spaced d) refl (plain_spaced d s)) (plain_spaced f small)) refl (_, d.dx ∷ d.dy ∷ d.dz ∷ f.dx ∷ f.dy ∷ f.dz ∷ [], refl, two_read d f s small, refl, h)
 
 plain_printed : (c : Command) → IsCommand c → Plain (printed c)
 plain_printed Halt h = refl

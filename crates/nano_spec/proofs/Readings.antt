@@ -87,7 +87,7 @@ no_both b h = by (is_blank b) refl
 pub no_digit : (ps : List Part) (b : ℕ) (more : List ℕ) → IsTrue (is_free ps) → IsTrue (is_digit b)
     → readings ps (b ∷ more) ≡ []
 no_digit [] b more h k = refl
-no_digit (Blanks ∷ ps) b more h k = let e : is_blank b ≡ false = no_both b k in rw e (append_none (readings ps (b ∷ more)) ∙ no_digit ps b more h k)
+no_digit (Blanks ∷ ps) b more h k = let not_blank : is_blank b ≡ false = no_both b k in rw not_blank (append_none (readings ps (b ∷ more)) ∙ no_digit ps b more h k)
 no_digit (Mark m ∷ ps) b more h k = no_mark is_digit b m (List ℤ) (readings ps more) k h
 no_digit (Number ∷ ps) b more h k = cc
 

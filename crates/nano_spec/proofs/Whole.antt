@@ -59,10 +59,10 @@ voxels_length : (value : Bool) (runs : List ℕ) → length (voxels_of value run
 unfolding sum_of
 voxels_length value [] = refl
 voxels_length value (run ∷ runs) =
-    let e : length (replicate run value ++ voxels_of (not value) runs) ≡ length (replicate run value) + length (voxels_of (not value) runs) = length-append (replicate run value) (voxels_of (not value) runs) in
+    let same_length : length (replicate run value ++ voxels_of (not value) runs) ≡ length (replicate run value) + length (voxels_of (not value) runs) = length-append (replicate run value) (voxels_of (not value) runs) in
     let f : length (replicate run value) ≡ run = length-replicate run value in
-    let g : length (voxels_of (not value) runs) ≡ sum_of runs = voxels_length (not value) runs in
-    e ∙ (λ i. f i + g i)
+    let length_is : length (voxels_of (not value) runs) ≡ sum_of runs = voxels_length (not value) runs in
+    same_length ∙ (λ i. f i + length_is i)
 
 within : (total index sum run : ℕ) → is_no_run total index sum run ≡ false → sum + run ≤ total
 within total index sum run h = grind (arith, nat_tests)
@@ -84,7 +84,7 @@ runs_sum [] total index sum runs l h = by (nat_lt sum total) refl h
         → ◌≡◌ {A = Result (List ℕ) NoModel} (elim b [ true ↦ Err (WideShort sum) | false ↦ Ok [] ]) (Ok runs)
         → sum + sum_of runs ≡ total
     by true e k = cc
-    by false e k = ap (λ ns. sum + sum_of ns) (sym (is_ok k)) ∙ (let f : sum ≡ total = at_end sum total e l in omega arith)
+    by false e k = ap (λ ns. sum + sum_of ns) (sym (is_ok k)) ∙ (let sum_is : sum ≡ total = at_end sum total e l in omega arith)
 runs_sum (a ∷ []) total index sum runs l h = absurd (no_whole_run sum total runs (nat_lt sum total) h)
 runs_sum (a ∷ b ∷ []) total index sum runs l h = absurd (no_whole_run sum total runs (nat_lt sum total) h)
 runs_sum (a ∷ b ∷ c ∷ []) total index sum runs l h = absurd (no_whole_run sum total runs (nat_lt sum total) h)
@@ -100,7 +100,7 @@ runs_sum (a ∷ b ∷ c ∷ d ∷ more) total index sum runs l h =
     by true false e (Ok ns) later k =
         let n = number_of_four a b c d in
         let s : (sum + n) + sum_of ns ≡ total = later ns (within total index sum n e) refl in
-        ap (λ ks. sum + sum_of ks) (sym (is_ok k)) ∙ (let g : sum + (n + sum_of ns) ≡ total = omega arith in g)
+        ap (λ ks. sum + sum_of ks) (sym (is_ok k)) ∙ (let sum_is : sum + (n + sum_of ns) ≡ total = omega arith in sum_is)
 
 wide_whole : (r : ℕ) (bytes : List ℕ) (m : Matrix) → wide_model r bytes ≡ Ok m → IsWhole m
 unfolding sum_of
@@ -114,9 +114,9 @@ wide_whole r bytes m h = by (nat_le 251 r && nat_le r 400) (runs_in (volume r) 0
     by true (Err w) e f k = cc
     by true (Ok runs) e f k =
         let s : 0 + sum_of runs ≡ volume r = runs_sum bytes (volume r) 0 0 runs (omega arith) f in
-        let g : length (voxels_of false runs) ≡ sum_of runs = voxels_length false runs in
+        let length_is : length (voxels_of false runs) ≡ sum_of runs = voxels_length false runs in
         let l = between_by_tests r 251 400 e in
-        subst (λ (n : Matrix). IsWhole n) (is_ok k) (record { some = omega (arith, l.0); most = l.1; whole = g ∙ (let t : sum_of runs ≡ volume r = omega arith in t) })
+        subst (λ (n : Matrix). IsWhole n) (is_ok k) (record { some = omega (arith, l.0); most = l.1; whole = length_is ∙ (let sum_is : sum_of runs ≡ volume r = omega arith in sum_is) })
 
 form_whole : (bytes : List ℕ) (m : Matrix) → wide_form bytes ≡ Ok m → IsWhole m
 form_whole [] m h = cc

@@ -51,25 +51,25 @@ full_light s t s' t' b b' e = cc
 pub row_once : (words : List (List ℕ)) (row row' : Row) → IsRow words row → IsRow words row' → row ≡ row'
 row_once words (check m) (check m') h h' = check_check m m' (sym h.written ∙ h'.written)
 row_once words (run Full s t b) (run Full s' t' b') h h' =
-    let e : codes "run" ∷ side_word s ∷ side_word t ∷ b ∷ [] ≡ codes "run" ∷ side_word s' ∷ side_word t' ∷ b' ∷ [] = sym h.written ∙ h'.written in
+    let same_codes : codes "run" ∷ side_word s ∷ side_word t ∷ b ∷ [] ≡ codes "run" ∷ side_word s' ∷ side_word t' ∷ b' ∷ [] = sym h.written ∙ h'.written in
     same_operands (run Full) s t s' t' b b' h.named h'.named (cc) (cc) (cc)
 row_once words (run Light s t b) (run Light s' t' b') h h' =
-    let e : codes "run" ∷ codes "light" ∷ side_word s ∷ side_word t ∷ b ∷ [] ≡ codes "run" ∷ codes "light" ∷ side_word s' ∷ side_word t' ∷ b' ∷ [] = sym h.written ∙ h'.written in
+    let same_codes : codes "run" ∷ codes "light" ∷ side_word s ∷ side_word t ∷ b ∷ [] ≡ codes "run" ∷ codes "light" ∷ side_word s' ∷ side_word t' ∷ b' ∷ [] = sym h.written ∙ h'.written in
     same_operands (run Light) s t s' t' b b' h.named h'.named (cc) (cc) (cc)
 row_once words (run Full s t b) (run Light s' t' b') h h' = absurd (full_light s t s' t' b b' (sym h.written ∙ h'.written))
 row_once words (run Light s t b) (run Full s' t' b') h h' = absurd (full_light s' t' s t b' b (sym h'.written ∙ h.written))
 row_once words (asm x b) (asm x' b') h h' = same_asm x b x' b' (sym h.written ∙ h'.written)
 row_once words (dis b x) (dis b' x') h h' = same_dis b x b' x' (sym h.written ∙ h'.written)
 row_once words (make n r m) (make n' r' m') h h' =
-    let e : codes "make" ∷ decimal n ∷ decimal r ∷ m ∷ [] ≡ codes "make" ∷ decimal n' ∷ decimal r' ∷ m' ∷ [] = sym h.written ∙ h'.written in
+    let same_codes : codes "make" ∷ decimal n ∷ decimal r ∷ m ∷ [] ≡ codes "make" ∷ decimal n' ∷ decimal r' ∷ m' ∷ [] = sym h.written ∙ h'.written in
     let em : m ≡ m' = cc in
     let same = same_numbers n r n' r' h.of_table h'.of_table (cc) (cc) in
     λ i. make (same.0 i) (same.1 i) (em i)
 row_once words (plan p s t b) (plan p' s' t' b') h h' =
-    let e : codes "plan" ∷ planner_word p ∷ side_word s ∷ side_word t ∷ b ∷ [] ≡ codes "plan" ∷ planner_word p' ∷ side_word s' ∷ side_word t' ∷ b' ∷ [] = sym h.written ∙ h'.written in
+    let same_codes : codes "plan" ∷ planner_word p ∷ side_word s ∷ side_word t ∷ b ∷ [] ≡ codes "plan" ∷ planner_word p' ∷ side_word s' ∷ side_word t' ∷ b' ∷ [] = sym h.written ∙ h'.written in
     ap (λ (planner : Planner). plan planner s t b) (same_planner p p' (cc)) ∙ same_operands (plan p') s t s' t' b b' (trace_last s t b h.named) (trace_last s' t' b' h'.named) (cc) (cc) (cc)
 row_once words (exercise n r) (exercise n' r') h h' =
-    let e : codes "exercise" ∷ decimal n ∷ decimal r ∷ [] ≡ codes "exercise" ∷ decimal n' ∷ decimal r' ∷ [] = sym h.written ∙ h'.written in
+    let same_codes : codes "exercise" ∷ decimal n ∷ decimal r ∷ [] ≡ codes "exercise" ∷ decimal n' ∷ decimal r' ∷ [] = sym h.written ∙ h'.written in
     let same = same_numbers n r n' r' h.of_table h'.of_table (cc) (cc) in
     λ i. exercise (same.0 i) (same.1 i)
 row_once words (debug s b x) (debug s' b' x') h h' = same_debug s b x s' b' x' (sym h.written ∙ h'.written)

@@ -110,7 +110,7 @@ module _ (words : List (List ℕ)) (f g x y z : List ℕ) (are : words ≡ f ∷
   -- those of a run under the light profile
   pub light_operands : IsRow words (run Light s t b) → AreOperands x y z s t b
   light_operands row =
-      let e : f ∷ g ∷ x ∷ y ∷ z ∷ [] ≡ codes "run" ∷ codes "light" ∷ side_word s ∷ side_word t ∷ b ∷ [] = sym are ∙ row.written in
+      let f_is : f ∷ g ∷ x ∷ y ∷ z ∷ [] ≡ codes "run" ∷ codes "light" ∷ side_word s ∷ side_word t ∷ b ∷ [] = sym are ∙ row.written in
       record { source_is = cc; target_is = cc; trace_is = cc; named = row.named; of_table = row.of_table }
 
   module _ (p : Planner) (row : IsRow words (plan p s t b)) where

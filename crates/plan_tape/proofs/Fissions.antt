@@ -73,12 +73,12 @@ few_after s commands = let h = few_in_all (acts s.bots commands) s.bots commands
 -- there are no more bots than those that were made, and the first one
 few_reached : (source : Matrix) (profile : Profile) (commands : List Command) (s : State) (steps : ℕ)
     → Reaches source profile commands s steps → length s.bots ≤ 1 + count_by is_fission commands
-few_reached source profile commands s steps (starts e f g) = let l : length s.bots ≡ 1 = ap (λ (t : State). length t.bots) f in omega arith
+few_reached source profile commands s steps (starts e f g) = let length_is : length s.bots ≡ 1 = ap (λ (t : State). length t.bots) f in omega arith
 few_reached source profile commands s steps (steps_on t before step done r some l next e f) =
     let h = few_reached source profile before t done r in
     let k = few_after t step in
-    let m : length s.bots ≡ length (after t step).bots = ap (λ (u : State). length u.bots) (accepted_step t s step (done + 1) next).is in
-    let c : count_by is_fission commands ≡ count_by is_fission before + count_by is_fission step = ap (count_by is_fission) e ∙ sum_by-append (λ x. cond {A = ℕ} (is_fission x) 1 0) before step in
+    let same_length : length s.bots ≡ length (after t step).bots = ap (λ (u : State). length u.bots) (accepted_step t s step (done + 1) next).is in
+    let same_count : count_by is_fission commands ≡ count_by is_fission before + count_by is_fission step = ap (count_by is_fission) e ∙ sum_by-append (λ x. cond {A = ℕ} (is_fission x) 1 0) before step in
     omega arith
 
 -- where few commands make bots there are few bots at all times
@@ -86,7 +86,7 @@ pub few_at_most : (source : Matrix) (profile : Profile) (commands : List Command
     → 1 + count_by is_fission commands ≤ n → HasAtMost source profile commands n
 few_at_most source profile commands n le = λ before rest s steps e r.
     let h = few_reached source profile before s steps r in
-    let c : count_by is_fission commands ≡ count_by is_fission before + count_by is_fission rest = ap (count_by is_fission) e ∙ sum_by-append (λ x. cond {A = ℕ} (is_fission x) 1 0) before rest in
+    let same_count : count_by is_fission commands ≡ count_by is_fission before + count_by is_fission rest = ap (count_by is_fission) e ∙ sum_by-append (λ x. cond {A = ℕ} (is_fission x) 1 0) before rest in
     omega arith
 
 -- ---- tapes
@@ -116,14 +116,14 @@ fissions_none p e = ap (count_by is_fission) e
 -- moves make no bot
 pub moves_make_none : (p q : TapeState) (to : Coord) → Moves p q to → fissions q ≡ fissions p
 moves_make_none p q to h =
-    let l = h.legs in
-    let x = no_fission_in_leg X (spot p.bots).x to.x l.x l.along_x.leg in
-    let y = no_fission_in_leg Y (spot p.bots).y to.y l.y l.along_y.leg in
-    let z = no_fission_in_leg Z (spot p.bots).z to.z l.z l.along_z.leg in
+    let legs = h.legs in
+    let x = no_fission_in_leg X (spot p.bots).x to.x legs.x legs.along_x.leg in
+    let y = no_fission_in_leg Y (spot p.bots).y to.y legs.y legs.along_y.leg in
+    let z = no_fission_in_leg Z (spot p.bots).z to.z legs.z legs.along_z.leg in
     let f = λ (c : Command). cond {A = ℕ} (is_fission c) 1 0 in
-    let xy : count_by is_fission (l.x ++ l.y) ≡ count_by is_fission l.x + count_by is_fission l.y = sum_by-append f l.x l.y in
-    let xyz : count_by is_fission (l.x ++ l.y ++ l.z) ≡ count_by is_fission (l.x ++ l.y) + count_by is_fission l.z = sum_by-append f (l.x ++ l.y) l.z in
-    let all : count_by is_fission h.commands ≡ count_by is_fission (l.x ++ l.y ++ l.z) = ap (count_by is_fission) l.joined in
+    let xy : count_by is_fission (legs.x ++ legs.y) ≡ count_by is_fission legs.x + count_by is_fission legs.y = sum_by-append f legs.x legs.y in
+    let xyz : count_by is_fission (legs.x ++ legs.y ++ legs.z) ≡ count_by is_fission (legs.x ++ legs.y) + count_by is_fission legs.z = sum_by-append f (legs.x ++ legs.y) legs.z in
+    let all : count_by is_fission h.commands ≡ count_by is_fission (legs.x ++ legs.y ++ legs.z) = ap (count_by is_fission) legs.joined in
     let none : count_by is_fission h.commands ≡ 0 = omega arith in
     let more = fissions_more p q h.commands 0 h.added none in
     omega arith

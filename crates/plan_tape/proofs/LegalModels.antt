@@ -51,10 +51,10 @@ five false b c d e h = cc
 -- a full voxel of a legal model is in the legal box
 pub full_in_box : (m : Matrix) (c : Coord) → IsLegal m → is_full m c ≡ true → IsInBox m.resolution c
 full_in_box m c h f =
-    let r = m.resolution in
-    let inside = second_by_and_not (is_full m c) (in_legal_box r c) (find_none (λ d. is_full m d && not (in_legal_box r d)) c (all_of m) (legal_is m h).0 (in_coordinates r c (full_within m c f))) f in
-    let t = five (nat_le 1 c.x) (nat_lt (c.x + 1) r) (nat_lt (c.y + 1) r) (nat_le 1 c.z) (nat_lt (c.z + 1) r) inside in
-    record { x = at_most_by_test 1 c.x t.0; x_end = less_by_test (c.x + 1) r t.1; y_end = less_by_test (c.y + 1) r t.2; z = at_most_by_test 1 c.z t.3; z_end = less_by_test (c.z + 1) r t.4 }
+    let resolution = m.resolution in
+    let inside = second_by_and_not (is_full m c) (in_legal_box resolution c) (find_none (λ d. is_full m d && not (in_legal_box resolution d)) c (all_of m) (legal_is m h).0 (in_coordinates resolution c (full_within m c f))) f in
+    let t = five (nat_le 1 c.x) (nat_lt (c.x + 1) resolution) (nat_lt (c.y + 1) resolution) (nat_le 1 c.z) (nat_lt (c.z + 1) resolution) inside in
+    record { x = at_most_by_test 1 c.x t.0; x_end = less_by_test (c.x + 1) resolution t.1; y_end = less_by_test (c.y + 1) resolution t.2; z = at_most_by_test 1 c.z t.3; z_end = less_by_test (c.z + 1) resolution t.4 }
 
 -- so a voxel that cannot be there is void
 pub outside_is_void : (m : Matrix) (c : Coord) → IsLegal m → (IsInBox m.resolution c → ⊥) → is_full m c ≡ false
@@ -64,7 +64,7 @@ pub void_at_border : (m : Matrix) → IsLegal m → (c : Coord) → c.x ≡ 0 �
 void_at_border m h c e = outside_is_void m c h (λ b. let x = b.x in omega arith)
 
 pub void_at_top : (m : Matrix) → IsLegal m → IsVoidFrom m (m.resolution - 1)
-void_at_top m h = λ c l. outside_is_void m c h (λ b. let y = b.y_end in omega arith)
+void_at_top m h = λ c l. outside_is_void m c h (λ b. let y_end = b.y_end in omega arith)
 
 -- a matrix that is a legal model is grounded
 pub grounded_at : (m n : Matrix) → m ≡ n → IsLegal n → FirstUngrounded m None

@@ -11,10 +11,10 @@ push_length old new k e = ap length e ∙ length-append old (k ∷ [])
 pub legs_length : (p q : TapeState) (to : Coord) → Moves p q to
     → length q.commands ≡ length p.commands + moves_to (spot p.bots) to
 legs_length p q to m =
-    let l = m.legs in
+    let legs = m.legs in
     let added = ap length m.added ∙ length-append p.commands m.commands in
-    let joined = ap length l.joined ∙ (length-append (l.x ++ l.y) l.z ∙ ap (λ n. n + length l.z) (length-append l.x l.y)) in
-    let x = l.along_x.least in
-    let y = l.along_y.least in
-    let z = l.along_z.least in
-    omega (arith, added, joined, x, y, z)
+    let joined = ap length legs.joined ∙ (length-append (legs.x ++ legs.y) legs.z ∙ ap (λ n. n + length legs.z) (length-append legs.x legs.y)) in
+    let x = legs.along_x.least in
+    let y = legs.along_y.least in
+    let least = legs.along_z.least in
+    omega (arith, added, joined, x, y, least)

@@ -86,7 +86,7 @@ pub none_in_row : (x y : ℕ) (c : Coord) → in_row x y 0 c ≡ false
 none_in_row x y c = no_z (c.x == x) (c.y == y) c.z
 
 no_x : (b : Bool) (v : ℕ) → (nat_lt v 0 && b) ≡ false
-no_x b v = rw (let e : nat_lt v 0 ≡ false = grind (arith, nat_tests) in e) refl
+no_x b v = rw (let not_nat_lt : nat_lt v 0 ≡ false = grind (arith, nat_tests) in not_nat_lt) refl
 
 pub none_in_layer : (y : ℕ) (c : Coord) → in_layer 0 y c ≡ false
 none_in_layer y c = no_x (c.y == y) c.x

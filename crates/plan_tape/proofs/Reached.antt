@@ -52,7 +52,7 @@ module _ (target : Matrix) (s t : State) (step rest : List Command) (done : ℕ)
 
   -- what comes of the commands from the state before the step comes of the rest from the state after it
   one_after : Run target s (step ++ rest) done v → Run target t rest (done + 1) v
-  one_after (ends none f) = absurd (let l : length s.bots ≡ 0 = ap length none in omega arith)
+  one_after (ends none f) = absurd (let length_is : length s.bots ≡ 0 = ap length none in omega arith)
   one_after (breaks {b = b} a n f) =
       let fails : Next s step (done + 1) (Breaks b) = subst (λ (k : List Command). Next s k (done + 1) (Breaks b)) front n in
       absurd (let no = Next-unique s step (done + 1) (Breaks b) (Goes t) fails next in cc)

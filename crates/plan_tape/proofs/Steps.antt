@@ -178,7 +178,7 @@ move_bytes : (axis : Axis) (a b : ℕ) (moves : List Command) → IsLeg axis a b
 move_bytes axis a b [] l = refl
 move_bytes axis a b (k ∷ more) l =
     let rest = move_bytes axis l.0 b more l.3 in
-    rw l.1 (let e : suc (suc (length (spellings more))) ≡ 2 * suc (length more) = omega arith in e)
+    rw l.1 (let same_length : suc (suc (length (spellings more))) ≡ 2 * suc (length more) = omega arith in same_length)
 
 onward_gap : (a v b : ℕ) → IsOnward a v b → gap a b ≡ gap a v + gap v b
 onward_gap a v b (inl h) = omega arith
@@ -275,7 +275,7 @@ walked (k ∷ more) p axis a b w g alone i at l may v leg r =
 length-joined : (x y z : List Command) → length (x ++ y ++ z) ≡ length x + length y + length z
 length-joined x y z =
     let a : length (x ++ y ++ z) ≡ length (x ++ y) + length z = length-append (x ++ y) z in
-    let b : length (x ++ y) ≡ length x + length y = length-append x y in
+    let same_length : length (x ++ y) ≡ length x + length y = length-append x y in
     omega arith
 
 pub spellings-joined : (x y : List Command) → length (spellings (x ++ y)) ≡ length (spellings x) + length (spellings y)
@@ -303,9 +303,9 @@ module _ (p : TapeState) (to : Coord) (moves : List Command) (legs : AreLegs (sp
   legs_length =
       let a = legs.along_x.least in
       let b = legs.along_y.least in
-      let c = legs.along_z.least in
+      let least = legs.along_z.least in
       let l = length-joined legs.x legs.y legs.z in
-      ap length legs.joined ∙ (let e : length (legs.x ++ legs.y ++ legs.z) ≡ moves_to (spot p.bots) to = omega arith in e)
+      ap length legs.joined ∙ (let length_is : length (legs.x ++ legs.y ++ legs.z) ≡ moves_to (spot p.bots) to = omega arith in length_is)
 
   pub legs_bytes : length (spellings moves) ≡ 2 * moves_to (spot p.bots) to
   legs_bytes =
@@ -314,10 +314,10 @@ module _ (p : TapeState) (to : Coord) (moves : List Command) (legs : AreLegs (sp
       let c = move_bytes Z (spot p.bots).z to.z legs.z legs.along_z.leg in
       let d = legs.along_x.least in
       let e = legs.along_y.least in
-      let f = legs.along_z.least in
+      let least = legs.along_z.least in
       let l = spellings-joined (legs.x ++ legs.y) legs.z in
       let m = spellings-joined legs.x legs.y in
-      ap (λ (xs : List Command). length (spellings xs)) legs.joined ∙ (let g : length (spellings (legs.x ++ legs.y ++ legs.z)) ≡ 2 * moves_to (spot p.bots) to = omega arith in g)
+      ap (λ (xs : List Command). length (spellings xs)) legs.joined ∙ (let length_is : length (spellings (legs.x ++ legs.y ++ legs.z)) ≡ 2 * moves_to (spot p.bots) to = omega arith in length_is)
 
   module _ (w : IsWhole p.matrix) (g : IsHeld p.harmonics p.matrix) (alone : length p.bots ≡ 1) (i : IsInSpace p.matrix.resolution (spot p.bots)) (t : IsInSpace p.matrix.resolution to) (may : MayMove p) (v : AreVoidTo p.matrix (spot p.bots) to) where
     abbrev a : Coord

@@ -146,9 +146,9 @@ module _ (from to : Coord) (d : Diff) (sum : point to ≡ plus (point from) d) (
       wide a b by e = elim (apart a b by e) [ inl f ↦ distance (min a b) (max a b) (unsigned_abs by) (omega (arith, f)) | inr f ↦ distance (min a b) (max a b) (unsigned_abs by) (omega (arith, f)) ]
 
       product : (i j l : ℕ) → i + j + l ≡ 1 → 2 ≤ (i + 1) * (j + 1) * (l + 1)
-      product (suc i) j l e = let a : i ≡ 0 = omega (arith, e) in let b : j ≡ 0 = omega (arith, e) in let c : l ≡ 0 = omega (arith, e) in rw (a, b, c) (omega arith)
-      product zero (suc j) l e = let b : j ≡ 0 = omega (arith, e) in let c : l ≡ 0 = omega (arith, e) in rw (b, c) (omega arith)
-      product zero zero l e = let c : l ≡ 1 = omega (arith, e) in rw c (omega arith)
+      product (suc i) j l e = let i_is : i ≡ 0 = omega (arith, e) in let j_is : j ≡ 0 = omega (arith, e) in let l_is : l ≡ 0 = omega (arith, e) in rw (i_is, j_is, l_is) (omega arith)
+      product zero (suc j) l e = let j_is : j ≡ 0 = omega (arith, e) in let l_is : l ≡ 0 = omega (arith, e) in rw (j_is, l_is) (omega arith)
+      product zero zero l e = let l_is : l ≡ 1 = omega (arith, e) in rw l_is (omega arith)
 
       two : (x y z : ℕ) → x ≡ unsigned_abs d.dx + 1 → y ≡ unsigned_abs d.dy + 1 → z ≡ unsigned_abs d.dz + 1
           → 2 ≤ x * y * z

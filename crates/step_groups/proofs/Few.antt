@@ -39,9 +39,9 @@ pub unbroken : (s : State) (all : List Act) (step : ℕ) (xs : List Act) → jud
 unbroken s all step [] e a rule i j = absurd i
 unbroken s all step (x ∷ xs) e a rule (inl f) j =
     let judged = λ (r : Rule). broken_by step r x.bot.bid (fault s all x r) in
-    let h : judge_bot s all step x ≡ None = (none_or (judge_bot s all step x) (judge_each s all step xs) e).0 in
+    let judge_bot_is : judge_bot s all step x ≡ None = (none_or (judge_bot s all step x) (judge_each s all step xs) e).0 in
     subst (λ (y : Act). fault s all y rule ≡ None) (sym f)
-    (nothing (λ (c : Coord). record { step = step; bid = x.bot.bid; rule = rule; at = c }) (fault s all x rule) (no_first (map judged rules_of_bots) (judged rule) h (in_map judged rule rules_of_bots j)))
+    (nothing (λ (c : Coord). record { step = step; bid = x.bot.bid; rule = rule; at = c }) (fault s all x rule) (no_first (map judged rules_of_bots) (judged rule) judge_bot_is (in_map judged rule rules_of_bots j)))
 unbroken s all step (x ∷ xs) e a rule (inr i) j = unbroken s all step xs (none_or (judge_bot s all step x) (judge_each s all step xs) e).1 a rule i j
 
 -- ---- how many members a group has
@@ -55,11 +55,11 @@ one_at_most p (x ∷ xs) up h = by (p x) refl (one_at_most p xs up.1 (λ y z i j
     none e = no_filter p xs (false_by (list_any p xs) (λ (f : list_any p xs ≡ true).
         let r = any_in p xs f in
         let same : x.bot.bid ≡ r.0.bot.bid = h x r.0 (inl refl) (inr r.1) e r.2 in
-        let l : x.bot.bid < r.0.bot.bid = up.0 r.0.bot (in_map (λ (a : Act). a.bot) r.0 xs r.1) in
+        let below_bid : x.bot.bid < r.0.bot.bid = up.0 r.0.bot (in_map (λ (a : Act). a.bot) r.0 xs r.1) in
         absurd (omega arith)))
 
     by : (b : Bool) → p x ≡ b → length (filter p xs) ≤ 1 → length (cond b (x ∷ filter p xs) (filter p xs)) ≤ 1
-    by true e le = let l : length (filter p xs) ≡ 0 = ap length (none e) in omega (arith, l)
+    by true e le = let length_is : length (filter p xs) ≡ 0 = ap length (none e) in omega (arith, length_is)
     by false e le = le
 
 both_counts : {X : Type 0} (p q : X → Bool) (xs : List X)
@@ -129,9 +129,9 @@ shaped n d t h = equal_by_test n d (by (n == d) h)
 
 fits : (n : ℕ) (s : Span) (t : Bool) → ((not (n == 2 ^ dimension s) || t) || false) ≡ false → n ≤ 8
 fits n s t h =
-    let e : n ≡ 2 ^ dimension s = shaped n (2 ^ dimension s) t h in
-    let l : 2 ^ dimension s ≤ 8 = corners_most (dimension s) (dimension_most s) in
-    omega (arith, e, l)
+    let n_is : n ≡ 2 ^ dimension s = shaped n (2 ^ dimension s) t h in
+    let dimension_to_8 : 2 ^ dimension s ≤ 8 = corners_most (dimension s) (dimension_most s) in
+    omega (arith, n_is, dimension_to_8)
 
 module _ (bots : List Bot) (commands : List Command) (lengths : length commands ≡ length bots) (rising : AllPairs (λ a b. a.bid < b.bid) bots) (places : AllPairs (λ a b. a.pos ≢ b.pos) bots) where
   up : Rising (map (λ (x : Act). x.bot) (acts bots commands))
@@ -156,8 +156,8 @@ module _ (bots : List Bot) (commands : List Command) (lengths : length commands 
       let mates : length (filter (are_partners a) all) ≤ 1 = one_at_most (are_partners a) all up (λ x y i j e f. same_bot x y i j (ap coordinate (partner_at a x e ∙ sym (partner_at a y f)))) in
       let both = both_counts same (are_partners a) all in
       let is : (b : Act) → are_together a b ≡ (same b || are_partners a b) = λ b. ap (λ t. (same b || are_partners a b) || t) (h b) ∙ or_false (same b || are_partners a b) in
-      let e : length (members all a) ≡ length (filter (λ b. same b || are_partners a b) all) = ap (λ t. length (filter t all)) (λ i b. is b i) in
-      omega (arith, e, both, bids, mates)
+      let same_length : length (members all a) ≡ length (filter (λ b. same b || are_partners a b) all) = ap (λ t. length (filter t all)) (λ i b. is b i) in
+      omega (arith, same_length, both, bids, mates)
 
   few_by : (s : State) (b : Bot) (k : Command) → fault s (acts bots commands) (act b k) GroupShape ≡ None
       → length (members (acts bots commands) (act b k)) ≤ 8

@@ -76,8 +76,8 @@ itself_most n = omega arith
 -- the box of a place is the place
 spot_is : (a : Act) → span (box_of_bot a) ≡ just (position a)
 spot_is a =
-    let p = a.bot.pos in
-    λ i. between (point (record { x = itself_least p.x i; y = itself_least p.y i; z = itself_least p.z i })) (point (record { x = itself_most p.x i; y = itself_most p.y i; z = itself_most p.z i }))
+    let pos = a.bot.pos in
+    λ i. between (point (record { x = itself_least pos.x i; y = itself_least pos.y i; z = itself_least pos.z i })) (point (record { x = itself_most pos.x i; y = itself_most pos.y i; z = itself_most pos.z i }))
 
 spots_are : (others : List Act) (p : Point)
     → list_any (λ b. is_within (span (box_of_bot b)) p) others ≡ list_any (λ b. is_within (just (position b)) p) others
@@ -144,4 +144,4 @@ module _ (r : ℕ) (all xs ys : List Act) (a : Act) (whole : all ≡ xs ++ a ∷
   -- a leader of no more than eight has seven after it
   pub few_after : list_any (are_together a) xs ≡ false → length (members all a) ≤ 8
       → length (filter (are_together a) ys) ≤ 7
-  few_after h le = let e : length (members all a) ≡ length (a ∷ filter (are_together a) ys) = ap length (members_are h) in omega (arith, e, le)
+  few_after h le = let same_length : length (members all a) ≡ length (a ∷ filter (are_together a) ys) = ap length (members_are h) in omega (arith, same_length, le)

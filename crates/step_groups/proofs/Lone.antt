@@ -34,8 +34,8 @@ use Rattle.step_groups.proofs.Sums.{alone_leads, alone_members}
 pub any_more : (c : Coord) (xs : List Act) (a : Act) → IsTrue (list_any (is_volatile_of (point c)) (xs ++ a ∷ []))
     → IsTrue (list_any (is_volatile_of (point c)) xs) ⊎ IsTrue (is_volatile_of (point c) a)
 any_more c xs a h =
-    let e : list_any (is_volatile_of (point c)) (xs ++ a ∷ []) ≡ (list_any (is_volatile_of (point c)) xs || (is_volatile_of (point c) a || false)) = list_any-append (is_volatile_of (point c)) xs (a ∷ []) in
-    elim (one_of_two (list_any (is_volatile_of (point c)) xs) (is_volatile_of (point c) a || false) (sym e ∙ h)) [
+    let same_list_any : list_any (is_volatile_of (point c)) (xs ++ a ∷ []) ≡ (list_any (is_volatile_of (point c)) xs || (is_volatile_of (point c) a || false)) = list_any-append (is_volatile_of (point c)) xs (a ∷ []) in
+    elim (one_of_two (list_any (is_volatile_of (point c)) xs) (is_volatile_of (point c) a || false) (sym same_list_any ∙ h)) [
       | inl k ↦ inl k
       | inr k ↦ inr (sym (or_false (is_volatile_of (point c) a)) ∙ k)
     ]
@@ -127,8 +127,8 @@ module _ (m : Matrix) (all : List Act) (step : ℕ) where
       → IsApartFrom a more → judge_with m all step a more ≡ None
   with_none a [] e h k = refl
   with_none a (b ∷ more) e h k =
-      let n : clash m all a b ≡ None = no_clash a b e (h b (inl refl)) (λ c v w. k c v (or_by_first (is_volatile_of (point c) b) (list_any (is_volatile_of (point c)) more) w)) in
-      ap (λ o. first_value (broken_by step Interference a.bot.bid o ∷ map (λ x. broken_by step Interference a.bot.bid (clash m all a x)) more)) n
+      let clash_is : clash m all a b ≡ None = no_clash a b e (h b (inl refl)) (λ c v w. k c v (or_by_first (is_volatile_of (point c) b) (list_any (is_volatile_of (point c)) more) w)) in
+      ap (λ o. first_value (broken_by step Interference a.bot.bid o ∷ map (λ x. broken_by step Interference a.bot.bid (clash m all a x)) more)) clash_is
       ∙ with_none a more e (λ x i. h x (inr i)) (λ c v w. k c v (or_by_second (is_volatile_of (point c) b) (list_any (is_volatile_of (point c)) more) w))
 
   pairs_none : (xs : List Act) → ((a : Act) → In a xs → members all a ≡ a ∷ []) → AreAllApart xs

@@ -32,8 +32,8 @@ split_at [] commands i b k h e f g = absurd (omega arith)
 split_at (x ∷ bots) [] i b k h e f g = absurd (omega arith)
 split_at (x ∷ bots) (y ∷ commands) zero b k h e f g = λ n. act (sym f n) (sym g n) ∷ acts bots commands
 split_at (x ∷ bots) (y ∷ commands) (suc i) b k h e f g =
-    let n : suc (i + 1) ≡ suc i + 1 = omega arith in
-    ap (λ (more : List Act). act x y ∷ more) (split_at bots commands i b k (omega arith) (omega arith) f g ∙ ap (λ j. acts (take i bots) (take i commands) ++ act b k ∷ acts (drop j (x ∷ bots)) (drop j (y ∷ commands))) n)
+    let same_i : suc (i + 1) ≡ suc i + 1 = omega arith in
+    ap (λ (more : List Act). act x y ∷ more) (split_at bots commands i b k (omega arith) (omega arith) f g ∙ ap (λ j. acts (take i bots) (take i commands) ++ act b k ∷ acts (drop j (x ∷ bots)) (drop j (y ∷ commands))) same_i)
 
 pub take_more : (bots : List Bot) (commands : List Command) (i : ℕ) (b : Bot) (k : Command) → i < length bots
     → length commands ≡ length bots → b ≡ get_or bots i b → k ≡ get_or commands i k
@@ -42,8 +42,8 @@ take_more [] commands i b k h e f g = absurd (omega arith)
 take_more (x ∷ bots) [] i b k h e f g = absurd (omega arith)
 take_more (x ∷ bots) (y ∷ commands) zero b k h e f g = λ n. act (sym f n) (sym g n) ∷ []
 take_more (x ∷ bots) (y ∷ commands) (suc i) b k h e f g =
-    let n : suc i + 1 ≡ suc (i + 1) = omega arith in
-    ap (λ j. acts (take j (x ∷ bots)) (take j (y ∷ commands))) n
+    let same_i : suc i + 1 ≡ suc (i + 1) = omega arith in
+    ap (λ j. acts (take j (x ∷ bots)) (take j (y ∷ commands))) same_i
     ∙ ap (λ (more : List Act). act x y ∷ more) (take_more bots commands i b k (omega arith) (omega arith) f g)
 
 pub in_middle : {X : Type 0} (xs ys : List X) (a : X) → In a (xs ++ a ∷ ys)
@@ -58,8 +58,8 @@ pub earlier_bid : (xs ys : List Act) (a x : Act) → Rising (map (λ (b : Act). 
     → x.bot.bid < a.bot.bid
 earlier_bid [] ys a x h i = absurd i
 earlier_bid (y ∷ xs) ys a x h (inl e) =
-    let l : y.bot.bid < a.bot.bid = h.0 a.bot (in_map (λ (b : Act). b.bot) a (xs ++ a ∷ ys) (in_middle xs ys a)) in
-    let f : x.bot.bid ≡ y.bot.bid = ap (λ (b : Act). b.bot.bid) e in
+    let below_bid : y.bot.bid < a.bot.bid = h.0 a.bot (in_map (λ (b : Act). b.bot) a (xs ++ a ∷ ys) (in_middle xs ys a)) in
+    let same_bid : x.bot.bid ≡ y.bot.bid = ap (λ (b : Act). b.bot.bid) e in
     omega arith
 earlier_bid (y ∷ xs) ys a x h (inr i) = earlier_bid xs ys a x h.1 i
 
@@ -114,7 +114,7 @@ module _ (xs ys : List Act) (a : Act) (up : Rising (map (λ (b : Act). b.bot) (x
         where
           at_most : (b : Act) → are_together a b ≡ true → In b xs ⊎ ((b ≡ a) ⊎ In b ys) → a.bot.bid ≤ b.bot.bid
           at_most b t (inl i) = absurd (not_both (in_any (are_together a) b xs i t) e)
-          at_most b t (inr (inl f)) = let g : b.bot.bid ≡ a.bot.bid = ap (λ (x : Act). x.bot.bid) f in omega arith
+          at_most b t (inr (inl f)) = let same_bid : b.bot.bid ≡ a.bot.bid = ap (λ (x : Act). x.bot.bid) f in omega arith
           at_most b t (inr (inr i)) = let l = later_bid xs ys a b up i in omega arith
 
   -- the members of a leader's group are the leader and those after it

@@ -75,8 +75,8 @@ module _ (m : Matrix) (all : List Act) (up : Rising (map (λ (x : Act). x.bot) a
           ≤ 2 * sum (map (volatile_count m all) (cond t (a ∷ filter (is_leader all) xs) (filter (is_leader all) xs)))
       by true p s =
           let e = sum_by-cons (touches_of m) a xs in
-          let f : sum (volatile_count m all a ∷ map (volatile_count m all) (filter (is_leader all) xs)) ≡ volatile_count m all a + sum (map (volatile_count m all) (filter (is_leader all) xs)) = sum_by-cons (λ n. n) (volatile_count m all a) (map (volatile_count m all) (filter (is_leader all) xs)) in
-          omega (arith, e, f, p, s)
+          let sum_is : sum (volatile_count m all a ∷ map (volatile_count m all) (filter (is_leader all) xs)) ≡ volatile_count m all a + sum (map (volatile_count m all) (filter (is_leader all) xs)) = sum_by-cons (λ n. n) (volatile_count m all a) (map (volatile_count m all) (filter (is_leader all) xs)) in
+          omega (arith, e, sum_is, p, s)
       by false p s =
           let e = sum_by-cons (touches_of m) a xs in
           omega (arith, e, p, s)

@@ -198,8 +198,8 @@ one_bid : (all : List Act) (a b : Act) → Rising (map (λ (x : Act). x.bot) all
     → a.bot.bid ≡ b.bot.bid → a ≡ b
 one_bid [] a b h i j e = absurd i
 one_bid (x ∷ xs) a b h (inl i) (inl j) e = i ∙ sym j
-one_bid (x ∷ xs) a b h (inl i) (inr j) e = absurd (let l : x.bot.bid < b.bot.bid = h.0 b.bot (in_map (λ (y : Act). y.bot) b xs j) in let f : a.bot.bid ≡ x.bot.bid = ap (λ (y : Act). y.bot.bid) i in omega arith)
-one_bid (x ∷ xs) a b h (inr i) (inl j) e = absurd (let l : x.bot.bid < a.bot.bid = h.0 a.bot (in_map (λ (y : Act). y.bot) a xs i) in let f : b.bot.bid ≡ x.bot.bid = ap (λ (y : Act). y.bot.bid) j in omega arith)
+one_bid (x ∷ xs) a b h (inl i) (inr j) e = absurd (let below_bid : x.bot.bid < b.bot.bid = h.0 b.bot (in_map (λ (y : Act). y.bot) b xs j) in let same_bid : a.bot.bid ≡ x.bot.bid = ap (λ (y : Act). y.bot.bid) i in omega arith)
+one_bid (x ∷ xs) a b h (inr i) (inl j) e = absurd (let below_bid : x.bot.bid < a.bot.bid = h.0 a.bot (in_map (λ (y : Act). y.bot) a xs i) in let same_bid : b.bot.bid ≡ x.bot.bid = ap (λ (y : Act). y.bot.bid) j in omega arith)
 one_bid (x ∷ xs) a b h (inr i) (inr j) e = one_bid xs a b h.1 i j e
 
 module _ (all : List Act) (apart : AreApart all) where

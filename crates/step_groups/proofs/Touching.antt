@@ -119,11 +119,11 @@ pub lmove_reads : (m : Matrix) (bot : Bot) (d e : Diff) (k j : Corners) (mid to 
 lmove_reads m bot d e k j mid to old half new i n f g h l le lf =
     let P : Point = plus (point bot.pos) d in
     let Q : Point = plus P e in
-    let b : point to ≡ Q = g ∙ ap (λ w. plus w e) f in
+    let point_is : point to ≡ Q = g ∙ ap (λ w. plus w e) f in
     two_reads m (act bot (LMove d e)) k j old half new refl
     (both_true (in_space m.resolution P) (in_space m.resolution Q && true) i (both_true (in_space m.resolution Q) true (subst (λ (w : Point). IsTrue (in_space m.resolution (plus w e))) f n) refl))
     (λ c t. or_by_first (is_within (between (point bot.pos) P) (point c)) (is_within (between P Q) (point c) || false) (sym (h (point c) ∙ ap (λ q. is_within (between (point bot.pos) q) (point c)) f) ∙ t))
-    (λ c t. or_by_second (is_within (between (point bot.pos) P) (point c)) (is_within (between P Q) (point c) || false) (or_by_first (is_within (between P Q) (point c)) false (sym (l (point c) ∙ (λ v. is_within (between (f v) (b v)) (point c))) ∙ t)))
+    (λ c t. or_by_second (is_within (between (point bot.pos) P) (point c)) (is_within (between P Q) (point c) || false) (or_by_first (is_within (between P Q) (point c)) false (sym (l (point c) ∙ (λ v. is_within (between (f v) (point_is v)) (point c))) ∙ t)))
     le lf
 
 -- the touches of the bots from a place on
@@ -136,6 +136,6 @@ sum_at T (x ∷ bots) [] i b k h e f g = absurd (omega arith)
 sum_at T (x ∷ bots) (y ∷ commands) zero b k h e f g =
     sum_by-cons T (act x y) (acts bots commands) ∙ (λ n. T (act (sym f n) (sym g n)) + sum_by T (acts bots commands))
 sum_at T (x ∷ bots) (y ∷ commands) (suc i) b k h e f g =
-    let n : suc (i + 1) ≡ suc i + 1 = omega arith in
+    let same_i : suc (i + 1) ≡ suc i + 1 = omega arith in
     sum_at T bots commands i b k (omega arith) (omega arith) f g
-    ∙ ap (λ j. T (act b k) + sum_by T (acts (drop j (x ∷ bots)) (drop j (y ∷ commands)))) n
+    ∙ ap (λ j. T (act b k) + sum_by T (acts (drop j (x ∷ bots)) (drop j (y ∷ commands)))) same_i

@@ -96,9 +96,9 @@ module _ (s : State) (commands : List Command) (steps : ℕ) (spent : Bool) (v :
       stays_spent = λ x. refl;
       touches = tt;
       touches_broken = within_one s commands (steps + 1) (began + searched_for b.rule s.matrix) ended (λ n w.
-          let t = h.touches n (acts_work s commands (steps + 1) n keeps w) in
+          let touches = h.touches n (acts_work s commands (steps + 1) n keeps w) in
           let all = searched_all b.rule s.matrix h.rule in
-          omega (arith, t, all, start));
+          omega (arith, touches, all, start));
     })
 
     -- the step is made
@@ -118,7 +118,7 @@ module _ (s : State) (commands : List Command) (steps : ℕ) (spent : Bool) (v :
       memory = λ x. cc;
       spent = ((λ x. cc), (λ x. cc));
       stays_spent = λ x. x;
-      touches = within_one s commands (steps + 1) began ended (λ n w. let t = h.touches n (acts_work s commands (steps + 1) n keeps w) in omega (arith, t, start, turns));
+      touches = within_one s commands (steps + 1) began ended (λ n w. let touches = h.touches n (acts_work s commands (steps + 1) n keeps w) in omega (arith, touches, start, turns));
       touches_broken = tt;
     })
 

@@ -52,11 +52,11 @@ apart_flat {X} {Y} f (x ∷ xs) h a d = apart_append (f x) (flat_map f xs) (a x 
 from_here : (r n a : ℕ) (c : Coord) → In c (map (coordinate_at r) (numbers_from a n)) → a ≤ place r c
 from_here r zero a c h = absurd h
 from_here r (suc n) a c (inl e) = let p = ap (place r) e ∙ place-coordinate_at r a in omega arith
-from_here r (suc n) a c (inr h) = let p : a + 1 ≤ place r c = from_here r n (a + 1) c h in omega arith
+from_here r (suc n) a c (inr h) = let at_most_place : a + 1 ≤ place r c = from_here r n (a + 1) c h in omega arith
 
 apart_from : (r n a : ℕ) → Apart (map (coordinate_at r) (numbers_from a n))
 apart_from r zero a = tt
-apart_from r (suc n) a = ((λ i. let p : a + 1 ≤ place r (coordinate_at r a) = from_here r n (a + 1) (coordinate_at r a) i in let e = place-coordinate_at r a in omega arith), apart_from r n (a + 1))
+apart_from r (suc n) a = ((λ i. let at_most_place : a + 1 ≤ place r (coordinate_at r a) = from_here r n (a + 1) (coordinate_at r a) i in let e = place-coordinate_at r a in omega arith), apart_from r n (a + 1))
 
 pub apart_coordinates : (r : ℕ) → Apart (coordinates r)
 apart_coordinates r = apart_from r (r * r * r) 0

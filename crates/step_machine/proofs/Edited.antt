@@ -136,11 +136,11 @@ module _ (s : State) (d : Diff) (at : Coord) (full : Bool) (commands : List Comm
       let v = edits_are_volatile s commands step ready keeps in
       let leads : leaders (acts s.bots commands) ≡ act o.0 (edit_of full d) ∷ [] = (λ i. leaders (acts (o.1 i) (command i))) ∙ single_leaders o.0 (edit_of full d) in
       let t : edits_total s.matrix true (leaders (acts s.bots commands)) ≡ edits_total s.matrix true (act o.0 (edit_of full d) ∷ []) = ap (edits_total s.matrix true) leads in
-      let f : edits_total s.matrix false (leaders (acts s.bots commands)) ≡ edits_total s.matrix false (act o.0 (edit_of full d) ∷ []) = ap (edits_total s.matrix false) leads in
+      let same_edits_total : edits_total s.matrix false (leaders (acts s.bots commands)) ≡ edits_total s.matrix false (act o.0 (edit_of full d) ∷ []) = ap (edits_total s.matrix false) leads in
       let x = sum_by-cons (edit_count s.matrix true) (act o.0 (edit_of full d)) [] in
       let y = sum_by-cons (edit_count s.matrix false) (act o.0 (edit_of full d)) [] in
       let n = one_counted s.matrix o.0 d at (named o.0 o.1) stays full in
-      omega (arith, v, t, f, x, y, n)
+      omega (arith, v, t, same_edits_total, x, y, n)
 
   module _ (step : ℕ) (ready : IsReady s) (keeps : broken s commands step ≡ None) (old : Matrix) (was : Bool) (tied : old ≡ s.matrix) (whole : length old.voxels ≡ volume old.resolution) (found : was ≡ is_full s.matrix at) where
     lost_as : (now : List Coord) → now ≡ cond (not full && was) (at ∷ []) [] → now ≡ edits_of s commands true
@@ -189,10 +189,10 @@ module _ (s : State) (d : Diff) (at : Coord) (full : Bool) (commands : List Comm
           → IsRefitted s commands forest before after
       kept_refitted same kept end =
           let part = part_same full was (at ∷ []) same in
-          let m = forest.matrix in
+          let matrix = forest.matrix in
           let whole_too = subst (λ (n : Matrix). length n.voxels ≡ volume n.resolution) (sym kept) whole in
-          is_refitted s commands step ready keeps m m forest [] [] before listed listed after (kept ∙ tied) (lost_as [] part.0) (won_as [] part.1) (paid_for before listed once)
-          (lost_none m whole_too) (cheap_none m m listed) (won_none m whole_too) (λ first last f l. let c = cheap_none m m listed first last f l in omega (arith, c, end)) stands
+          is_refitted s commands step ready keeps matrix matrix forest [] [] before listed listed after (kept ∙ tied) (lost_as [] part.0) (won_as [] part.1) (paid_for before listed once)
+          (lost_none matrix whole_too) (cheap_none matrix matrix listed) (won_none matrix whole_too) (λ first last f l. let c = cheap_none matrix matrix listed first last f l in omega (arith, c, end)) stands
 
   -- the forest is that of the step's state, and each voxel in it is held up where it has to be
   pub settled_by : (step : ℕ) → broken s commands step ≡ None → (forest : Standing) (before after : ℕ)

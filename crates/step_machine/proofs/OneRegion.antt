@@ -76,8 +76,8 @@ module _ (s : State) (commands : List Command) (step : ℕ) (ready : IsReady s) 
 
   pub some_edit : 1 ≤ count_by is_edit commands
   some_edit =
-      let i : In h.leader (leaders (acts s.bots commands)) = subst (λ (ls : List Act). In h.leader ls) (sym h.only) (inl refl) in
-      counted s.bots commands h.leader (filter_in (is_leader (acts s.bots commands)) h.leader (acts s.bots commands) i).0 h.voids.edits
+      let member : In h.leader (leaders (acts s.bots commands)) = subst (λ (ls : List Act). In h.leader ls) (sym h.only) (inl refl) in
+      counted s.bots commands h.leader (filter_in (is_leader (acts s.bots commands)) h.leader (acts s.bots commands) member).0 h.voids.edits
 
   lost_is : (new : Matrix) → IsVoided s.matrix new (span k) → AreRemoved s.matrix new (edits_of s commands true)
   lost_is new v = record {
@@ -91,8 +91,8 @@ module _ (s : State) (commands : List Command) (step : ℕ) (ready : IsReady s) 
       inside : (c : Coord) → IsTrue (is_within (span k) (point c)) → IsInSpace s.matrix.resolution c
       inside c p =
           let q = is_of k c h.voids.ordered p in
-          let w = h.voids.within in
-          record { x = omega (arith, q.x_high, w.x); y = omega (arith, q.y_high, w.y); z = omega (arith, q.z_high, w.z) }
+          let within = h.voids.within in
+          record { x = omega (arith, q.x_high, within.x); y = omega (arith, q.y_high, within.y); z = omega (arith, q.z_high, within.z) }
 
       there : (c : Coord) → IsTrue (is_full s.matrix c) → IsTrue (is_within (span k) (point c))
           → In c (edits_of s commands true)
@@ -108,8 +108,8 @@ module _ (s : State) (commands : List Command) (step : ℕ) (ready : IsReady s) 
   small : size (span k) ≤ volatile_total s.matrix (acts s.bots commands)
   small =
       let v = edits_are_volatile s commands step ready keeps in
-      let t : edits_total s.matrix true (leaders (acts s.bots commands)) ≡ edit_count s.matrix true h.leader + 0 = ap (edits_total s.matrix true) h.only ∙ sum_by-cons (edit_count s.matrix true) h.leader [] in
-      omega (arith, v, t, h.voids.count)
+      let edits_total_is : edits_total s.matrix true (leaders (acts s.bots commands)) ≡ edit_count s.matrix true h.leader + 0 = ap (edits_total s.matrix true) h.only ∙ sum_by-cons (edit_count s.matrix true) h.leader [] in
+      omega (arith, v, edits_total_is, h.voids.count)
 
   pub region_refitted : (old : Matrix) (forest : Standing) (before after : ℕ) → old ≡ s.matrix
       → IsVoided old forest.matrix (span k) → IsVoidedCheaply old forest.matrix (span k) before after

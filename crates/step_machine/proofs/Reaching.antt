@@ -89,7 +89,7 @@ longer : (m : Matrix) (n : ℕ) (c : Coord) → reached m n c ≡ false → (pat
     → suc n < length path
 longer m n c f [] p = cc
 longer m n c f (a ∷ path) p =
-    let l : n < length path = too_short m n a path (ap (reached m n) (sym (begins c a path m p)) ∙ f) (second_of_two (same_point (point c) (point a)) (is_path m (a ∷ path)) p) in
+    let below_length : n < length path = too_short m n a path (ap (reached m n) (sym (begins c a path m p)) ∙ f) (second_of_two (same_point (point c) (point a)) (is_path m (a ∷ path)) p) in
     omega arith
 
 -- ---- the level is the least such number

@@ -107,8 +107,8 @@ module _ (s : State) (commands : List Command) (step : ℕ) (ready : IsReady s) 
       → 1 ≤ count_by is_edit commands
   edits_some full [] e h = absurd (omega arith)
   edits_some full (c ∷ cells) e h =
-      let i : In c (edits_of s commands full) = subst (λ (xs : List Coord). In c xs) e (inl refl) in
-      let w = any_in (λ a. is_edited full a c) (acts s.bots commands) (cell_of s (acts s.bots commands) good full c i).2 in
+      let member : In c (edits_of s commands full) = subst (λ (xs : List Coord). In c xs) e (inl refl) in
+      let w = any_in (λ a. is_edited full a c) (acts s.bots commands) (cell_of s (acts s.bots commands) good full c member).2 in
       counted s.bots commands w.0 w.1 (edit_by full w.0.bot w.0.command c w.2)
 
 -- ---- nothing was lost, or gained

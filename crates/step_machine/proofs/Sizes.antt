@@ -44,7 +44,7 @@ axis_most : (a b : ℤ) → extent a b ≤ 31 → 2 * extent a b ≤ 31 * 2 ^ di
 axis_most a b h = by (same_number a b) refl
   where
     by : (t : Bool) → same_number a b ≡ t → 2 * extent a b ≤ 31 * 2 ^ cond t 0 1
-    by true e = let f : a ≡ b = number_is a b e in let o : extent a b ≡ 1 = ap (extent a) (sym f) ∙ extent_itself a in omega arith
+    by true e = let a_is : a ≡ b = number_is a b e in let extent_is : extent a b ≡ 1 = ap (extent a) (sym a_is) ∙ extent_itself a in omega arith
     by false e = omega arith
 
 eights : (x y z : ℕ) → (2 * x) * (2 * y) * (2 * z) ≡ 8 * (x * y * z)
@@ -80,13 +80,13 @@ just_one p = λ i. extent_itself p.x i * extent_itself p.y i * extent_itself p.z
 
 pub count_none : (xs : List Coord) → count_by (λ c. false) xs ≡ 0
 count_none [] = refl
-count_none (x ∷ xs) = let e : count_by (λ c. false) (x ∷ xs) ≡ 0 + count_by (λ c. false) xs = sum_by-cons (λ c. 0) x xs in let n = count_none xs in omega arith
+count_none (x ∷ xs) = let same_count : count_by (λ c. false) (x ∷ xs) ≡ 0 + count_by (λ c. false) xs = sum_by-cons (λ c. 0) x xs in let n = count_none xs in omega arith
 
 count_one : (m : Matrix) (s : Span) → count_by (λ c. is_within s (point c) || false) (all_of m) ≤ size s
 count_one m s =
-    let e : count_by (λ c. is_within s (point c) || false) (all_of m) ≡ count_by (λ c. is_within s (point c)) (all_of m) = λ i. count_by (λ c. or_false (is_within s (point c)) i) (all_of m) in
+    let same_count : count_by (λ c. is_within s (point c) || false) (all_of m) ≡ count_by (λ c. is_within s (point c)) (all_of m) = λ i. count_by (λ c. or_false (is_within s (point c)) i) (all_of m) in
     let l = region_count_most m.resolution s in
-    omega (arith, e, l)
+    omega (arith, same_count, l)
 
 -- how many coordinates an act voids or fills
 abbrev edits_of : Matrix → Act → ℕ
@@ -195,7 +195,7 @@ module _ (s : State) (all : List Act) (good : IsGood s all) where
       let ld = together_on all good.apart l a d (lead l i) k.0 (lead d j) k.1 (together_back d a n.1) in
       let up = at_most_by_test l.bot.bid d.bot.bid (all_in (λ b. nat_le l.bot.bid b.bot.bid) d (members all l) (filter_in (is_leader all) l all i).1 (in_filter (are_together l) d all (lead d j) ld)) in
       let down = at_most_by_test d.bot.bid l.bot.bid (all_in (λ b. nat_le d.bot.bid b.bot.bid) l (members all d) (filter_in (is_leader all) d all j).1 (in_filter (are_together d) l all (lead l i) (together_back l d ld))) in
-      good.apart.bids l d (lead l i) (lead d j) (let e : l.bot.bid ≡ d.bot.bid = omega arith in e)
+      good.apart.bids l d (lead l i) (lead d j) (let same_bid : l.bot.bid ≡ d.bot.bid = omega arith in same_bid)
 
   apart_acts : Apart all
   apart_acts = by all (differ_acts all good.rising)

@@ -96,13 +96,13 @@ first_in (Some b ∷ xs) a e = inl (sym e)
 rule_is : (step : ℕ) (rule : Rule) (bid : ℕ) (at : Option Coord) (b : Broken) → Some b ≡ broken_by step rule bid at
     → b.rule ≡ rule
 rule_is step rule bid None b e = cc
-rule_is step rule bid (Some c) b e = let f : b ≡ record { step = step; bid = bid; rule = rule; at = c } = cc in ap (λ (x : Broken). x.rule) f
+rule_is step rule bid (Some c) b e = let b_is : b ≡ record { step = step; bid = bid; rule = rule; at = c } = cc in ap (λ (x : Broken). x.rule) b_is
 
 trace_rule : (o : Option Bot) (step : ℕ) (b : Broken)
     → Some b ≡ option_map (λ bot. record { step = step; bid = bot.bid; rule = TraceEnds; at = bot.pos }) o
     → b.rule ≡ TraceEnds
 trace_rule None step b e = cc
-trace_rule (Some bot) step b e = let f : b ≡ record { step = step; bid = bot.bid; rule = TraceEnds; at = bot.pos } = cc in ap (λ (x : Broken). x.rule) f
+trace_rule (Some bot) step b e = let b_is : b ≡ record { step = step; bid = bot.bid; rule = TraceEnds; at = bot.pos } = cc in ap (λ (x : Broken). x.rule) b_is
 
 pub pairs_rule : (m : Matrix) (all : List Act) (step : ℕ) (xs : List Act) (b : Broken)
     → In (Some b) (judge_pairs m all step xs) → b.rule ≡ Interference

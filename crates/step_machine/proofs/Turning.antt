@@ -29,7 +29,7 @@ turn_at all [] [] i d h k = absurd (omega arith)
 turn_at all [] (t ∷ ts) i d h k = absurd h
 turn_at all (a ∷ ls) [] i d h k = absurd h
 turn_at all (a ∷ ls) (t ∷ ts) zero d h k = (a, h.0, refl, inl refl)
-turn_at all (a ∷ ls) (t ∷ ts) (suc i) d h k = let r = turn_at all ls ts i d h.1 (omega arith) in (r.0, r.1, r.2 ∙ ap (λ k. r.0 ∷ drop k (a ∷ ls)) (let e : suc (i + 1) ≡ suc i + 1 = omega arith in e), inr r.3)
+turn_at all (a ∷ ls) (t ∷ ts) (suc i) d h k = let r = turn_at all ls ts i d h.1 (omega arith) in (r.0, r.1, r.2 ∙ ap (λ k. r.0 ∷ drop k (a ∷ ls)) (let same_i : suc (i + 1) ≡ suc i + 1 = omega arith in same_i), inr r.3)
 
 -- the act of a turn: its bot and its command stand at the turn's place
 pub record IsHere (bots : List Bot) (commands : List Command) (ls : List Act) (i : ℕ) (t : Turn) : Type 0 where
@@ -53,8 +53,8 @@ pub here : (bots : List Bot) (commands : List Command) (ls : List Act) (ts : Lis
     → AreTurns (acts bots commands) ls ts → i < length ts → t ≡ get_or ts i t → IsHere bots commands ls i t
 here bots commands ls ts i t h k e =
     let r = turn_at (acts bots commands) ls ts i t h k in
-    let p : slice_get (acts bots commands) t.place ≡ Some r.0 = ap (λ (u : Turn). slice_get (acts bots commands) u.place) e ∙ r.1.place in
-    let w = act_at bots commands t.place r.0 p in
+    let element_is : slice_get (acts bots commands) t.place ≡ Some r.0 = ap (λ (u : Turn). slice_get (acts bots commands) u.place) e ∙ r.1.place in
+    let w = act_at bots commands t.place r.0 element_is in
     record { act = r.0; among_bots = w.0; among_commands = w.1; bot = w.2; command = w.3; rest = r.2; leads = r.3 }
 
 -- the turn that a read past the end would give
@@ -78,10 +78,10 @@ module _ (s : State) (commands : List Command) (bots : List Bot) (turns list : L
   place_is = place ∙ ap (λ (ts : List Turn). (get_or ts i no_turn).place) listed
 
   pub among_bots : k < length bots
-  among_bots = let h = here_is.among_bots in let e = ap length same in omega (arith, h, e, place_is)
+  among_bots = let among_bots = here_is.among_bots in let e = ap length same in omega (arith, among_bots, e, place_is)
 
   pub among_commands : k < length commands
-  among_commands = let h = here_is.among_commands in omega (arith, h, place_is)
+  among_commands = let among_commands = here_is.among_commands in omega (arith, among_commands, place_is)
 
   module _ (command : Command) (read : command ≡ get_or commands k command) where
     -- the act of the turn
@@ -90,9 +90,9 @@ module _ (s : State) (commands : List Command) (bots : List Bot) (turns list : L
 
     turned_is : turned ≡ here_is.act
     turned_is =
-        let b : get_or bots k no_bot ≡ here_is.act.bot = (λ j. get_or (same j) (place_is j) no_bot) ∙ here_is.bot no_bot in
-        let c : command ≡ here_is.act.command = read ∙ (ap (λ n. get_or commands n command) place_is ∙ here_is.command command) in
-        λ j. record { bot = b j; command = c j }
+        let element_is : get_or bots k no_bot ≡ here_is.act.bot = (λ j. get_or (same j) (place_is j) no_bot) ∙ here_is.bot no_bot in
+        let command_is : command ≡ here_is.act.command = read ∙ (ap (λ n. get_or commands n command) place_is ∙ here_is.command command) in
+        λ j. record { bot = element_is j; command = command_is j }
 
     pub turned_leads : In turned (leaders (acts s.bots commands))
     turned_leads = subst (λ (a : Act). In a (leaders (acts s.bots commands))) (sym turned_is) here_is.leads

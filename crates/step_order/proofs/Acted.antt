@@ -71,8 +71,8 @@ none_count p [] h = refl
 none_count p (x ∷ xs) h =
     let e = sum_by-cons (λ y. cond {A = ℕ} (p y) 1 0) x xs in
     let f : cond {A = ℕ} (p x) 1 0 ≡ 0 = ap (λ t. cond {A = ℕ} t 1 0) (h x (inl refl)) in
-    let g : count_by p xs ≡ 0 = none_count p xs (λ y i. h y (inr i)) in
-    omega (arith, e, f, g)
+    let count_is : count_by p xs ≡ 0 = none_count p xs (λ y i. h y (inr i)) in
+    omega (arith, e, f, count_is)
 
 pub harmonics_stay : (h : Harmonics) (all : List Act) → ((a : Act) → In a all → is_flip a.command ≡ false)
     → harmonics_after h all ≡ h
@@ -174,7 +174,7 @@ module _ (s : State) (region : Span) (full : Bool) (all : List Act) (h : AreOneG
   joins a i = (all_by (IsMember s region full) all a h.each i).joins
 
   some : 0 < length all
-  some = let e = h.many in let p = some_power (dimension region) in omega arith
+  some = let many = h.many in let p = some_power (dimension region) in omega arith
 
   pub group_matrix : matrix_after s.matrix all ≡ with_region s.matrix region full
   group_matrix = matrix_same s.matrix.resolution _ _ (λ c i. (λ j. all_filled c j || (is_full s.matrix c && not (all_voided c j))) ∙ made (is_within region (point c)) full (is_full s.matrix c))

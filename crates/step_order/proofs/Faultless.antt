@@ -103,9 +103,9 @@ module _ (s : State) (all : List Act) (b : Bot) where
   halt_faults : is_allowed s.profile Halt ≡ true → MayHalt s (act b Halt) → (rule : Rule)
       → fault s all (act b Halt) rule ≡ None
   halt_faults a h Forbidden = rw a refl
-  halt_faults a h HaltAlone = let e = h.alone in rw e refl
+  halt_faults a h HaltAlone = let alone = h.alone in rw alone refl
   halt_faults a h HaltOrigin = ap (λ (q : Point). cond (not (same_point q (point origin))) (Some b.pos) None) h.home
-  halt_faults a h HaltLow = let e = h.low in rw e refl
+  halt_faults a h HaltLow = let low = h.low in rw low refl
   halt_faults a h Blocked = none_blocked s.matrix
   halt_faults a h _ = refl
 
@@ -123,7 +123,7 @@ module _ (s : State) (all : List Act) (b : Bot) where
       → IsFreeWay s.matrix (point b.pos) (plus (point b.pos) d) → (rule : Rule)
       → fault s all (act b (SMove d)) rule ≡ None
   smove_faults d a w Forbidden = rw a refl
-  smove_faults d a w OutOfSpace = let e = w.within in rw e refl
+  smove_faults d a w OutOfSpace = let within = w.within in rw within refl
   smove_faults d a w Blocked = none_find _ (all_of s.matrix) (λ c i. one_way (is_within (between (point b.pos) (plus (point b.pos) d)) (point c)) (is_full s.matrix c) (w.void c))
   smove_faults d a w _ = refl
 
@@ -132,7 +132,7 @@ module _ (s : State) (all : List Act) (b : Bot) where
       → IsFreeWay s.matrix (plus (point b.pos) d) (plus (plus (point b.pos) d) e) → (rule : Rule)
       → fault s all (act b (LMove d e)) rule ≡ None
   lmove_faults d e a w v Forbidden = rw a refl
-  lmove_faults d e a w v OutOfSpace = let i = w.within in let j = v.within in rw (i, j) refl
+  lmove_faults d e a w v OutOfSpace = let i = w.within in let within = v.within in rw (i, within) refl
   lmove_faults d e a w v Blocked = none_find _ (all_of s.matrix) (λ c i. two_ways (is_within (between (point b.pos) (plus (point b.pos) d)) (point c)) (is_within (between (plus (point b.pos) d) (plus (plus (point b.pos) d) e)) (point c)) (is_full s.matrix c) (w.void c) (v.void c))
   lmove_faults d e a w v _ = refl
 
@@ -140,7 +140,7 @@ module _ (s : State) (all : List Act) (b : Bot) where
       → HasPartner s.matrix.resolution all (act b (FusionP d)) (plus (point b.pos) d) → (rule : Rule)
       → fault s all (act b (FusionP d)) rule ≡ None
   primary_faults d a h Forbidden = rw a refl
-  primary_faults d a h OutOfSpace = let e = h.within in rw e refl
+  primary_faults d a h OutOfSpace = let within = h.within in rw within refl
   primary_faults d a h Blocked = none_blocked s.matrix
   primary_faults d a h Partner = let e = in_any (are_partners (act b (FusionP d))) h.other all (contained all h.other h.here) h.partners in rw e refl
   primary_faults d a h _ = refl
@@ -149,7 +149,7 @@ module _ (s : State) (all : List Act) (b : Bot) where
       → HasPartner s.matrix.resolution all (act b (FusionS d)) (plus (point b.pos) d) → (rule : Rule)
       → fault s all (act b (FusionS d)) rule ≡ None
   secondary_faults d a h Forbidden = rw a refl
-  secondary_faults d a h OutOfSpace = let e = h.within in rw e refl
+  secondary_faults d a h OutOfSpace = let within = h.within in rw within refl
   secondary_faults d a h Blocked = none_blocked s.matrix
   secondary_faults d a h Partner = let e = in_any (are_partners (act b (FusionS d))) h.other all (contained all h.other h.here) h.partners in rw e refl
   secondary_faults d a h _ = refl
@@ -158,7 +158,7 @@ module _ (s : State) (all : List Act) (b : Bot) where
       → IsFreeWay s.matrix (plus (point b.pos) d) (plus (point b.pos) d) → m < length (seed_list b.seeds)
       → (rule : Rule) → fault s all (act b (Fission d m)) rule ≡ None
   fission_faults d m a w l Forbidden = rw a refl
-  fission_faults d m a w l OutOfSpace = let e = w.within in rw e refl
+  fission_faults d m a w l OutOfSpace = let within = w.within in rw within refl
   fission_faults d m a w l Blocked = none_find _ (all_of s.matrix) (λ c i. one_way (is_within (just (plus (point b.pos) d)) (point c)) (is_full s.matrix c) (w.void c))
   fission_faults d m a w l Seeds = let e = enough (length (seed_list b.seeds)) m l in rw e refl
   fission_faults d m a w l _ = refl
@@ -292,7 +292,7 @@ module _ (s : State) (all : List Act) (region : Span) (b : Bot) (d f : Diff) (co
   stays :
       not (in_space s.matrix.resolution (plus (point b.pos) d) && (in_space s.matrix.resolution (plus (plus (point b.pos) d) f) && true))
       ≡ false
-  stays = let i = corner.near_within in let j = corner.far_within in rw (i, j) refl
+  stays = let near_within = corner.near_within in let far_within = corner.far_within in rw (near_within, far_within) refl
 
   outside : (is_within (between (plus (point b.pos) d) (plus (plus (point b.pos) d) f)) (point b.pos) || false) ≡ false
   outside = no_region _ (within_as (between (plus (point b.pos) d) (plus (plus (point b.pos) d) f)) region (point b.pos) corner.same ∙ corner.outside)

@@ -60,9 +60,9 @@ module _ (s : State) (all : List Act) (good : IsGood s all) (before rest : List 
         let f = hit (λ (a : Act). a.bot.bid) k in
         let o : sum_by f (before ++ l ∷ rest) ≡ sum_by f before + sum_by f (l ∷ rest) = sum_by-append f before (l ∷ rest) in
         let p : sum_by f (before ++ l ∷ rest) ≡ sum_by f (leaders all) = perm.sums f in
-        let q : sum_by f (leaders all) ≤ 1 = one_hit_most (λ (a : Act). a.bot.bid) k (leaders all) (differ_filter (λ (a : Act). a.bot.bid) _ all (differ_acts all good.rising)) in
-        let r : sum_by f (onto before []) ≡ sum_by f before + sum_by f [] = onto_sum f before [] in
-        let t : sum_by f [] ≡ 0 = refl in
+        let sum_to_1 : sum_by f (leaders all) ≤ 1 = one_hit_most (λ (a : Act). a.bot.bid) k (leaders all) (differ_filter (λ (a : Act). a.bot.bid) _ all (differ_acts all good.rising)) in
+        let same_sum : sum_by f (onto before []) ≡ sum_by f before + sum_by f [] = onto_sum f before [] in
+        let sum_is : sum_by f [] ≡ 0 = refl in
         omega arith;
   }
 

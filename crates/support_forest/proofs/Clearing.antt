@@ -22,38 +22,38 @@ free_now old now c k n before steps f a l q h t = by t
   where
     by : Toward (word_at now q % 8) q (further c k) → ⊥
     by (inl d) =
-        let e : word_at now q ≡ word_at old q = a.kept q (λ j b m s. let x : q.x ≡ c.x = ap (λ (p : Coord). p.x) s in absurd (omega arith)) in
+        let same_word : word_at now q ≡ word_at old q = a.kept q (λ j b m s. let same_x : q.x ≡ c.x = ap (λ (p : Coord). p.x) s in absurd (omega arith)) in
         f.right k q l (inr (inl (refl, omega arith, omega arith, omega arith))) (omega arith) (omega arith)
     by (inr (inl d)) =
-        let e : word_at now q ≡ word_at old q = a.kept q (λ j b m s. let x : q.x ≡ c.x = ap (λ (p : Coord). p.x) s in absurd (omega arith)) in
+        let same_word : word_at now q ≡ word_at old q = a.kept q (λ j b m s. let same_x : q.x ≡ c.x = ap (λ (p : Coord). p.x) s in absurd (omega arith)) in
         f.left k q l (inl (refl, omega arith, omega arith, omega arith)) (omega arith) (omega arith)
     by (inr (inr (inl d))) =
-        let e : word_at now q ≡ word_at old q = a.kept q (λ j b m s. let x : q.y ≡ c.y = ap (λ (p : Coord). p.y) s in absurd (omega arith)) in
+        let same_word : word_at now q ≡ word_at old q = a.kept q (λ j b m s. let same_y : q.y ≡ c.y = ap (λ (p : Coord). p.y) s in absurd (omega arith)) in
         f.over k q l (inr (inr (inr (inl (refl, omega arith, omega arith, omega arith))))) (omega arith) (omega arith)
     by (inr (inr (inr (inl d)))) =
-        let e : word_at now q ≡ word_at old q = a.kept q (λ j b m s. let x : q.y ≡ c.y = ap (λ (p : Coord). p.y) s in absurd (omega arith)) in
+        let same_word : word_at now q ≡ word_at old q = a.kept q (λ j b m s. let same_y : q.y ≡ c.y = ap (λ (p : Coord). p.y) s in absurd (omega arith)) in
         f.under k q l (inr (inr (inl (refl, omega arith, omega arith, omega arith)))) (omega arith) (omega arith)
     by (inr (inr (inr (inr (inl d))))) = elim (cases_lt (k + 1) n) [
       | inl m ↦
-          let z : q.z ≡ c.z + (k + 1) = omega arith in
-          let x : q.x ≡ c.x = omega arith in
-          let y : q.y ≡ c.y = omega arith in
-          let s : q ≡ further c (k + 1) = λ j. record { x = x j; y = y j; z = z j } in
-          let v : word_at now q ≡ 0 = ap (word_at now) s ∙ a.gone (k + 1) (omega arith) m in
+          let z_is : q.z ≡ c.z + (k + 1) = omega arith in
+          let same_x : q.x ≡ c.x = omega arith in
+          let same_y : q.y ≡ c.y = omega arith in
+          let q_is : q ≡ further c (k + 1) = λ j. record { x = same_x j; y = same_y j; z = z_is j } in
+          let word_is : word_at now q ≡ 0 = ap (word_at now) q_is ∙ a.gone (k + 1) (omega arith) m in
           absurd (omega arith)
       | inr m ↦
-          let e : word_at now q ≡ word_at old q = a.kept q (λ j b i s. let z : q.z ≡ c.z + j = ap (λ (p : Coord). p.z) s in absurd (omega arith)) in
+          let same_word : word_at now q ≡ word_at old q = a.kept q (λ j b i s. let z_is : q.z ≡ c.z + j = ap (λ (p : Coord). p.z) s in absurd (omega arith)) in
           f.far q (omega arith) (omega arith) (omega arith) (omega arith) (omega arith)
     ]
     by (inr (inr (inr (inr (inr d))))) =
-        let e : word_at now q ≡ word_at old q = a.kept q (λ j b i s. let z : q.z ≡ c.z + j = ap (λ (p : Coord). p.z) s in absurd (omega arith)) in
+        let e : word_at now q ≡ word_at old q = a.kept q (λ j b i s. let z_is : q.z ≡ c.z + j = ap (λ (p : Coord). p.z) s in absurd (omega arith)) in
         elim (cases_lt 0 k) [
           | inl m ↦
-              let z : q.z ≡ c.z + (k - 1) = omega arith in
-              let x : q.x ≡ c.x = omega arith in
-              let y : q.y ≡ c.y = omega arith in
-              let s : q ≡ further c (k - 1) = λ j. record { x = x j; y = y j; z = z j } in
-              let v : word_at old q ≡ word_at old (further c (k - 1)) = ap (word_at old) s in
+              let z_is : q.z ≡ c.z + (k - 1) = omega arith in
+              let same_x : q.x ≡ c.x = omega arith in
+              let same_y : q.y ≡ c.y = omega arith in
+              let q_is : q ≡ further c (k - 1) = λ j. record { x = same_x j; y = same_y j; z = z_is j } in
+              let same_word : word_at old q ≡ word_at old (further c (k - 1)) = ap (word_at old) q_is in
               f.own (k - 1) (omega arith) (omega arith) (omega arith)
           | inr m ↦ f.near 0 q (omega arith) (inr (inr (inr (inr (inl (refl, omega arith, omega arith, omega arith)))))) (omega arith) (omega arith)
         ]
@@ -68,16 +68,16 @@ cleared_more old now new c k n before steps after f a l w r t s = record {
   exact = subst (λ (i : ℕ). AreExact i (word_at new)) (sym r) (exact_without now.resolution (word_at now) (word_at new) (further c k) a.exact (free_now old now c k n before steps f a l) w);
   gone = λ j b m. elim (cases_eq j k) [
     | inl e ↦ ap (λ (i : ℕ). word_at new (further c i)) e ∙ w.here
-    | inr e ↦ w.kept (further c j) (λ p. let z : c.z + j ≡ c.z + k = ap (λ (q : Coord). q.z) p in e (omega arith)) ∙ a.gone j (grind arith) m
+    | inr e ↦ w.kept (further c j) (λ p. let same_z : c.z + j ≡ c.z + k = ap (λ (q : Coord). q.z) p in e (omega arith)) ∙ a.gone j (grind arith) m
   ];
   kept = λ d h. w.kept d (h k (omega arith) l) ∙ a.kept d (λ j b m. h j (omega arith) m);
   within = omega arith;
-  cost = let o = a.cost in omega arith;
+  cost = let cost = a.cost in omega arith;
 }
 
 pub before_left : (old now : Grid) (c : Coord) (k n before steps : ℕ) → 0 < k → AreCleared old now c k n before steps
     → AreCleared old now c (k - 1 + 1) n before steps
-before_left old now c k n before steps h a = let e : k ≡ k - 1 + 1 = omega arith in subst (λ (i : ℕ). AreCleared old now c i n before steps) e a
+before_left old now c k n before steps h a = let k_is : k ≡ k - 1 + 1 = omega arith in subst (λ (i : ℕ). AreCleared old now c i n before steps) k_is a
 
 -- ---- voxels of the list that were taken or listed
 
@@ -87,32 +87,32 @@ in_row d c zero = inr (λ j l e. absurd (omega arith))
 in_row d c (suc n) = elim (same_or_not d (further c n)) [
   | inl e ↦ inl (n, omega arith, e)
   | inr o ↦ elim (in_row d c n) [
-    | inl h ↦ let l : h.0 < n = h.1 in inl (h.0, omega arith, h.2)
-    | inr h ↦ inr (λ j l e. elim (cases_lt j n) [ inl m ↦ h j m e | inr m ↦ let p : j ≡ n = omega arith in o (e ∙ ap (further c) p) ])
+    | inl h ↦ let below_n : h.0 < n = h.1 in inl (h.0, omega arith, h.2)
+    | inr h ↦ inr (λ j l e. elim (cases_lt j n) [ inl m ↦ h j m e | inr m ↦ let j_is : j ≡ n = omega arith in o (e ∙ ap (further c) j_is) ])
   ]
 ]
 
 pub taking_whole : (old now : Grid) (gone : List Coord) (i : ℕ) (rest : List Coord) (before steps k : ℕ) (x : Coord)
     → CanRemove old gone → IsTaking old now gone i rest before steps → k < i → x ≡ slice_index_or gone k x
     → 0 < word_at now x
-taking_whole old now gone i rest before steps k x a p l e = let w = p.within in elim (p.each x) [
-  | inl f ↦ let z = a.full x (k, omega arith, sym e) in omega arith
-  | inr f ↦ let b : i ≤ f.1.0 = f.1.1 in absurd (a.differ k f.1.0 x (omega arith) f.1.2 (sym e ∙ sym f.1.3))
+taking_whole old now gone i rest before steps k x a p l e = let within = p.within in elim (p.each x) [
+  | inl f ↦ let full = a.full x (k, omega arith, sym e) in omega arith
+  | inr f ↦ let at_most_f : i ≤ f.1.0 = f.1.1 in absurd (a.differ k f.1.0 x (omega arith) f.1.2 (sym e ∙ sym f.1.3))
 ]
 
 pub one_taken : (now new : Grid) (gone : List Coord) (end count : ℕ) (rest : List Coord) (steps after : ℕ) (x : Coord)
     → count ≡ 1 → count ≤ end → x ≡ slice_index_or gone (end - count) x → HaveTaken now new x steps after
     → TakesMore now new gone end (end - count) rest rest steps after
 one_taken now new gone end count rest steps after x c l e h old before a p =
-    let s : end ≡ end - count + 1 = omega arith in
-    taking_taken old now new gone (end - count) rest before steps after x a (subst (λ (i : ℕ). IsTaking old now gone i rest before steps) s p) e h
+    let end_is : end ≡ end - count + 1 = omega arith in
+    taking_taken old now new gone (end - count) rest before steps after x a (subst (λ (i : ℕ). IsTaking old now gone i rest before steps) end_is p) e h
 
 pub one_listed : (now new : Grid) (gone : List Coord) (end count : ℕ) (rest more : List Coord) (steps after : ℕ)
     (x : Coord) → count ≡ 1 → count ≤ end → x ≡ slice_index_or gone (end - count) x → new ≡ now → after ≤ steps + 6
     → more ≡ rest ++ x ∷ [] → TakesMore now new gone end (end - count) rest more steps after
 one_listed now new gone end count rest more steps after x c l e n s m old before a p =
-    let q : end ≡ end - count + 1 = omega arith in
-    taking_listed old now new gone (end - count) rest more before steps after x a (subst (λ (i : ℕ). IsTaking old now gone i rest before steps) q p) e n s m
+    let end_is : end ≡ end - count + 1 = omega arith in
+    taking_listed old now new gone (end - count) rest more before steps after x a (subst (λ (i : ℕ). IsTaking old now gone i rest before steps) end_is p) e n s m
 
 pub list_more : (gone : List Coord) (end left : ℕ) (first rest more : List Coord) (next : Coord) → 0 < left → left ≤ end
     → ((now : Grid) (steps : ℕ) → TakesMore now now gone end left first rest steps (steps + 6 * (end - left)))
@@ -137,7 +137,7 @@ row_listed now gone end count rest more steps after b l s h old before a p =
       differ = t.differ;
       within = t.within;
       few = t.few;
-      cost = let o = t.cost in omega arith;
+      cost = let cost = t.cost in omega arith;
     }
 
 pub row_cleared : (now new : Grid) (gone : List Coord) (end count : ℕ) (rest : List Coord) (steps mid after : ℕ)
@@ -147,18 +147,18 @@ row_cleared now new gone end count rest steps mid after c b l s m h old before a
   resolution = h.resolution ∙ p.resolution;
   exact = h.exact;
   each = λ d. elim (in_row d c count) [
-    | inl i ↦ inr (void d i.0 i.1 i.2, (end - count + i.0, omega arith, (let w = s.within in let k : i.0 < count = i.1 in omega arith), s.each i.0 d i.1 ∙ sym i.2))
+    | inl i ↦ inr (void d i.0 i.1 i.2, (end - count + i.0, omega arith, (let within = s.within in let below_count : i.0 < count = i.1 in omega arith), s.each i.0 d i.1 ∙ sym i.2))
     | inr n ↦ elim (p.each d) [ inl f ↦ inl (kept d n ∙ f) | inr f ↦ inr (kept d n ∙ f.0, earlier d f.1) ]
   ];
   done = λ d i. elim (in_row d c count) [
     | inl j ↦ inl (void d j.0 j.1 j.2)
     | inr n ↦ elim (p.done d (later d n i)) [ inl z ↦ inl (kept d n ∙ z) | inr z ↦ inr z ]
   ];
-  listed = λ d i. let o = p.listed d i in (earlier d o.0, kept d (apart d o.0) ∙ o.1);
+  listed = λ d i. let listed = p.listed d i in (earlier d listed.0, kept d (apart d listed.0) ∙ listed.1);
   differ = p.differ;
-  within = let w = p.within in omega arith;
-  few = let f = p.few in omega arith;
-  cost = let o = p.cost in let q = h.cost in omega arith;
+  within = let within = p.within in omega arith;
+  few = let few = p.few in omega arith;
+  cost = let o = p.cost in let cost = h.cost in omega arith;
 }
   where
     void : (d : Coord) (j : ℕ) → j < count → d ≡ further c j → word_at new d ≡ 0
@@ -168,15 +168,15 @@ row_cleared now new gone end count rest steps mid after c b l s m h old before a
     kept d n = h.kept d (λ j o k. n j k)
 
     earlier : (d : Coord) → IsPast gone end d → IsPast gone (end - count) d
-    earlier d i = let k : end ≤ i.0 = i.1 in (i.0, omega arith, i.2, i.3)
+    earlier d i = let at_most_i : end ≤ i.0 = i.1 in (i.0, omega arith, i.2, i.3)
 
     apart : (d : Coord) → IsPast gone end d → (j : ℕ) → j < count → d ≡ further c j → ⊥
-    apart d i j k e = let o : end ≤ i.0 = i.1 in a.differ (end - count + j) i.0 d (omega arith) i.2 (s.each j d k ∙ (sym e ∙ sym i.3))
+    apart d i j k e = let at_most_i : end ≤ i.0 = i.1 in a.differ (end - count + j) i.0 d (omega arith) i.2 (s.each j d k ∙ (sym e ∙ sym i.3))
 
     later : (d : Coord) → ((j : ℕ) → j < count → d ≡ further c j → ⊥) → IsPast gone (end - count) d → IsPast gone end d
-    later d n i = let k : end - count ≤ i.0 = i.1 in elim (cases_lt i.0 end) [
+    later d n i = let at_most_i : end - count ≤ i.0 = i.1 in elim (cases_lt i.0 end) [
       | inl o ↦
-          let q : i.0 ≡ end - count + (i.0 - (end - count)) = omega arith in
-          absurd (n (i.0 - (end - count)) (omega arith) (sym i.3 ∙ (ap (λ (x : ℕ). slice_index_or gone x d) q ∙ s.each (i.0 - (end - count)) d (omega arith))))
+          let i_is : i.0 ≡ end - count + (i.0 - (end - count)) = omega arith in
+          absurd (n (i.0 - (end - count)) (omega arith) (sym i.3 ∙ (ap (λ (x : ℕ). slice_index_or gone x d) i_is ∙ s.each (i.0 - (end - count)) d (omega arith))))
       | inr o ↦ (i.0, omega arith, i.2, i.3)
     ]

@@ -22,10 +22,10 @@ use Rattle.support_forest.proofs.Marks.{IsMarked}
 -- ---- lists
 
 pub no_member : (xs : List Coord) (c : Coord) → xs ≡ [] → Contains xs c → ⊥
-no_member xs c e h = let l : h.0 < length xs = h.1 in let z : length xs ≡ 0 = ap length e in omega arith
+no_member xs c e h = let below_length : h.0 < length xs = h.1 in let length_is : length xs ≡ 0 = ap length e in omega arith
 
 pub none_differ : (xs : List Coord) → xs ≡ [] → AllPairs ◌≢◌ xs
-none_differ xs e i j d l k = let z : length xs ≡ 0 = ap length e in absurd (omega arith)
+none_differ xs e i j d l k = let length_is : length xs ≡ 0 = ap length e in absurd (omega arith)
 
 -- what differs from all that is listed may be listed too
 pub differ_more : (xs : List Coord) (c : Coord) → AllPairs ◌≢◌ xs → ((d : Coord) → Contains xs d → d ≡ c → ⊥)
@@ -37,8 +37,8 @@ differ_more xs c h n i j d l k e =
       | inl m ↦ h i j d l m (sym before ∙ (e ∙ get_or_append_left xs (c ∷ []) d j m))
       | inr m ↦
           let last : slice_index_or (xs ++ c ∷ []) (length xs) d ≡ c = get_or-append_seam xs c [] d in
-          let p : j ≡ length xs = omega arith in
-          n (slice_index_or xs i d) (i, omega arith, get_or_default xs i (slice_index_or xs i d) d (omega arith)) (sym before ∙ (e ∙ (ap (λ (k : ℕ). slice_index_or (xs ++ c ∷ []) k d) p ∙ last)))
+          let j_is : j ≡ length xs = omega arith in
+          n (slice_index_or xs i d) (i, omega arith, get_or_default xs i (slice_index_or xs i d) d (omega arith)) (sym before ∙ (e ∙ (ap (λ (k : ℕ). slice_index_or (xs ++ c ∷ []) k d) j_is ∙ last)))
     ]
 
 -- a voxel that has a level has one also where more voxels are full
@@ -46,7 +46,7 @@ still_level : (r s : ℕ) (w v : Coord → ℕ) → AreExact r w → AreExact s 
     (c : Coord) → height w c ≤ n → 8 ≤ w c → 8 ≤ v c
 still_level r s w v e f k zero c l h = absurd (omega arith)
 still_level r s w v e f k (suc n) c l h = elim (e.parent c h) [
-  | inl p ↦ let z : v c ≡ 8 = f.floor c (k c (omega arith)) p.1 in omega arith
+  | inl p ↦ let v_is : v c ≡ 8 = f.floor c (k c (omega arith)) p.1 in omega arith
   | inr p ↦
       let up : 8 ≤ v p.0 = still_level r s w v e f k n p.0 (omega (arith, p.3)) p.2 in
       (f.near c p.0 (k c (omega arith)) up (record { direction = w c % 8; toward = p.1 })).0
@@ -71,21 +71,21 @@ placing_none old cells rest before a e = record {
   resolution = refl;
   exact = a.exact;
   each = λ c. inl refl;
-  done = λ c m. let l : m.0 < 0 = m.1 in absurd (omega arith);
+  done = λ c m. let m_below_0 : m.0 < 0 = m.1 in absurd (omega arith);
   listed = λ c h. absurd (no_member rest c e h);
   differ = none_differ rest e;
-  few = let n : length rest ≡ 0 = ap length e in omega arith;
-  cost = let n : length rest ≡ 0 = ap length e in omega arith;
+  few = let length_is : length rest ≡ 0 = ap length e in omega arith;
+  cost = let length_is : length rest ≡ 0 = ap length e in omega arith;
 }
 
 later_mark : (cells : List Coord) (i : ℕ) (c : Coord) → IsMarked cells i c → IsMarked cells (i + 1) c
-later_mark cells i c m = let l : m.0 < i = m.1 in (m.0, omega arith, m.2, m.3)
+later_mark cells i c m = let below_i : m.0 < i = m.1 in (m.0, omega arith, m.2, m.3)
 
 mark_cases : (cells : List Coord) (i : ℕ) (c x : Coord) → i < length cells → x ≡ slice_index_or cells i x
     → IsMarked cells (i + 1) c → IsMarked cells i c ⊎ (c ≡ x)
 mark_cases cells i c x l e m = elim (cases_lt m.0 i) [
   | inl k ↦ inl (m.0, k, m.2, m.3)
-  | inr k ↦ let b : m.0 < i + 1 = m.1 in let p : m.0 ≡ i = omega arith in inr (sym m.3 ∙ (ap (λ (h : ℕ). slice_index_or cells h c) p ∙ (get_or_default cells i c x l ∙ sym e)))
+  | inr k ↦ let below_i : m.0 < i + 1 = m.1 in let m_is : m.0 ≡ i = omega arith in inr (sym m.3 ∙ (ap (λ (h : ℕ). slice_index_or cells h c) m_is ∙ (get_or_default cells i c x l ∙ sym e)))
 ]
 
 -- a later cell is none of the first
@@ -112,13 +112,13 @@ placing_placed old now new cells i rest before steps after x a p l e h = record 
   exact = h.exact;
   each = λ c. elim (same_or_not c x) [
     | inl f ↦ inr (subst (λ (d : Coord). 0 < word_at new d) (sym f) h.full, subst (λ (d : Coord). IsMarked cells (i + 1) d) (sym f) (i, omega arith, l, sym e))
-    | inr n ↦ let k = h.kept c n in elim (p.each c) [ inl g ↦ inl (k ∙ g) | inr g ↦ let z = g.0 in inr (omega arith, later_mark cells i c g.1) ]
+    | inr n ↦ let kept = h.kept c n in elim (p.each c) [ inl g ↦ inl (kept ∙ g) | inr g ↦ let z = g.0 in inr (omega arith, later_mark cells i c g.1) ]
   ];
   done = λ c m. elim (same_or_not c x) [
     | inl f ↦ inl (subst (λ (d : Coord). 0 < word_at new d) (sym f) h.full)
-    | inr n ↦ let k = h.kept c n in elim (mark_cases cells i c x l e m) [ inl o ↦ elim (p.done c o) [ inl z ↦ inl (omega arith) | inr z ↦ inr z ] | inr o ↦ absurd (n o) ]
+    | inr n ↦ let kept = h.kept c n in elim (mark_cases cells i c x l e m) [ inl o ↦ elim (p.done c o) [ inl z ↦ inl (omega arith) | inr z ↦ inr z ] | inr o ↦ absurd (n o) ]
   ];
-  listed = λ c g. let o = p.listed c g in (later_mark cells i c o.0, h.kept c (λ f. not_marked old cells i x a l e (subst (λ (d : Coord). IsMarked cells i d) f o.0)) ∙ o.1);
+  listed = λ c g. let listed = p.listed c g in (later_mark cells i c listed.0, h.kept c (λ f. not_marked old cells i x a l e (subst (λ (d : Coord). IsMarked cells i d) f listed.0)) ∙ listed.1);
   differ = p.differ;
   few = omega (arith, p.few);
   cost = omega (arith, p.cost, h.cost);
@@ -137,12 +137,12 @@ placing_listed old now new cells i rest more before steps after x a p l e s t m 
     | inr o ↦ inr (subst (λ (d : Coord). Contains (rest ++ x ∷ []) d) (sym o) (Contains-push rest x))
   ];
   listed = λ c g. elim (Contains-push_cases rest x c g) [
-    | inl o ↦ let q = p.listed c o in (later_mark cells i c q.0, q.1)
+    | inl o ↦ let listed = p.listed c o in (later_mark cells i c listed.0, listed.1)
     | inr o ↦ (subst (λ (d : Coord). IsMarked cells (i + 1) d) o (i, omega arith, l, sym e), elim (p.each c) [ inl f ↦ f | inr f ↦ absurd (not_marked old cells i x a l e (subst (λ (d : Coord). IsMarked cells i d) (sym o) f.1)) ])
   ];
   differ = differ_more rest x p.differ (λ d g f. not_marked old cells i x a l e (subst (λ (b : Coord). IsMarked cells i b) f (p.listed d g).0));
-  few = let n : length (rest ++ x ∷ []) ≡ length rest + 1 = length-append rest (x ∷ []) in omega (arith, p.few);
-  cost = let n : length (rest ++ x ∷ []) ≡ length rest + 1 = length-append rest (x ∷ []) in omega (arith, p.cost);
+  few = let same_length : length (rest ++ x ∷ []) ≡ length rest + 1 = length-append rest (x ∷ []) in omega (arith, p.few);
+  cost = let same_length : length (rest ++ x ∷ []) ≡ length rest + 1 = length-append rest (x ∷ []) in omega (arith, p.cost);
 }))
 
 pub are_placed : (old now : Grid) (cells : List Coord) (i : ℕ) (rest : List Coord) (before steps : ℕ) → CanAdd old cells
@@ -153,12 +153,12 @@ are_placed old now cells i rest before steps a p e = record {
     differ = p.differ;
     exact = p.exact;
     space = λ c h. subst (λ (r : ℕ). IsInSpace r c) (sym p.resolution) (a.space c (in_cells c (p.listed c h).0));
-    void = λ c h. let o = p.listed c h in o.1 ∙ a.void c (in_cells c o.0);
+    void = λ c h. let listed = p.listed c h in listed.1 ∙ a.void c (in_cells c listed.0);
   };
   listed = λ c h. in_cells c (p.listed c h).0;
   full = λ c h. elim (p.each c) [ inl f ↦ inl (omega arith) | inr f ↦ inr (in_cells c f.1) ];
-  kept = λ c h. elim (p.each c) [ inl f ↦ f | inr f ↦ let z = a.void c (in_cells c f.1) in absurd (omega arith) ];
-  placed = λ c h. p.done c (let l : h.0 < length cells = h.1 in (h.0, omega arith, l, h.2));
+  kept = λ c h. elim (p.each c) [ inl f ↦ f | inr f ↦ let void = a.void c (in_cells c f.1) in absurd (omega arith) ];
+  placed = λ c h. p.done c (let below_length : h.0 < length cells = h.1 in (h.0, omega arith, below_length, h.2));
   few = omega (arith, p.few);
   cost = omega (arith, p.cost);
 }
@@ -178,10 +178,10 @@ changed_since_placed old now new cells rest before steps a p e k =
   where
     by : (c : Coord) → word_at old c / 8 ≡ word_at new c / 8 → word_at now c / 8 ≡ word_at new c / 8
     by c f = elim (cases_lt 0 (word_at old c)) [
-      | inl g ↦ let s = p.kept c g in omega arith
+      | inl g ↦ let kept = p.kept c g in omega arith
       | inr g ↦ elim (cases_lt (word_at now c) 8) [
         | inl low ↦ omega arith
-        | inr high ↦ let l : 8 ≤ word_at new c = still_level now.resolution new.resolution (word_at now) (word_at new) p.left.exact e k (height (word_at now) c) c (omega arith) (omega arith) in absurd (omega arith)
+        | inr high ↦ let word_from_8 : 8 ≤ word_at new c = still_level now.resolution new.resolution (word_at now) (word_at new) p.left.exact e k (height (word_at now) c) c (omega arith) (omega arith) in absurd (omega arith)
       ]
     ]
 
@@ -192,7 +192,7 @@ placed_and_added old now new cells rest before steps after a p h = record {
   resolution = h.resolution ∙ p.resolution;
   exact = h.exact;
   full = λ c f. elim (h.full c f) [ inl g ↦ p.full c g | inr g ↦ inr (p.listed c g) ];
-  kept = λ c f. let s = p.kept c f in h.kept c (omega arith);
+  kept = λ c f. let kept = p.kept c f in h.kept c (omega arith);
   added = λ c f. elim (p.placed c f) [ inl g ↦ h.kept c g | inr g ↦ h.added c g ];
   cost = omega (arith, h.cost, p.cost, p.few, changed_since_placed old now new cells rest before steps a p h.exact h.kept);
 }
@@ -205,57 +205,57 @@ taking_none old gone rest before a e = record {
   resolution = refl;
   exact = a.exact;
   each = λ c. inl refl;
-  done = λ c m. let l : m.0 < length gone = m.2 in let k : length gone ≤ m.0 = m.1 in absurd (omega arith);
+  done = λ c m. let below_length : m.0 < length gone = m.2 in let at_most_m : length gone ≤ m.0 = m.1 in absurd (omega arith);
   listed = λ c h. absurd (no_member rest c e h);
   differ = none_differ rest e;
   within = omega arith;
-  few = let n : length rest ≡ 0 = ap length e in omega arith;
-  cost = let n : length rest ≡ 0 = ap length e in omega arith;
+  few = let length_is : length rest ≡ 0 = ap length e in omega arith;
+  cost = let length_is : length rest ≡ 0 = ap length e in omega arith;
 }
 
 -- before the last of those that are left is looked at
 pub before_last : (old now : Grid) (gone : List Coord) (i : ℕ) (rest : List Coord) (before steps : ℕ) → 0 < i
     → IsTaking old now gone i rest before steps → IsTaking old now gone (i - 1 + 1) rest before steps
-before_last old now gone i rest before steps s p = let e : i ≡ i - 1 + 1 = omega arith in subst (λ (k : ℕ). IsTaking old now gone k rest before steps) e p
+before_last old now gone i rest before steps s p = let i_is : i ≡ i - 1 + 1 = omega arith in subst (λ (k : ℕ). IsTaking old now gone k rest before steps) i_is p
 
 earlier_past : (gone : List Coord) (i : ℕ) (c : Coord) → IsPast gone (i + 1) c → IsPast gone i c
-earlier_past gone i c m = let l : i + 1 ≤ m.0 = m.1 in (m.0, omega arith, m.2, m.3)
+earlier_past gone i c m = let at_most_m : i + 1 ≤ m.0 = m.1 in (m.0, omega arith, m.2, m.3)
 
 past_cases : (gone : List Coord) (i : ℕ) (c x : Coord) → i < length gone → x ≡ slice_index_or gone i x → IsPast gone i c
     → IsPast gone (i + 1) c ⊎ (c ≡ x)
 past_cases gone i c x l e m = elim (cases_lt i m.0) [
   | inl k ↦ inl (m.0, omega arith, m.2, m.3)
-  | inr k ↦ let b : i ≤ m.0 = m.1 in let p : m.0 ≡ i = omega arith in inr (sym m.3 ∙ (ap (λ (h : ℕ). slice_index_or gone h c) p ∙ (get_or_default gone i c x l ∙ sym e)))
+  | inr k ↦ let at_most_m : i ≤ m.0 = m.1 in let m_is : m.0 ≡ i = omega arith in inr (sym m.3 ∙ (ap (λ (h : ℕ). slice_index_or gone h c) m_is ∙ (get_or_default gone i c x l ∙ sym e)))
 ]
 
 not_past : (old : Grid) (gone : List Coord) (i : ℕ) (x : Coord) → CanRemove old gone → i < length gone
     → x ≡ slice_index_or gone i x → IsPast gone (i + 1) x → ⊥
-not_past old gone i x a l e m = let b : i + 1 ≤ m.0 = m.1 in a.differ i m.0 x (omega arith) m.2 (sym e ∙ sym m.3)
+not_past old gone i x a l e m = let at_most_m : i + 1 ≤ m.0 = m.1 in a.differ i m.0 x (omega arith) m.2 (sym e ∙ sym m.3)
 
 pub taking_full : (old now : Grid) (gone : List Coord) (i : ℕ) (rest : List Coord) (before steps : ℕ) (x : Coord)
     → CanRemove old gone → IsTaking old now gone (i + 1) rest before steps → x ≡ slice_index_or gone i x
     → 0 < word_at now x
 taking_full old now gone i rest before steps x a p e =
-    let l : i < length gone = let w = p.within in omega arith in
-    elim (p.each x) [ inl f ↦ let z = a.full x (i, l, sym e) in omega arith | inr f ↦ absurd (not_past old gone i x a l e f.1) ]
+    let below_length : i < length gone = let within = p.within in omega arith in
+    elim (p.each x) [ inl f ↦ let full = a.full x (i, below_length, sym e) in omega arith | inr f ↦ absurd (not_past old gone i x a below_length e f.1) ]
 
 pub taking_taken : (old now new : Grid) (gone : List Coord) (i : ℕ) (rest : List Coord) (before steps after : ℕ)
     (x : Coord) → CanRemove old gone → IsTaking old now gone (i + 1) rest before steps → x ≡ slice_index_or gone i x
     → HaveTaken now new x steps after → IsTaking old new gone i rest before after
 taking_taken old now new gone i rest before steps after x a p e h =
-    let l : i < length gone = let w = p.within in omega arith in
+    let below_length : i < length gone = let w = p.within in omega arith in
     record {
       resolution = h.resolution ∙ p.resolution;
       exact = h.exact;
       each = λ c. elim (same_or_not c x) [
-        | inl f ↦ inr (ap (word_at new) f ∙ h.gone, subst (λ (d : Coord). IsPast gone i d) (sym f) (i, omega arith, l, sym e))
-        | inr n ↦ let k = h.kept c n in elim (p.each c) [ inl g ↦ inl (k ∙ g) | inr g ↦ inr (k ∙ g.0, earlier_past gone i c g.1) ]
+        | inl f ↦ inr (ap (word_at new) f ∙ h.gone, subst (λ (d : Coord). IsPast gone i d) (sym f) (i, omega arith, below_length, sym e))
+        | inr n ↦ let kept = h.kept c n in elim (p.each c) [ inl g ↦ inl (kept ∙ g) | inr g ↦ inr (kept ∙ g.0, earlier_past gone i c g.1) ]
       ];
       done = λ c m. elim (same_or_not c x) [
         | inl f ↦ inl (ap (word_at new) f ∙ h.gone)
-        | inr n ↦ elim (past_cases gone i c x l e m) [ inl o ↦ elim (p.done c o) [ inl z ↦ inl (h.kept c n ∙ z) | inr z ↦ inr z ] | inr o ↦ absurd (n o) ]
+        | inr n ↦ elim (past_cases gone i c x below_length e m) [ inl o ↦ elim (p.done c o) [ inl z ↦ inl (h.kept c n ∙ z) | inr z ↦ inr z ] | inr o ↦ absurd (n o) ]
       ];
-      listed = λ c g. let o = p.listed c g in (earlier_past gone i c o.0, h.kept c (λ f. not_past old gone i x a l e (subst (λ (d : Coord). IsPast gone (i + 1) d) f o.0)) ∙ o.1);
+      listed = λ c g. let listed = p.listed c g in (earlier_past gone i c listed.0, h.kept c (λ f. not_past old gone i x a below_length e (subst (λ (d : Coord). IsPast gone (i + 1) d) f listed.0)) ∙ listed.1);
       differ = p.differ;
       within = omega arith;
       few = omega (arith, p.few);
@@ -266,23 +266,23 @@ pub taking_listed : (old now new : Grid) (gone : List Coord) (i : ℕ) (rest mor
     (x : Coord) → CanRemove old gone → IsTaking old now gone (i + 1) rest before steps → x ≡ slice_index_or gone i x
     → new ≡ now → after ≤ steps + 6 → more ≡ rest ++ x ∷ [] → IsTaking old new gone i more before after
 taking_listed old now new gone i rest more before steps after x a p e s t m =
-    let l : i < length gone = let w = p.within in omega arith in
+    let below_length : i < length gone = let w = p.within in omega arith in
     subst (λ (v : Grid). IsTaking old v gone i more before after) (sym s) (subst (λ (xs : List Coord). IsTaking old now gone i xs before after) (sym m) (record {
       resolution = p.resolution;
       exact = p.exact;
       each = λ c. elim (p.each c) [ inl g ↦ inl g | inr g ↦ inr (g.0, earlier_past gone i c g.1) ];
-      done = λ c n. elim (past_cases gone i c x l e n) [
+      done = λ c n. elim (past_cases gone i c x below_length e n) [
         | inl o ↦ elim (p.done c o) [ inl z ↦ inl z | inr z ↦ inr (Contains-append_left rest (x ∷ []) c z) ]
         | inr o ↦ inr (subst (λ (d : Coord). Contains (rest ++ x ∷ []) d) (sym o) (Contains-push rest x))
       ];
       listed = λ c g. elim (Contains-push_cases rest x c g) [
-        | inl o ↦ let q = p.listed c o in (earlier_past gone i c q.0, q.1)
-        | inr o ↦ (subst (λ (d : Coord). IsPast gone i d) o (i, omega arith, l, sym e), elim (p.each c) [ inl f ↦ f | inr f ↦ absurd (not_past old gone i x a l e (subst (λ (d : Coord). IsPast gone (i + 1) d) (sym o) f.1)) ])
+        | inl o ↦ let listed = p.listed c o in (earlier_past gone i c listed.0, listed.1)
+        | inr o ↦ (subst (λ (d : Coord). IsPast gone i d) o (i, omega arith, below_length, sym e), elim (p.each c) [ inl f ↦ f | inr f ↦ absurd (not_past old gone i x a below_length e (subst (λ (d : Coord). IsPast gone (i + 1) d) (sym o) f.1)) ])
       ];
-      differ = differ_more rest x p.differ (λ d g f. not_past old gone i x a l e (subst (λ (b : Coord). IsPast gone (i + 1) b) f (p.listed d g).0));
+      differ = differ_more rest x p.differ (λ d g f. not_past old gone i x a below_length e (subst (λ (b : Coord). IsPast gone (i + 1) b) f (p.listed d g).0));
       within = omega arith;
-      few = let n : length (rest ++ x ∷ []) ≡ length rest + 1 = length-append rest (x ∷ []) in omega (arith, p.few);
-      cost = let n : length (rest ++ x ∷ []) ≡ length rest + 1 = length-append rest (x ∷ []) in omega (arith, p.cost);
+      few = let same_length : length (rest ++ x ∷ []) ≡ length rest + 1 = length-append rest (x ∷ []) in omega (arith, p.few);
+      cost = let same_length : length (rest ++ x ∷ []) ≡ length rest + 1 = length-append rest (x ∷ []) in omega (arith, p.cost);
     }))
 
 pub are_taken : (old now : Grid) (gone : List Coord) (i : ℕ) (rest : List Coord) (before steps : ℕ) → CanRemove old gone
@@ -292,11 +292,11 @@ are_taken old now gone i rest before steps a p e = record {
   left = record {
     differ = p.differ;
     exact = p.exact;
-    full = λ c h. let o = p.listed c h in let z = a.full c (in_gone c o.0) in omega (arith, o.1);
+    full = λ c h. let listed = p.listed c h in let full = a.full c (in_gone c listed.0) in omega (arith, listed.1);
   };
   listed = λ c h. in_gone c (p.listed c h).0;
   each = λ c. elim (p.each c) [ inl f ↦ inl f | inr f ↦ inr (f.0, in_gone c f.1) ];
-  taken = λ c h. p.done c (let l : h.0 < length gone = h.1 in (h.0, omega arith, l, h.2));
+  taken = λ c h. p.done c (let below_length : h.0 < length gone = h.1 in (h.0, omega arith, below_length, h.2));
   few = omega (arith, p.few);
   cost = omega (arith, p.cost);
 }
@@ -326,11 +326,11 @@ pub taken_and_removed : (old now new : Grid) (gone rest : List Coord) (before st
 taken_and_removed old now new gone rest before steps after p h = record {
   resolution = h.resolution ∙ p.resolution;
   exact = h.exact;
-  full = λ c f. let g = h.full c f in elim (p.each c) [ inl s ↦ omega arith | inr s ↦ absurd (omega (arith, s.0)) ];
+  full = λ c f. let full = h.full c f in elim (p.each c) [ inl s ↦ omega arith | inr s ↦ absurd (omega (arith, s.0)) ];
   voided = λ c f. elim (p.taken c f) [ inl z ↦ void c z | inr g ↦ h.voided c g ];
   kept = λ c f. elim (p.each c) [ inl s ↦ elim (h.kept c (omega arith)) [ inl g ↦ inl g | inr g ↦ inr (p.listed c g) ] | inr s ↦ inr s.1 ];
   cost = omega (arith, h.cost, p.cost, p.few, changed_since old now new p.resolution (λ c. elim (p.each c) [ inl f ↦ inl f | inr f ↦ inr f.0 ]) h.full);
 }
   where
     void : (c : Coord) → word_at now c ≡ 0 → word_at new c ≡ 0
-    void c z = elim (cases_lt 0 (word_at new c)) [ inl g ↦ let y = h.full c g in absurd (omega arith) | inr g ↦ omega arith ]
+    void c z = elim (cases_lt 0 (word_at new c)) [ inl g ↦ let full = h.full c g in absurd (omega arith) | inr g ↦ omega arith ]

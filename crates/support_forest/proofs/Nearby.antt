@@ -46,7 +46,7 @@ unfolding Toward word_index
 index_left c d index i n e h k = record {
   there = record { x = c.x - 1; y = c.y; z = c.z };
   toward = inl (n, omega arith, refl, refl);
-  same_brick = let e : (c.x - 1) / 8 ≡ c.x / 8 = omega arith in λ j. record { x = e j; y = c.y / 8; z = c.z / 8 };
+  same_brick = let same_x : (c.x - 1) / 8 ≡ c.x / 8 = omega arith in λ j. record { x = same_x j; y = c.y / 8; z = c.z / 8 };
   at_index = omega arith;
 }
 
@@ -56,7 +56,7 @@ unfolding Toward word_index
 index_right c d index i n e h k = record {
   there = record { x = c.x + 1; y = c.y; z = c.z };
   toward = inr (inl (n, omega arith, refl, refl));
-  same_brick = let e : (c.x + 1) / 8 ≡ c.x / 8 = omega arith in λ j. record { x = e j; y = c.y / 8; z = c.z / 8 };
+  same_brick = let same_x : (c.x + 1) / 8 ≡ c.x / 8 = omega arith in λ j. record { x = same_x j; y = c.y / 8; z = c.z / 8 };
   at_index = omega arith;
 }
 
@@ -66,7 +66,7 @@ unfolding Toward word_index
 index_under c d index i n e h k = record {
   there = record { x = c.x; y = c.y - 1; z = c.z };
   toward = inr (inr (inl (n, refl, omega arith, refl)));
-  same_brick = let e : (c.y - 1) / 8 ≡ c.y / 8 = omega arith in λ j. record { x = c.x / 8; y = e j; z = c.z / 8 };
+  same_brick = let same_y : (c.y - 1) / 8 ≡ c.y / 8 = omega arith in λ j. record { x = c.x / 8; y = same_y j; z = c.z / 8 };
   at_index = omega arith;
 }
 
@@ -76,7 +76,7 @@ unfolding Toward word_index
 index_over c d index i n e h k = record {
   there = record { x = c.x; y = c.y + 1; z = c.z };
   toward = inr (inr (inr (inl (n, refl, omega arith, refl))));
-  same_brick = let e : (c.y + 1) / 8 ≡ c.y / 8 = omega arith in λ j. record { x = c.x / 8; y = e j; z = c.z / 8 };
+  same_brick = let same_y : (c.y + 1) / 8 ≡ c.y / 8 = omega arith in λ j. record { x = c.x / 8; y = same_y j; z = c.z / 8 };
   at_index = omega arith;
 }
 
@@ -86,7 +86,7 @@ unfolding Toward word_index
 index_near c d index i n e h k = record {
   there = record { x = c.x; y = c.y; z = c.z - 1 };
   toward = inr (inr (inr (inr (inl (n, refl, refl, omega arith)))));
-  same_brick = let e : (c.z - 1) / 8 ≡ c.z / 8 = omega arith in λ j. record { x = c.x / 8; y = c.y / 8; z = e j };
+  same_brick = let same_z : (c.z - 1) / 8 ≡ c.z / 8 = omega arith in λ j. record { x = c.x / 8; y = c.y / 8; z = same_z j };
   at_index = omega arith;
 }
 
@@ -96,7 +96,7 @@ unfolding Toward word_index
 index_far c d index i n e h k = record {
   there = record { x = c.x; y = c.y; z = c.z + 1 };
   toward = inr (inr (inr (inr (inr (n, refl, refl, omega arith)))));
-  same_brick = let e : (c.z + 1) / 8 ≡ c.z / 8 = omega arith in λ j. record { x = c.x / 8; y = c.y / 8; z = e j };
+  same_brick = let same_z : (c.z + 1) / 8 ≡ c.z / 8 = omega arith in λ j. record { x = c.x / 8; y = c.y / 8; z = same_z j };
   at_index = omega arith;
 }
 
@@ -164,6 +164,6 @@ one_direction d k a b (inr (inr (inr (inr (inr (h)))))) (inr (inr (inr (inr (inr
 -- where a neighbour's word is written, those of the others stay
 pub stay_after : (w v : Coord → ℕ) (c q : Coord) (d word : ℕ) → Toward d c q → IsWritten w v q word → StayAfter w v c d
 stay_after w v c q d word t n k m l h = record {
-  each = λ p u. n.kept p (λ e. let s : d ≡ k = one_direction d k c q t (subst (λ (x : Coord). Toward k c x) e u) in absurd (omega arith)) ∙ h.each p u;
+  each = λ p u. n.kept p (λ e. let d_is : d ≡ k = one_direction d k c q t (subst (λ (x : Coord). Toward k c x) e u) in absurd (omega arith)) ∙ h.each p u;
   some = h.some;
 }

@@ -42,15 +42,15 @@ one_more w c q a b d t i floor sound lower higher looser near loose = record {
   sound = sound;
   least = λ k p l u h. elim (cases_lt k d) [
     | inl m ↦ lower (height w p + 1) (i.least k p m u h)
-    | inr m ↦ let e : w p ≡ w q = the_word w c q p d k t u (omega arith) in let n = near (omega arith) in (n.0, omega (arith, n.1))
+    | inr m ↦ let same_w : w p ≡ w q = the_word w c q p d k t u (omega arith) in let n = near (omega arith) in (n.0, omega (arith, n.1))
   ];
   highest = λ k p l u h. elim (cases_lt k d) [
-    | inl m ↦ let n : height w p ≤ a.highest = i.highest k p m u h in omega arith
-    | inr m ↦ let e : w p ≡ w q = the_word w c q p d k t u (omega arith) in let n = near (omega arith) in omega (arith, n.2)
+    | inl m ↦ let at_most_highest : height w p ≤ a.highest = i.highest k p m u h in omega arith
+    | inr m ↦ let same_w : w p ≡ w q = the_word w c q p d k t u (omega arith) in let n = near (omega arith) in omega (arith, n.2)
   ];
   loose = λ k p l u f h. elim (cases_lt k d) [
     | inl m ↦ looser (i.loose k p m u f h)
-    | inr m ↦ let e : w p ≡ w q = the_word w c q p d k t u (omega arith) in loose (omega arith) (omega arith)
+    | inr m ↦ let same_w : w p ≡ w q = the_word w c q p d k t u (omega arith) in loose (omega arith) (omega arith)
   ];
 }
 
@@ -78,7 +78,7 @@ exact_low r w q e h = not_deep r w (λ _. ⊥) (height w q) q settling (λ y n. 
     settling = record {
       space = e.space;
       form = e.form;
-      floor = λ c f y. let k : w c ≡ 8 = e.floor c f y in inl (omega arith);
+      floor = λ c f y. let w_is : w c ≡ 8 = e.floor c f y in inl (omega arith);
       parent = λ c g. elim (e.parent c g) [ inl k ↦ inl k | inr k ↦ inr (k.0, k.1, k.2, omega (arith, k.3)) ];
       near = λ a b f g n. inl (e.near a b f g n);
       sound = λ x n. absurd n;
@@ -118,24 +118,24 @@ pub record Fits (r : ℕ) (w : Coord → ℕ) (c : Coord) (word : ℕ) : Type 0 
 exact_with : (r : ℕ) (w v : Coord → ℕ) (c : Coord) (word : ℕ) → AreExact r w → IsInSpace r c → w c ≡ 0 → Fits r w c word
     → IsWritten w v c word → AreExact r v
 exact_with r w v c word e s z f k = record {
-  space = λ d g. elim (same_or_not d c) [ inl m ↦ subst (λ (x : Coord). IsInSpace r x) (sym m) s | inr m ↦ let o = k.kept d m in e.space d (omega arith) ];
-  form = λ d g. elim (same_or_not d c) [ inl m ↦ let n = at d m in let h : word ≤ 1 = f.form (omega arith) in omega arith | inr m ↦ let o = k.kept d m in let h : w d ≤ 1 = e.form d (omega arith) in omega arith ];
-  floor = λ d g y. elim (same_or_not d c) [ inl m ↦ at d m ∙ f.floor (sym (ap (λ (x : Coord). x.y) m) ∙ y) | inr m ↦ k.kept d m ∙ e.floor d (let o = k.kept d m in omega arith) y ];
+  space = λ d g. elim (same_or_not d c) [ inl m ↦ subst (λ (x : Coord). IsInSpace r x) (sym m) s | inr m ↦ let kept = k.kept d m in e.space d (omega arith) ];
+  form = λ d g. elim (same_or_not d c) [ inl m ↦ let n = at d m in let word_to_1 : word ≤ 1 = f.form (omega arith) in omega arith | inr m ↦ let kept = k.kept d m in let w_to_1 : w d ≤ 1 = e.form d (omega arith) in omega arith ];
+  floor = λ d g y. elim (same_or_not d c) [ inl m ↦ at d m ∙ f.floor (sym (ap (λ (x : Coord). x.y) m) ∙ y) | inr m ↦ k.kept d m ∙ e.floor d (let kept = k.kept d m in omega arith) y ];
   parent = λ d g. elim (same_or_not d c) [
     | inl m ↦ own d m g
-    | inr m ↦ let o = k.kept d m in elim (e.parent d (omega arith)) [
-      | inl p ↦ inl (o ∙ p.0, p.1)
-      | inr p ↦ let n = still p.0 p.2 in inr (p.0, subst (λ (j : ℕ). Toward (j % 8) d p.0) (sym o) p.1, omega (arith, p.2), omega (arith, p.3))
+    | inr m ↦ let kept = k.kept d m in elim (e.parent d (omega arith)) [
+      | inl p ↦ inl (kept ∙ p.0, p.1)
+      | inr p ↦ let n = still p.0 p.2 in inr (p.0, subst (λ (j : ℕ). Toward (j % 8) d p.0) (sym kept) p.1, omega (arith, p.2), omega (arith, p.3))
     ]
   ];
   near = λ a b g h n. elim (same_or_not a c) [
     | inl m ↦ elim (same_or_not b c) [
       | inl o ↦ absurd (not_beside n.direction a b (m ∙ sym o) n.toward)
-      | inr o ↦ let x = at a m in let y = k.kept b o in let q = f.above b (omega arith) (subst (λ (t : Coord). AreBeside t b) m n) in (omega (arith, q.0), omega (arith, q.1))
+      | inr o ↦ let x = at a m in let kept = k.kept b o in let above = f.above b (omega arith) (subst (λ (t : Coord). AreBeside t b) m n) in (omega (arith, above.0), omega (arith, above.1))
     ]
     | inr m ↦ elim (same_or_not b c) [
-      | inl o ↦ let x = k.kept a m in let y = at b o in let q = f.below a (omega arith) (omega arith) (subst (λ (t : Coord). AreBeside a t) o n) in (omega (arith, q.0), omega (arith, q.1))
-      | inr o ↦ let x = k.kept a m in let y = k.kept b o in let q = e.near a b (omega arith) (omega arith) n in (omega (arith, q.0), omega (arith, q.1))
+      | inl o ↦ let kept = k.kept a m in let y = at b o in let below = f.below a (omega arith) (omega arith) (subst (λ (t : Coord). AreBeside a t) o n) in (omega (arith, below.0), omega (arith, below.1))
+      | inr o ↦ let x = k.kept a m in let kept = k.kept b o in let near = e.near a b (omega arith) (omega arith) n in (omega (arith, near.0), omega (arith, near.1))
     ]
   ];
 }
@@ -144,7 +144,7 @@ exact_with r w v c word e s z f k = record {
     at d m = ap v m ∙ k.here
 
     still : (q : Coord) → 8 ≤ w q → v q ≡ w q
-    still q h = k.kept q (λ m. let o : w q ≡ w c = ap w m in omega arith)
+    still q h = k.kept q (λ m. let same_w : w q ≡ w c = ap w m in omega arith)
 
     own : (d : Coord) → d ≡ c → 8 ≤ v d
         → ((v d ≡ 8) × (d.y ≡ 0)) ⊎ ((q : Coord) × Toward (v d % 8) d q × (8 ≤ v q) × (height v q + 1 ≡ height v d))
@@ -159,9 +159,9 @@ fits_alone : (r : ℕ) (w : Coord → ℕ) (c : Coord) (a : Around) → IsAround
 fits_alone r w c a i z = record {
   some = omega arith;
   form = λ h. omega arith;
-  floor = λ y. let h : a.height ≡ 1 = i.floor y in absurd (omega arith);
+  floor = λ y. let height_is : a.height ≡ 1 = i.floor y in absurd (omega arith);
   parent = λ h. absurd (omega arith);
-  above = λ b h n. let t = toward_range_seven n.direction c b n.toward in let k = i.least n.direction b t.1 n.toward h in absurd (omega (arith, k.0));
+  above = λ b h n. let t = toward_range_seven n.direction c b n.toward in let least = i.least n.direction b t.1 n.toward h in absurd (omega (arith, least.0));
   below = λ b g h n. absurd (omega arith);
 }
 
@@ -170,16 +170,16 @@ fits_alone r w c a i z = record {
 fits_below : (r : ℕ) (w : Coord → ℕ) (c : Coord) (a : Around) → AreExact r w → r * r * r ≤ 64000000 → IsAround w c a 7
     → (a.height ≡ 0 → ⊥) → a.is_loose ≡ false → a.highest ≤ a.height + 1 → Fits r w c (8 * a.height + a.toward)
 fits_below r w c a e few i z firm calm =
-    let x : Candidate = record { at = c; height = a.height; toward = a.toward } in
-    let sound : IsSound w x = elim i.sound [ inl n ↦ absurd (z n) | inr s ↦ s ] in
-    let range = sound_range w x sound in
+    let candidate : Candidate = record { at = c; height = a.height; toward = a.toward } in
+    let sound : IsSound w candidate = elim i.sound [ inl n ↦ absurd (z n) | inr s ↦ s ] in
+    let range = sound_range w candidate sound in
     let low = not_high r w c a e few i sound in
     record {
       some = omega (arith, range.0);
       form = λ h. omega (arith, range.0);
-      floor = λ y. let h : a.height ≡ 1 = i.floor y in let t = on_floor w x sound h in omega arith;
+      floor = λ y. let height_is : a.height ≡ 1 = i.floor y in let t = on_floor w candidate sound height_is in omega arith;
       parent = λ h. by_sound r w c a e i sound range.1;
-      above = λ b h n. let t = toward_range_seven n.direction c b n.toward in let k = i.least n.direction b t.1 n.toward h in (omega (arith, range.0), omega (arith, range.1, k.1));
+      above = λ b h n. let t = toward_range_seven n.direction c b n.toward in let least = i.least n.direction b t.1 n.toward h in (omega (arith, range.0), omega (arith, range.1, least.1));
       below = λ b g h n. neighbour b g (beside_back b c n) range.1 low;
     }
   where
@@ -192,9 +192,9 @@ fits_below r w c a e few i z firm calm =
     not_high r w c a e few i (inl s) = omega (arith, s.1)
     not_high r w c a e few i (inr s) =
         let t = toward_range_seven a.toward c s.0 s.1 in
-        let k = i.least a.toward s.0 t.1 s.1 s.2 in
+        let least = i.least a.toward s.0 t.1 s.1 s.2 in
         let l = exact_low r w s.0 e s.2 in
-        omega (arith, k.1)
+        omega (arith, least.1)
 
     by_sound : (r : ℕ) (w : Coord → ℕ) (c : Coord) (a : Around) → AreExact r w → IsAround w c a 7
         → IsSound w (record { at = c; height = a.height; toward = a.toward }) → a.toward ≤ 6
@@ -202,10 +202,10 @@ fits_below r w c a e few i z firm calm =
         × (8 ≤ w q) × (height w q + 1 ≡ (8 * a.height + a.toward) / 8))
     by_sound r w c a e i (inl s) t = inl (omega (arith, s.0, s.1), s.2)
     by_sound r w c a e i (inr s) t =
-        let m : a.toward ≡ (8 * a.height + a.toward) % 8 = omega arith in
+        let toward_is : a.toward ≡ (8 * a.height + a.toward) % 8 = omega arith in
         let u = toward_range_seven a.toward c s.0 s.1 in
-        let k = i.least a.toward s.0 u.1 s.1 s.2 in
-        inr (s.0, subst (λ (j : ℕ). Toward j c s.0) m s.1, s.2, omega (arith, s.3, k.1))
+        let least = i.least a.toward s.0 u.1 s.1 s.2 in
+        inr (s.0, subst (λ (j : ℕ). Toward j c s.0) toward_is s.1, s.2, omega (arith, s.3, least.1))
 
     neighbour : (b : Coord) → 0 < w b → AreBeside c b → a.toward ≤ 6 → a.height ≤ 64000001
         → (8 ≤ w b) × (height w b ≤ (8 * a.height + a.toward) / 8 + 1)
@@ -213,7 +213,7 @@ fits_below r w c a e few i z firm calm =
         let u = toward_range_seven n.direction c b n.toward in
         elim (cases_lt (w b) 8) [
           | inl m ↦ absurd (false≢true (sym firm ∙ i.loose n.direction b u.1 n.toward g m))
-          | inr m ↦ let l : height w b ≤ a.highest = i.highest n.direction b u.1 n.toward (omega arith) in (omega arith, omega arith)
+          | inr m ↦ let at_most_highest : height w b ≤ a.highest = i.highest n.direction b u.1 n.toward (omega arith) in (omega arith, omega arith)
         ]
 
 -- ---- the voxel stands on the one under it
@@ -221,14 +221,14 @@ fits_below r w c a e few i z firm calm =
 fits_over : (r : ℕ) (w : Coord → ℕ) (c : Coord) (b : Beside) → AreBesideWords w c b → MayStand b
     → Fits r w c (8 * (b.under / 8) + 11)
 fits_over r w c b k m =
-    let down = k.under.some (let h = m.under in omega arith) in
+    let down = k.under.some (let under = m.under in omega arith) in
     let same : w down.0 ≡ b.under = k.under.each down.0 down.1 in
     let digit : 3 ≡ (8 * (b.under / 8) + 11) % 8 = omega arith in
     record {
       some = omega arith;
       form = λ h. omega arith;
       floor = λ y. let h = toward_down c down.0 down.1 in absurd (omega arith);
-      parent = λ h. inr (down.0, subst (λ (j : ℕ). Toward j c down.0) digit down.1, (let u = m.under in omega arith), omega arith);
+      parent = λ h. inr (down.0, subst (λ (j : ℕ). Toward j c down.0) digit down.1, (let under = m.under in omega arith), omega arith);
       above = λ q h n. (omega arith, each_beside w c q b (λ v. 8 ≤ v → (8 * (b.under / 8) + 11) / 8 ≤ v / 8 + 1) k (above b.left m.left) (above b.right m.right) (λ u. omega arith) (above b.over m.over) (above b.near m.near) (above b.far m.far) n h);
       below = λ q f h n. each_beside w c q b (λ v. 0 < v → (8 ≤ v) × (v / 8 ≤ (8 * (b.under / 8) + 11) / 8 + 1)) k (below b.left m.left) (below b.right m.right) (λ u. (m.under, omega arith)) (below b.over m.over) (below b.near m.near) (below b.far m.far) (beside_back q c n) f;
     }
@@ -239,7 +239,7 @@ fits_over r w c b k m =
 
     below : (v : ℕ) → LeavesRoom v (b.under / 8) → 0 < v → (8 ≤ v) × (v / 8 ≤ (8 * (b.under / 8) + 11) / 8 + 1)
     below v (inl z) h = absurd (omega arith)
-    below v (inr z) h = let l = z.0 in let u = z.1 in let g = m.under in (omega arith, omega arith)
+    below v (inr z) h = let l = z.0 in let u = z.1 in let under = m.under in (omega arith, omega arith)
 
 -- ---- the voxel is on the floor
 
@@ -247,14 +247,14 @@ fits_over r w c b k m =
 floor_near : (r : ℕ) (w : Coord → ℕ) (c a : Coord) (d over : ℕ) → AreExact r w → c.y ≡ 0 → IsWordToward w c 4 over
     → MayLieUnder over → 0 < w a → Toward d c a → (8 ≤ w a) × (height w a ≤ 8 / 8 + 1)
 unfolding Toward
-floor_near r w c a d over e y k m f (inl h) = let l : w a ≡ 8 = e.floor a f (omega arith) in (omega arith, omega arith)
-floor_near r w c a d over e y k m f (inr (inl h)) = let l : w a ≡ 8 = e.floor a f (omega arith) in (omega arith, omega arith)
+floor_near r w c a d over e y k m f (inl h) = let w_is : w a ≡ 8 = e.floor a f (omega arith) in (omega arith, omega arith)
+floor_near r w c a d over e y k m f (inr (inl h)) = let w_is : w a ≡ 8 = e.floor a f (omega arith) in (omega arith, omega arith)
 floor_near r w c a d over e y k m f (inr (inr (inl h))) = absurd (omega arith)
 floor_near r w c a d over e y k m f (inr (inr (inr (inl h)))) =
-    let l : w a ≡ over = k.each a (inr (inr (inr (inl (refl, omega arith, omega arith, omega arith))))) in
+    let w_is : w a ≡ over = k.each a (inr (inr (inr (inl (refl, omega arith, omega arith, omega arith))))) in
     elim m [ inl z ↦ absurd (omega arith) | inr b ↦ (omega (arith, b.0), omega (arith, b.1)) ]
-floor_near r w c a d over e y k m f (inr (inr (inr (inr (inl h))))) = let l : w a ≡ 8 = e.floor a f (omega arith) in (omega arith, omega arith)
-floor_near r w c a d over e y k m f (inr (inr (inr (inr (inr h))))) = let l : w a ≡ 8 = e.floor a f (omega arith) in (omega arith, omega arith)
+floor_near r w c a d over e y k m f (inr (inr (inr (inr (inl h))))) = let w_is : w a ≡ 8 = e.floor a f (omega arith) in (omega arith, omega arith)
+floor_near r w c a d over e y k m f (inr (inr (inr (inr (inr h))))) = let w_is : w a ≡ 8 = e.floor a f (omega arith) in (omega arith, omega arith)
 
 fits_on_floor : (r : ℕ) (w : Coord → ℕ) (c : Coord) (over : ℕ) → AreExact r w → c.y ≡ 0 → IsWordToward w c 4 over
     → MayLieUnder over → Fits r w c 8
@@ -276,9 +276,9 @@ word_small r w c a e few i = elim i.sound [
     | inl f ↦ omega (arith, f.1)
     | inr f ↦
         let t = toward_range_seven a.toward c f.0 f.1 in
-        let k = i.least a.toward f.0 t.1 f.1 f.2 in
+        let least = i.least a.toward f.0 t.1 f.1 f.2 in
         let l = exact_low r w f.0 e f.2 in
-        omega (arith, k.1)
+        omega (arith, least.1)
   ]
 ]
 
@@ -340,9 +340,9 @@ placed_on_floor old new c over before mid after e s z y i m k r l t = placed_wit
 pub under_small : (r : ℕ) (w : Coord → ℕ) (c : Coord) (b : Beside) → AreExact r w → r * r * r ≤ 64000000
     → AreBesideWords w c b → MayStand b → b.under / 8 ≤ 64000000
 under_small r w c b e few k m =
-    let down = k.under.some (let h = m.under in omega arith) in
+    let down = k.under.some (let under = m.under in omega arith) in
     let same : w down.0 ≡ b.under = k.under.each down.0 down.1 in
-    let low = exact_low r w down.0 e (let h = m.under in omega arith) in
+    let low = exact_low r w down.0 e (let under = m.under in omega arith) in
     omega arith
 
 -- ---- the only cell
@@ -350,9 +350,9 @@ under_small r w c b e few k m =
 pub only_one : (cells : List Coord) (c x : Coord) → length cells ≡ 1 → c ≡ slice_index_or cells 0 c → Contains cells x
     → c ≡ x
 only_one cells c x l e h =
-    let k : h.0 < length cells = h.1 in
-    let z : h.0 ≡ 0 = omega arith in
-    e ∙ (get_or_default cells 0 c x (omega arith) ∙ (ap (λ (n : ℕ). slice_index_or cells n x) (sym z) ∙ h.2))
+    let below_length : h.0 < length cells = h.1 in
+    let h_is : h.0 ≡ 0 = omega arith in
+    e ∙ (get_or_default cells 0 c x (omega arith) ∙ (ap (λ (n : ℕ). slice_index_or cells n x) (sym h_is) ∙ h.2))
 
 pub placed_added : (old new : Grid) (cells : List Coord) (c : Coord) (before after : ℕ) → length cells ≡ 1
     → c ≡ slice_index_or cells 0 c → CanAdd old cells → HavePlaced old new c before after
@@ -360,8 +360,8 @@ pub placed_added : (old new : Grid) (cells : List Coord) (c : Coord) (before aft
 placed_added old new cells c before after l e a p = record {
   resolution = p.resolution;
   exact = p.exact;
-  full = λ x f. elim (same_or_not x c) [ inl m ↦ inr (0, omega arith, get_or_default cells 0 x c (omega arith) ∙ (sym e ∙ sym m)) | inr m ↦ let k = p.kept x m in inl (omega arith) ];
-  kept = λ x f. elim (same_or_not x c) [ inl m ↦ let k : word_at new x ≡ word_at new c = ap (word_at new) m in omega (arith, p.full) | inr m ↦ let k = p.kept x m in omega arith ];
+  full = λ x f. elim (same_or_not x c) [ inl m ↦ inr (0, omega arith, get_or_default cells 0 x c (omega arith) ∙ (sym e ∙ sym m)) | inr m ↦ let kept = p.kept x m in inl (omega arith) ];
+  kept = λ x f. elim (same_or_not x c) [ inl m ↦ let same_word : word_at new x ≡ word_at new c = ap (word_at new) m in omega (arith, p.full) | inr m ↦ let kept = p.kept x m in omega arith ];
   added = λ x h. subst (λ (y : Coord). 0 < word_at new y) (only_one cells c x l e h) p.full;
   cost = omega (arith, p.cost);
 }

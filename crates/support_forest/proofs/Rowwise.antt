@@ -65,13 +65,13 @@ one_more : (g : Grid) (c : Coord) (slot index word k : ℕ) → CanRow g c slot 
 unfolding with_row
 one_more g c slot index word k h s l =
     let now = rowed g slot index word k in
-    let i : IsInSpace g.resolution (further c k) = row_space g c 8 k h.row l in
+    let in_space : IsInSpace g.resolution (further c k) = row_space g c 8 k h.row l in
     let e : Some slot ≡ slot_of now (further c k) = row_slot g c 8 k (Some slot) h.row l (sym h.own) in
-    let x : index + k ≡ word_index (further c k) = sym (row_index c 8 k index h.row.row l h.at) in
-    let n : k + 1 ≡ suc k = omega arith in
-    let w : get_or (words_of (with_row g.bricks slot index (suc k) word) slot) (index + k) 0 ≡ word = subst (λ (j : ℕ). get_or (words_of (with_row g.bricks slot index j word) slot) (index + k) 0 ≡ word) n (h.written k l) in (
-      sets now (further c k) slot (index + k) word (with_row g.bricks slot index (suc k) word) s i e x refl w,
-      keeps now (further c k) slot (index + k) word (with_row g.bricks slot index (suc k) word) s i e x refl w,
+    let index_is : index + k ≡ word_index (further c k) = sym (row_index c 8 k index h.row.row l h.at) in
+    let same_k : k + 1 ≡ suc k = omega arith in
+    let element_is : get_or (words_of (with_row g.bricks slot index (suc k) word) slot) (index + k) 0 ≡ word = subst (λ (j : ℕ). get_or (words_of (with_row g.bricks slot index j word) slot) (index + k) 0 ≡ word) same_k (h.written k l) in (
+      sets now (further c k) slot (index + k) word (with_row g.bricks slot index (suc k) word) s in_space e index_is refl element_is,
+      keeps now (further c k) slot (index + k) word (with_row g.bricks slot index (suc k) word) s in_space e index_is refl element_is,
     )
 
 is_rowed : (g : Grid) (c : Coord) (slot index word k : ℕ) → CanRow g c slot index word → k ≤ 8
@@ -80,17 +80,17 @@ unfolding with_row
 is_rowed g c slot index word zero h l = record { store = h.store; count = refl; later = λ j m. refl }
 is_rowed g c slot index word (suc k) h l =
     let p = is_rowed g c slot index word k h (omega arith) in
-    let b : k < 8 = omega arith in
-    let o = one_more g c slot index word k h p.store b in
-    let old : word_at (rowed g slot index word k) (further c k) ≢ 1 = λ e. h.levels k b (sym (p.later k (omega arith)) ∙ e) in
-    let n = count_written (rowed g slot index word k) (rowed g slot index word (suc k)) (further c k) (word_at (rowed g slot index word k) (further c k)) word refl (row_space g c 8 k h.row b) refl o.0 in
+    let k_below_8 : k < 8 = omega arith in
+    let o = one_more g c slot index word k h p.store k_below_8 in
+    let old : word_at (rowed g slot index word k) (further c k) ≢ 1 = λ e. h.levels k k_below_8 (sym (p.later k (omega arith)) ∙ e) in
+    let n = count_written (rowed g slot index word k) (rowed g slot index word (suc k)) (further c k) (word_at (rowed g slot index word k) (further c k)) word refl (row_space g c 8 k h.row k_below_8) refl o.0 in
     let u : tally (word == 1) ≡ 0 = not_one word h.level in
     let d : tally (word_at (rowed g slot index word k) (further c k) == 1) ≡ 0 = not_one (word_at (rowed g slot index word k) (further c k)) old in
     let before = p.count in
     record {
       store = o.1;
       count = omega arith;
-      later = λ j m. o.0.kept (further c j) (λ e. let z : c.z + j ≡ c.z + k = ap (λ (x : Coord). x.z) e in omega arith) ∙ p.later j (omega arith);
+      later = λ j m. o.0.kept (further c j) (λ e. let same_z : c.z + j ≡ c.z + k = ap (λ (x : Coord). x.z) e in omega arith) ∙ p.later j (omega arith);
     }
 
 -- what a row that is written leaves
@@ -114,8 +114,8 @@ wrote_row g v c slot index word h e =
         resolution = λ k. refl;
         table = λ k. refl;
         each = λ k l.
-            let n : suc k ≡ k + 1 = omega arith in
-            subst (λ (j : ℕ). IsWritten (word_at (rowed g slot index word k)) (word_at (rowed g slot index word j)) (further c k) word) n
+            let same_k : suc k ≡ k + 1 = omega arith in
+            subst (λ (j : ℕ). IsWritten (word_at (rowed g slot index word k)) (word_at (rowed g slot index word j)) (further c k) word) same_k
             (one_more g c slot index word k h (is_rowed g c slot index word k h (omega arith)).store l).0;
       };
     })
@@ -128,13 +128,13 @@ written_so_far : (old new : Grid) (c : Coord) (word k : ℕ) (w : AreWritten old
 written_so_far old new c word zero w l = ((λ j m. absurd (omega arith)), (λ d h. ap (λ (g : Grid). word_at g d) w.first))
 written_so_far old new c word (suc k) w l =
     let p = written_so_far old new c word k w (omega arith) in
-    let n : k + 1 ≡ suc k = omega arith in
-    let o : IsWritten (word_at (w.after k)) (word_at (w.after (suc k))) (further c k) word = subst (λ (j : ℕ). IsWritten (word_at (w.after k)) (word_at (w.after j)) (further c k) word) n (w.each k (omega arith)) in (
+    let same_k : k + 1 ≡ suc k = omega arith in
+    let written : IsWritten (word_at (w.after k)) (word_at (w.after (suc k))) (further c k) word = subst (λ (j : ℕ). IsWritten (word_at (w.after k)) (word_at (w.after j)) (further c k) word) same_k (w.each k (omega arith)) in (
       (λ j m. elim (cases_eq j k) [
-        | inl e ↦ ap (λ (i : ℕ). word_at (w.after (suc k)) (further c i)) e ∙ o.here
-        | inr e ↦ o.kept (further c j) (λ q. let z : c.z + j ≡ c.z + k = ap (λ (x : Coord). x.z) q in e (omega arith)) ∙ p.0 j (grind arith)
+        | inl e ↦ ap (λ (i : ℕ). word_at (w.after (suc k)) (further c i)) e ∙ written.here
+        | inr e ↦ written.kept (further c j) (λ q. let same_z : c.z + j ≡ c.z + k = ap (λ (x : Coord). x.z) q in e (omega arith)) ∙ p.0 j (grind arith)
       ]),
-      (λ d h. o.kept d (h k (omega arith)) ∙ p.1 d (λ j m. h j (omega arith))),
+      (λ d h. written.kept d (h k (omega arith)) ∙ p.1 d (λ j m. h j (omega arith))),
     )
 
 pub row_word : (old new : Grid) (c : Coord) (word j : ℕ) → AreWritten old new c word → j < 8
@@ -159,17 +159,17 @@ no_parent w c q n k f l out h t = by t
     by (inr (inr (inl d))) = f.over k q l (inr (inr (inr (inl (refl, omega arith, omega arith, omega arith))))) h (omega arith)
     by (inr (inr (inr (inl d)))) = f.under k q l (inr (inr (inl (refl, omega arith, omega arith, omega arith)))) h (omega arith)
     by (inr (inr (inr (inr (inl d))))) =
-        let x : q.x ≡ c.x = omega arith in
-        let y : q.y ≡ c.y = omega arith in
+        let same_x : q.x ≡ c.x = omega arith in
+        let same_y : q.y ≡ c.y = omega arith in
         elim (cases_lt (k + 1) n) [
-          | inl m ↦ let z : q.z ≡ c.z + (k + 1) = omega arith in out (k + 1) m (λ j. record { x = x j; y = y j; z = z j })
-          | inr m ↦ f.far q x y (omega arith) h (omega arith)
+          | inl m ↦ let z_is : q.z ≡ c.z + (k + 1) = omega arith in out (k + 1) m (λ j. record { x = same_x j; y = same_y j; z = z_is j })
+          | inr m ↦ f.far q same_x same_y (omega arith) h (omega arith)
         ]
     by (inr (inr (inr (inr (inr d))))) =
-        let x : q.x ≡ c.x = omega arith in
-        let y : q.y ≡ c.y = omega arith in
+        let same_x : q.x ≡ c.x = omega arith in
+        let same_y : q.y ≡ c.y = omega arith in
         elim (cases_lt 0 k) [
-          | inl m ↦ let z : q.z ≡ c.z + (k - 1) = omega arith in out (k - 1) (omega arith) (λ j. record { x = x j; y = y j; z = z j })
+          | inl m ↦ let z_is : q.z ≡ c.z + (k - 1) = omega arith in out (k - 1) (omega arith) (λ j. record { x = same_x j; y = same_y j; z = z_is j })
           | inr m ↦ f.near 0 q (omega arith) (inr (inr (inr (inr (inl (refl, omega arith, omega arith, omega arith)))))) h (omega arith)
         ]
 
@@ -178,8 +178,8 @@ exact_without_row : (r n : ℕ) (w v : Coord → ℕ) (c : Coord) → AreExact r
 exact_without_row r n w v c e f gone kept = record {
   space = λ d h. let s = kept d (out d h) in e.space d (omega arith);
   form = λ d l. elim (in_row d c n) [
-    | inl i ↦ let z : v d ≡ 0 = ap v i.2 ∙ gone i.0 i.1 in omega arith
-    | inr o ↦ let s = kept d o in let h : w d ≤ 1 = e.form d (omega arith) in omega arith
+    | inl i ↦ let v_is : v d ≡ 0 = ap v i.2 ∙ gone i.0 i.1 in omega arith
+    | inr o ↦ let s = kept d o in let w_to_1 : w d ≤ 1 = e.form d (omega arith) in omega arith
   ];
   floor = λ d h y. let s = kept d (out d h) in s ∙ e.floor d (omega arith) y;
   parent = λ d h.
@@ -191,20 +191,20 @@ exact_without_row r n w v c e f gone kept = record {
             let same : v p.0 ≡ w p.0 = kept p.0 (λ j l m. no_parent w c d n j f l o (omega arith) (subst (λ (x : Coord). Toward (w d % 8) d x) m p.1)) in
             inr (p.0, subst (λ (j : ℕ). Toward (j % 8) d p.0) (sym s) p.1, omega (arith, p.2), omega (arith, p.3))
       ];
-  near = λ a b h i j. let s = kept a (out a h) in let t = kept b (out b (omega arith)) in let q = e.near a b (omega arith) (omega arith) j in (omega (arith, q.0), omega (arith, q.1));
+  near = λ a b h i j. let s = kept a (out a h) in let t = kept b (out b (omega arith)) in let near = e.near a b (omega arith) (omega arith) j in (omega (arith, near.0), omega (arith, near.1));
 }
   where
     out : (d : Coord) → 0 < v d → (j : ℕ) → j < n → d ≡ further c j → ⊥
-    out d h j l m = let z : v d ≡ 0 = ap v m ∙ gone j l in omega arith
+    out d h j l m = let v_is : v d ≡ 0 = ap v m ∙ gone j l in omega arith
 
 pub row_voided : (old new : Grid) (c : Coord) (before after : ℕ) → AreExact old.resolution (word_at old)
     → RowIsFree (word_at old) c 8 → AreWritten old new c 0 → after ≡ before + 8 → AreCleared old new c 0 8 before after
 row_voided old new c before after e f w a =
-    let r : new.resolution ≡ old.resolution = ap (λ (g : Grid). g.resolution) (sym w.last) ∙ w.resolution 8 in
+    let same_resolution : new.resolution ≡ old.resolution = ap (λ (g : Grid). g.resolution) (sym w.last) ∙ w.resolution 8 in
     record {
-      resolution = r;
+      resolution = same_resolution;
       table = ap (λ (g : Grid). g.table) (sym w.last) ∙ w.table 8;
-      exact = subst (λ (s : ℕ). AreExact s (word_at new)) (sym r)
+      exact = subst (λ (s : ℕ). AreExact s (word_at new)) (sym same_resolution)
           (exact_without_row old.resolution 8 (word_at old) (word_at new) c e f (λ j l. row_word old new c 0 j w l) (λ d h. row_others old new c d 0 w h));
       gone = λ j b l. row_word old new c 0 j w l;
       kept = λ d h. row_others old new c d 0 w (λ j l. h j (omega arith) l);
@@ -216,5 +216,5 @@ row_voided old new c before after e f w a =
 pub none_is_one : (g : Grid) (c : Coord) (k : ℕ) → LieInRow g c 8 → NoneFloatsBelow g (volume g.resolution) → k < 8
     → word_at g (further c k) ≢ 1
 none_is_one g c k h none l e =
-    let i : IsInSpace g.resolution (further c k) = row_space g c 8 k h l in
-    none (place g.resolution (further c k)) (place_below g.resolution (further c k) i) (ap (word_at g) (coordinate_at-place g.resolution (further c k) i) ∙ e)
+    let in_space : IsInSpace g.resolution (further c k) = row_space g c 8 k h l in
+    none (place g.resolution (further c k)) (place_below g.resolution (further c k) in_space) (ap (word_at g) (coordinate_at-place g.resolution (further c k) in_space) ∙ e)

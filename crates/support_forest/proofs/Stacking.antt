@@ -52,11 +52,11 @@ fits_level r w c word h level floor parent = record {
   floor = floor;
   parent = λ k. parent;
   above = λ b k n.
-      let l : height w b ≡ b.y + 1 = h b (omega arith) in
+      let height_is : height w b ≡ b.y + 1 = h b (omega arith) in
       let y = near_level n.direction c b n.toward in
       (omega arith, omega (arith, y.0));
   below = λ a k m n.
-      let l : height w a ≡ a.y + 1 = h a k in
+      let height_is : height w a ≡ a.y + 1 = h a k in
       let y = near_level n.direction a c n.toward in
       (omega arith, omega (arith, y.0));
 }
@@ -64,8 +64,8 @@ fits_level r w c word h level floor parent = record {
 heap_with : (w v : Coord → ℕ) (c : Coord) (word : ℕ) → AreHeapWords w → word / 8 ≡ c.y + 1 → IsWritten w v c word
     → AreHeapWords v
 heap_with w v c word h level k d g = elim (same_or_not d c) [
-  | inl m ↦ let n : v d ≡ word = ap v m ∙ k.here in let y : d.y ≡ c.y = ap (λ (x : Coord). x.y) m in omega arith
-  | inr m ↦ let n = k.kept d m in let l : height w d ≡ d.y + 1 = h d (omega arith) in omega arith
+  | inl m ↦ let v_is : v d ≡ word = ap v m ∙ k.here in let same_y : d.y ≡ c.y = ap (λ (x : Coord). x.y) m in omega arith
+  | inr m ↦ let kept = k.kept d m in let height_is : height w d ≡ d.y + 1 = h d (omega arith) in omega arith
 ]
 
 stacked_with : (old new : Grid) (c : Coord) (word before mid after : ℕ) → CanStack old c → Fits old.resolution (word_at old) c word → word / 8 ≡ c.y + 1 →
@@ -85,7 +85,7 @@ stacked_on_floor old new c before after s y k r t a =
 
 toward_under : (c : Coord) → (c.y ≡ 0 → ⊥) → Toward 3 c (under c)
 unfolding Toward
-toward_under c n = let p : 0 < c.y = elim (cases_lt 0 c.y) [ inl l ↦ l | inr l ↦ absurd (n (omega arith)) ] in inr (inr (inl (refl, refl, omega arith, refl)))
+toward_under c n = let some_y : 0 < c.y = elim (cases_lt 0 c.y) [ inl l ↦ l | inr l ↦ absurd (n (omega arith)) ] in inr (inr (inl (refl, refl, omega arith, refl)))
 
 pub stacked_on_another : (old new : Grid) (c : Coord) (before mid after : ℕ) → CanStack old c → (c.y ≡ 0 → ⊥) → (word_at old (under c) ≡ 0 → ⊥) →
     IsWritten (word_at old) (word_at new) c (8 * c.y + 11) →
@@ -107,10 +107,10 @@ pub stacked_in_pile : (old new : Grid) (c : Coord) (n k word before after : ℕ)
 stacked_in_pile old new c n k word before after s (inl y) l floor above w r t a =
     stacked_on_floor old new (further c k) before after s y (subst (λ (v : ℕ). IsWritten (word_at old) (word_at new) (further c k) v) (floor y) w) r t a
 stacked_in_pile old new c n k word before after s (inr f) l floor above w r t a = elim (cases_lt 0 c.y) [
-  | inl y ↦ stacked_on_another old new (further c k) before before after s (λ e. let z : c.y ≡ 0 = e in omega arith) (λ e. let o = f k l in omega arith)
+  | inl y ↦ stacked_on_another old new (further c k) before before after s (λ e. let y_is : c.y ≡ 0 = e in omega arith) (λ e. let o = f k l in omega arith)
       (subst (λ (v : ℕ). IsWritten (word_at old) (word_at new) (further c k) v) (above y) w) r t (omega arith) a
-  | inr y ↦ let z : c.y ≡ 0 = omega arith in
-      stacked_on_floor old new (further c k) before after s z (subst (λ (v : ℕ). IsWritten (word_at old) (word_at new) (further c k) v) (floor z) w) r t a
+  | inr y ↦ let y_is : c.y ≡ 0 = omega arith in
+      stacked_on_floor old new (further c k) before after s y_is (subst (λ (v : ℕ). IsWritten (word_at old) (word_at new) (further c k) v) (floor y_is) w) r t a
 ]
 
 -- a row still stands where a voxel of it was written
@@ -120,7 +120,7 @@ still_stands w v c n k word (inl y) s = inl y
 still_stands w v c n k word (inr f) s = elim (cases_lt 0 c.y) [
   | inl y ↦ inr (λ j l.
       let o = f j l in
-      let e = s.kept (under (further c j)) (λ p. let h : c.y - 1 ≡ c.y = ap (λ (x : Coord). x.y) p in omega arith) in
+      let kept = s.kept (under (further c j)) (λ p. let y_is : c.y - 1 ≡ c.y = ap (λ (x : Coord). x.y) p in omega arith) in
       omega arith)
   | inr y ↦ inl (omega arith)
 ]
@@ -152,7 +152,7 @@ even_bit : (n : ℕ) → n % 2 ≡ 0 → (n % 2 == 1) ≡ false
 even_bit n h = grind (arith, nat_tests)
 
 odd_bit : (n : ℕ) → (n % 2 ≡ 0 → ⊥) → (n % 2 == 1) ≡ true
-odd_bit n h = let e : n % 2 ≡ 1 = elim (cases_lt 0 (n % 2)) [ inl l ↦ omega arith | inr l ↦ absurd (h (omega arith)) ] in grind (arith, nat_tests)
+odd_bit n h = let n_is : n % 2 ≡ 1 = elim (cases_lt 0 (n % 2)) [ inl l ↦ omega arith | inr l ↦ absurd (h (omega arith)) ] in grind (arith, nat_tests)
 
 pub void_bit : (m : Matrix) (from count bits k : ℕ) → AreBits m from count bits → k < count → bits / 2 ^ k % 2 ≡ 0
     → IsFalse (voxel_at m (from + k))
@@ -211,23 +211,23 @@ heaped_none m g rest r x z e = record {
   exact = x;
   heap = λ c k. let o = z c in absurd (omega arith);
   seen = λ c k. let o = z c in absurd (omega arith);
-  done = λ c s. let l : place m.resolution c < 0 = s.before in absurd (omega arith);
+  done = λ c s. let place_below_0 : place m.resolution c < 0 = s.before in absurd (omega arith);
   listed = λ c k. absurd (no_member rest c e k);
   differ = none_differ rest e;
-  few = let n : length rest ≡ 0 = ap length e in omega arith;
+  few = let length_is : length rest ≡ 0 = ap length e in omega arith;
 }
 
 pub heaped_same : (m : Matrix) (old new : Grid) (p : ℕ) (rest : List Coord) → new.resolution ≡ old.resolution →
     ((c : Coord) → word_at new c ≡ word_at old c) → IsHeaped m old p rest → IsHeaped m new p rest
 heaped_same m old new p rest r e h =
-    let s : word_at old ≡ word_at new = sym (λ i c. e c i) in
+    let same_word : word_at old ≡ word_at new = sym (λ i c. e c i) in
     record {
       resolution = r ∙ h.resolution;
-      exact = subst (λ (n : ℕ). AreExact n (word_at new)) (sym r) (subst (λ (w : Coord → ℕ). AreExact old.resolution w) s h.exact);
-      heap = subst (λ (w : Coord → ℕ). AreHeapWords w) s h.heap;
+      exact = subst (λ (n : ℕ). AreExact n (word_at new)) (sym r) (subst (λ (w : Coord → ℕ). AreExact old.resolution w) same_word h.exact);
+      heap = subst (λ (w : Coord → ℕ). AreHeapWords w) same_word h.heap;
       seen = λ c k. h.seen c (let o = e c in omega arith);
       done = λ c k. elim (h.done c k) [ inl f ↦ let o = e c in inl (omega arith) | inr f ↦ inr f ];
-      listed = λ c k. let o = h.listed c k in (o.0, e c ∙ o.1);
+      listed = λ c k. let listed = h.listed c k in (listed.0, e c ∙ listed.1);
       differ = h.differ;
       few = h.few;
     }
@@ -248,7 +248,7 @@ heaped_void m g p q rest l void h = record {
     | inl b ↦ h.done c (record { within = s.within; full = s.full; before = b })
     | inr b ↦ absurd (false_and_true (voxel_at m (place m.resolution c)) (void (place m.resolution c) b s.before) s.full)
   ];
-  listed = λ c k. let o = h.listed c k in (later_seen m p q c l o.0, o.1);
+  listed = λ c k. let listed = h.listed c k in (later_seen m p q c l listed.0, listed.1);
   differ = h.differ;
   few = omega (arith, h.few);
 }
@@ -278,12 +278,12 @@ module _ (m : Matrix) (old : Grid) (p : ℕ) (rest : List Coord) (c : Coord) (h 
   }
 
   not_here : (d : Coord) → IsSeen m p d → d ≡ c → ⊥
-  not_here d s e = let b = s.before in let k : place m.resolution d ≡ place m.resolution c = ap (place m.resolution) e in omega (arith, b)
+  not_here d s e = let before = s.before in let k : place m.resolution d ≡ place m.resolution c = ap (place m.resolution) e in omega (arith, before)
 
   earlier : (d : Coord) → (d ≡ c → ⊥) → IsSeen m (p + 1) d → IsSeen m p d
   earlier d n s = elim (cases_lt (place m.resolution d) p) [
     | inl b ↦ record { within = s.within; full = s.full; before = b }
-    | inr b ↦ let k = s.before in absurd (n (same_place m.resolution d c s.within within (omega (arith, k))))
+    | inr b ↦ let before = s.before in absurd (n (same_place m.resolution d c s.within within (omega (arith, before))))
   ]
 
   module _ (full : IsTrue (voxel_at m p)) where
@@ -297,13 +297,13 @@ module _ (m : Matrix) (old : Grid) (p : ℕ) (rest : List Coord) (c : Coord) (h 
       heap = s.heap;
       seen = λ d k. elim (same_or_not d c) [
         | inl e ↦ subst (λ (x : Coord). IsSeen m (p + 1) x) (sym e) seen_here
-        | inr n ↦ let o = s.placed.kept d n in later_seen m p (p + 1) d (omega arith) (h.seen d (omega arith))
+        | inr n ↦ let kept = s.placed.kept d n in later_seen m p (p + 1) d (omega arith) (h.seen d (omega arith))
       ];
       done = λ d k. elim (same_or_not d c) [
         | inl e ↦ inl (subst (λ (x : Coord). 0 < word_at new x) (sym e) s.placed.full)
-        | inr n ↦ let o = s.placed.kept d n in elim (h.done d (earlier d n k)) [ inl f ↦ inl (omega arith) | inr f ↦ inr f ]
+        | inr n ↦ let kept = s.placed.kept d n in elim (h.done d (earlier d n k)) [ inl f ↦ inl (omega arith) | inr f ↦ inr f ]
       ];
-      listed = λ d k. let o = h.listed d k in (later_seen m p (p + 1) d (omega arith) o.0, s.placed.kept d (not_here d o.0) ∙ o.1);
+      listed = λ d k. let listed = h.listed d k in (later_seen m p (p + 1) d (omega arith) listed.0, s.placed.kept d (not_here d listed.0) ∙ listed.1);
       differ = h.differ;
       few = omega (arith, h.few);
     }
@@ -319,11 +319,11 @@ module _ (m : Matrix) (old : Grid) (p : ℕ) (rest : List Coord) (c : Coord) (h 
         | inr n ↦ elim (h.done d (earlier d n k)) [ inl f ↦ inl f | inr f ↦ inr (Contains-append_left rest (c ∷ []) d f) ]
       ];
       listed = λ d k. elim (Contains-push_cases rest c d k) [
-        | inl o ↦ let q = h.listed d o in (later_seen m p (p + 1) d (omega arith) q.0, q.1)
+        | inl o ↦ let listed = h.listed d o in (later_seen m p (p + 1) d (omega arith) listed.0, listed.1)
         | inr o ↦ subst (λ (x : Coord). IsSeen m (p + 1) x × (word_at old x ≡ 0)) o (seen_here, (can_stack).void)
       ];
       differ = differ_more rest c h.differ (λ d k e. not_here d (h.listed d k).0 e);
-      few = let n : length (rest ++ c ∷ []) ≡ length rest + 1 = length-append rest (c ∷ []) in omega (arith, h.few);
+      few = let same_length : length (rest ++ c ∷ []) ≡ length rest + 1 = length-append rest (c ∷ []) in omega (arith, h.few);
     }
 
     heaped_listed : (new : Grid) (more : List Coord) → new ≡ old → more ≡ rest ++ c ∷ [] → IsHeaped m new (p + 1) more
@@ -378,15 +378,15 @@ are_piled : (m : Matrix) (old new : Grid) (c : Coord) (word k : ℕ) → CanPile
 are_piled m old new c word zero h w l = subst (λ (g : Grid). ArePiled m old g c 0) (sym w.first) (record { heaped = λ rest i. heaped_at _ _ _ _ _ (omega arith) i; stands = h.stands })
 are_piled m old new c word (suc k) h w l =
     let p = are_piled m old new c word k h w (omega arith) in
-    let n : k + 1 ≡ suc k = omega arith in
-    let b : k < 8 = omega arith in
-    let r : c.z + k < m.resolution = omega (arith, h.row) in
+    let same_k : k + 1 ≡ suc k = omega arith in
+    let k_below_8 : k < 8 = omega arith in
+    let below_resolution : c.z + k < m.resolution = omega (arith, h.row) in
     let some = h.heap in
-    let can : CanStack (w.after k) (further c k) = can_stack_along m (w.after k) c k some.rest (p.heaped some.rest some.is) h.within r in
-    let stacked = stacked_in_pile (w.after k) (w.after (k + 1)) c 8 k word 0 1 can p.stands b h.floor h.above (w.each k b) (w.resolution (k + 1) ∙ sym (w.resolution k)) (w.table (k + 1) ∙ sym (w.table k)) (omega arith) in
-    subst (λ (j : ℕ). ArePiled m old (w.after j) c j) n (record {
-      heaped = λ rest i. stacked_along m (w.after k) c k rest (p.heaped rest i) h.within r (h.full k b) (w.after (k + 1)) 0 1 stacked;
-      stands = still_stands (word_at (w.after k)) (word_at (w.after (k + 1))) c 8 k word p.stands (w.each k b);
+    let can : CanStack (w.after k) (further c k) = can_stack_along m (w.after k) c k some.rest (p.heaped some.rest some.is) h.within below_resolution in
+    let stacked = stacked_in_pile (w.after k) (w.after (k + 1)) c 8 k word 0 1 can p.stands k_below_8 h.floor h.above (w.each k k_below_8) (w.resolution (k + 1) ∙ sym (w.resolution k)) (w.table (k + 1) ∙ sym (w.table k)) (omega arith) in
+    subst (λ (j : ℕ). ArePiled m old (w.after j) c j) same_k (record {
+      heaped = λ rest i. stacked_along m (w.after k) c k rest (p.heaped rest i) h.within below_resolution (h.full k k_below_8) (w.after (k + 1)) 0 1 stacked;
+      stands = still_stands (word_at (w.after k)) (word_at (w.after (k + 1))) c 8 k word p.stands (w.each k k_below_8);
     })
 
 pub piled : (m : Matrix) (old new : Grid) (c : Coord) (word : ℕ) → CanPile m old c word → AreWritten old new c word →
@@ -397,8 +397,8 @@ piled m old new c word h w rest i = subst (λ (g : Grid). IsHeaped m g (place m.
 pub void_to_come : (m : Matrix) (old : Grid) (c : Coord) (k : ℕ) → IsSomeHeap m old (place m.resolution c)
     → word_at old (further c k) ≡ 1 → ⊥
 void_to_come m old c k h e =
-    let s = h.is.seen (further c k) (omega arith) in
-    let b : place m.resolution (further c k) < place m.resolution c = s.before in
+    let seen = h.is.seen (further c k) (omega arith) in
+    let below_place : place m.resolution (further c k) < place m.resolution c = seen.before in
     let p : place m.resolution (further c k) ≡ place m.resolution c + k = omega arith in
     omega arith
 

@@ -37,7 +37,7 @@ few_bricks r h = omega arith
 pub cube_of_bricks : (n : ℕ) → n ≤ 50 → n * n * n ≤ 125000
 cube_of_bricks n h =
     let a : n * n ≤ 50 * n = grind arith in
-    let b : n * n * n ≤ 50 * n * n = grind arith in
+    let at_most_n : n * n * n ≤ 50 * n * n = grind arith in
     omega arith
 
 pub index_below : (c : Coord) → word_index c < 512
@@ -58,10 +58,10 @@ unfolding brick_number word_index
 same_voxel r c d h k n i =
     let b : brick c ≡ brick d = sym (coordinate_at-place (side r) (brick c) h) ∙ (ap (coordinate_at (side r)) n ∙ coordinate_at-place (side r) (brick d) k) in
     let m = digits c.x c.y c.z d.x d.y d.z i in
-    let x : c.x ≡ d.x = same_digits c.x d.x (ap (λ (p : Coord). p.x) b) m.0 in
-    let y : c.y ≡ d.y = same_digits c.y d.y (ap (λ (p : Coord). p.y) b) m.1 in
-    let z : c.z ≡ d.z = same_digits c.z d.z (ap (λ (p : Coord). p.z) b) m.2 in
-    λ j. record { x = x j; y = y j; z = z j }
+    let same_x : c.x ≡ d.x = same_digits c.x d.x (ap (λ (p : Coord). p.x) b) m.0 in
+    let same_y : c.y ≡ d.y = same_digits c.y d.y (ap (λ (p : Coord). p.y) b) m.1 in
+    let same_z : c.z ≡ d.z = same_digits c.z d.z (ap (λ (p : Coord). p.z) b) m.2 in
+    λ j. record { x = same_x j; y = same_y j; z = same_z j }
 
 -- ---- slots
 
@@ -86,8 +86,8 @@ pub other_word : (v : Slots) (s i w t j : ℕ) → (t ≡ s → j ≡ i → ⊥)
 other_word v s i w t j n = elim (cases_eq t s) [
   | inl e ↦
       let ne : j ≡ i → ⊥ = n e in
-      let k : get_or (set (words_of v s) i w) j 0 ≡ get_or (words_of v s) j 0 = (rw get_or-set_other refl) in
-      ap (λ (o : Option (List ℕ)). get_or (unwrap_or o []) j 0) (get_here v s (set (words_of v s) i w) t e) ∙ (k ∙ ap (λ (q : ℕ). get_or (words_of v q) j 0) (sym e))
+      let same_element : get_or (set (words_of v s) i w) j 0 ≡ get_or (words_of v s) j 0 = (rw get_or-set_other refl) in
+      ap (λ (o : Option (List ℕ)). get_or (unwrap_or o []) j 0) (get_here v s (set (words_of v s) i w) t e) ∙ (same_element ∙ ap (λ (q : ℕ). get_or (words_of v q) j 0) (sym e))
   | inr ne ↦ ap (λ (o : Option (List ℕ)). get_or (unwrap_or o []) j 0) (get_other v s (set (words_of v s) i w) t ne)
 ]
 
@@ -106,17 +106,17 @@ count_taken (o ∷ more) zero s l e =
     sum_by-cons (λ (p : Option ℕ). cond (is_some p) 1 0) (Some s) more ∙ (one_more o (count_by is_some more) e ∙ ap (λ (k : ℕ). k + 1) (sym (sum_by-cons (λ (p : Option ℕ). cond (is_some p) 1 0) o more)))
 count_taken (o ∷ more) (suc n) s l e =
     let a : count_by is_some (o ∷ set more n (Some s)) ≡ cond (is_some o) 1 0 + count_by is_some (set more n (Some s)) = sum_by-cons (λ (p : Option ℕ). cond (is_some p) 1 0) o (set more n (Some s)) in
-    let b : count_by is_some (o ∷ more) ≡ cond (is_some o) 1 0 + count_by is_some more = sum_by-cons (λ (p : Option ℕ). cond (is_some p) 1 0) o more in
-    let k : count_by is_some (set more n (Some s)) ≡ count_by is_some more + 1 = count_taken more n s (omega arith) e in
+    let count_is : count_by is_some (o ∷ more) ≡ cond (is_some o) 1 0 + count_by is_some more = sum_by-cons (λ (p : Option ℕ). cond (is_some p) 1 0) o more in
+    let same_count : count_by is_some (set more n (Some s)) ≡ count_by is_some more + 1 = count_taken more n s (omega arith) e in
     omega arith
 
 -- there is room for the slot of each brick
 pub few_live : (g : Grid) → IsStore g → len g.bricks ≤ 125000
 few_live g h =
-    let a : count_by is_some g.table ≤ length g.table = count_by-le-length is_some g.table in
-    let b : length g.table ≡ side g.resolution * side g.resolution * side g.resolution = h.bricks in
-    let d : side g.resolution * side g.resolution * side g.resolution ≤ 125000 = cube_of_bricks (side g.resolution) (few_bricks g.resolution h.few) in
-    let e : len g.bricks ≡ count_by is_some g.table = h.count in
+    let at_most_length : count_by is_some g.table ≤ length g.table = count_by-le-length is_some g.table in
+    let length_is : length g.table ≡ side g.resolution * side g.resolution * side g.resolution = h.bricks in
+    let side_to_125000 : side g.resolution * side g.resolution * side g.resolution ≤ 125000 = cube_of_bricks (side g.resolution) (few_bricks g.resolution h.few) in
+    let len_is : len g.bricks ≡ count_by is_some g.table = h.count in
     omega arith
 
 -- ---- what the code answers

@@ -33,19 +33,19 @@ pub stretch_from : (gone : List Coord) (end : ℕ) (last : Coord) (most count : 
 stretch_from gone end last most count c b l h =
     let s = b.some in
     let w = b.within in
-    let f = b.few in
+    let few = b.few in
     let r = b.row in
-    let e : c ≡ record { x = last.x; y = last.y; z = last.z - (count - 1) } = h ∙ b.each (count - 1) (end - count) c (omega arith) (omega arith) in
-    let x : last.x ≡ c.x = sym (ap (λ (p : Coord). p.x) e) in
-    let y : last.y ≡ c.y = sym (ap (λ (p : Coord). p.y) e) in
-    let z : c.z ≡ last.z - (count - 1) = ap (λ (p : Coord). p.z) e in
+    let record_is : c ≡ record { x = last.x; y = last.y; z = last.z - (count - 1) } = h ∙ b.each (count - 1) (end - count) c (omega arith) (omega arith) in
+    let same_x : last.x ≡ c.x = sym (ap (λ (p : Coord). p.x) record_is) in
+    let same_y : last.y ≡ c.y = sym (ap (λ (p : Coord). p.y) record_is) in
+    let z_is : c.z ≡ last.z - (count - 1) = ap (λ (p : Coord). p.z) record_is in
     record {
       some = s;
       within = omega arith;
       row = omega arith;
       each = λ k d m.
-          let t : last.z - (count - 1 - k) ≡ c.z + k = omega arith in
-          let u : record { x = last.x; y = last.y; z = last.z - (count - 1 - k) } ≡ further c k = λ j. record { x = x j; y = y j; z = t j } in
+          let same_z : last.z - (count - 1 - k) ≡ c.z + k = omega arith in
+          let u : record { x = last.x; y = last.y; z = last.z - (count - 1 - k) } ≡ further c k = λ j. record { x = same_x j; y = same_y j; z = same_z j } in
           b.each (count - 1 - k) (end - count + k) d (omega arith) (omega arith) ∙ u;
     }
 
@@ -57,10 +57,10 @@ one_before gone end last most s l h m = record {
   few = omega arith;
   row = m;
   each = λ k i d n e.
-      let p : i ≡ end - 1 = omega arith in
-      let z : last.z ≡ last.z - k = omega arith in
-      let u : last ≡ record { x = last.x; y = last.y; z = last.z - k } = λ j. record { x = last.x; y = last.y; z = z j } in
-      ap (λ (b : ℕ). slice_index_or gone b d) p ∙ (get_or_default gone (end - 1) d last (omega arith) ∙ (sym h ∙ u));
+      let i_is : i ≡ end - 1 = omega arith in
+      let z_is : last.z ≡ last.z - k = omega arith in
+      let last_is : last ≡ record { x = last.x; y = last.y; z = last.z - k } = λ j. record { x = last.x; y = last.y; z = z_is j } in
+      ap (λ (b : ℕ). slice_index_or gone b d) i_is ∙ (get_or_default gone (end - 1) d last (omega arith) ∙ (sym h ∙ last_is));
 }
 
 pub one_more_before : (gone : List Coord) (end : ℕ) (last : Coord) (most count : ℕ) (c : Coord)
@@ -75,22 +75,22 @@ one_more_before gone end last most count c b g l m h x y z = record {
   each = λ k i d n e. elim (cases_lt k count) [
     | inl o ↦ b.each k i d o e
     | inr o ↦
-        let p : i ≡ end - 1 - count = omega arith in
-        let q : k ≡ count = omega arith in
-        let t : c.z ≡ last.z - k = omega arith in
-        let u : c ≡ record { x = last.x; y = last.y; z = last.z - k } = λ j. record { x = x j; y = y j; z = t j } in
-        ap (λ (b : ℕ). slice_index_or gone b d) p ∙ (get_or_default gone (end - 1 - count) d c (omega arith) ∙ (sym h ∙ u))
+        let i_is : i ≡ end - 1 - count = omega arith in
+        let k_is : k ≡ count = omega arith in
+        let z_is : c.z ≡ last.z - k = omega arith in
+        let record_is : c ≡ record { x = last.x; y = last.y; z = last.z - k } = λ j. record { x = x j; y = y j; z = z_is j } in
+        ap (λ (b : ℕ). slice_index_or gone b d) i_is ∙ (get_or_default gone (end - 1 - count) d c (omega arith) ∙ (sym h ∙ record_is))
   ];
 }
 
 -- ---- the words of a row
 
 pub row_space : (g : Grid) (c : Coord) (n k : ℕ) → LieInRow g c n → k < n → IsInSpace g.resolution (further c k)
-row_space g c n k h l = record { x = h.within.x; y = h.within.y; z = let m = h.last in omega arith }
+row_space g c n k h l = record { x = h.within.x; y = h.within.y; z = let last = h.last in omega arith }
 
 -- the voxels of a row lie in one brick
 row_brick : (c : Coord) (n k : ℕ) → c.z % 8 + n ≤ 8 → k < n → brick (further c k) ≡ brick c
-row_brick c n k r l = let z : (c.z + k) / 8 ≡ c.z / 8 = omega arith in λ j. record { x = c.x / 8; y = c.y / 8; z = z j }
+row_brick c n k r l = let same_z : (c.z + k) / 8 ≡ c.z / 8 = omega arith in λ j. record { x = c.x / 8; y = c.y / 8; z = same_z j }
 
 pub row_slot : (g : Grid) (c : Coord) (n k : ℕ) (own : Option ℕ) → LieInRow g c n → k < n → own ≡ slot_of g c
     → own ≡ slot_of g (further c k)
@@ -98,7 +98,7 @@ row_slot g c n k own h l e = same_slot g c (further c k) own (row_brick c n k h.
 
 pub row_void : (g : Grid) (c : Coord) (n toward : ℕ) → LieInRow g c n → None ≡ slot_of g c
     → RowHangsNot (word_at g) c n toward
-row_void g c n toward h e k l f = let z : 0 ≡ word_at g (further c k) = reads_none g (further c k) (row_space g c n k h l) (row_slot g c n k None h l e) in absurd (omega arith)
+row_void g c n toward h e k l f = let word_is : 0 ≡ word_at g (further c k) = reads_none g (further c k) (row_space g c n k h l) (row_slot g c n k None h l e) in absurd (omega arith)
 
 pub row_index : (c : Coord) (n k index : ℕ) → c.z % 8 + n ≤ 8 → k < n → index ≡ word_index c
     → word_index (further c k) ≡ index + k
@@ -136,10 +136,10 @@ row_in_slot g chunk slot index from n c P s b r e h i f w k l =
 pub beside_further : (d k : ℕ) (c q p : Coord) → (0 < d) × (d ≤ 4) → Toward d c q → Toward d (further c k) p
     → p ≡ further q k
 unfolding Toward
-beside_further d k c q p r (inl h) (inl t) = let x : p.x ≡ q.x = omega arith in let y : p.y ≡ q.y = omega arith in let z : p.z ≡ q.z + k = omega arith in λ j. record { x = x j; y = y j; z = z j }
-beside_further d k c q p r (inr (inl h)) (inr (inl t)) = let x : p.x ≡ q.x = omega arith in let y : p.y ≡ q.y = omega arith in let z : p.z ≡ q.z + k = omega arith in λ j. record { x = x j; y = y j; z = z j }
-beside_further d k c q p r (inr (inr (inl h))) (inr (inr (inl t))) = let x : p.x ≡ q.x = omega arith in let y : p.y ≡ q.y = omega arith in let z : p.z ≡ q.z + k = omega arith in λ j. record { x = x j; y = y j; z = z j }
-beside_further d k c q p r (inr (inr (inr (inl h)))) (inr (inr (inr (inl t)))) = let x : p.x ≡ q.x = omega arith in let y : p.y ≡ q.y = omega arith in let z : p.z ≡ q.z + k = omega arith in λ j. record { x = x j; y = y j; z = z j }
+beside_further d k c q p r (inl h) (inl t) = let same_x : p.x ≡ q.x = omega arith in let same_y : p.y ≡ q.y = omega arith in let z_is : p.z ≡ q.z + k = omega arith in λ j. record { x = same_x j; y = same_y j; z = z_is j }
+beside_further d k c q p r (inr (inl h)) (inr (inl t)) = let same_x : p.x ≡ q.x = omega arith in let same_y : p.y ≡ q.y = omega arith in let z_is : p.z ≡ q.z + k = omega arith in λ j. record { x = same_x j; y = same_y j; z = z_is j }
+beside_further d k c q p r (inr (inr (inl h))) (inr (inr (inl t))) = let same_x : p.x ≡ q.x = omega arith in let same_y : p.y ≡ q.y = omega arith in let z_is : p.z ≡ q.z + k = omega arith in λ j. record { x = same_x j; y = same_y j; z = z_is j }
+beside_further d k c q p r (inr (inr (inr (inl h)))) (inr (inr (inr (inl t)))) = let same_x : p.x ≡ q.x = omega arith in let same_y : p.y ≡ q.y = omega arith in let z_is : p.z ≡ q.z + k = omega arith in λ j. record { x = same_x j; y = same_y j; z = z_is j }
 beside_further d k c q p r (inl h) (inr (inl t)) = absurd (omega arith)
 beside_further d k c q p r (inl h) (inr (inr (inl t))) = absurd (omega arith)
 beside_further d k c q p r (inl h) (inr (inr (inr (inl t)))) = absurd (omega arith)
@@ -174,10 +174,10 @@ same_height d c q r (inr (inr (inr (inr (inr h))))) = absurd (omega arith)
 
 pub side_row : (g : Grid) (c q : Coord) (n d : ℕ) → (0 < d) × (d ≤ 4) → LieInRow g c n → Toward d c q
     → IsInSpace g.resolution q → LieInRow g q n
-side_row g c q n d r h t s = let z : q.z ≡ c.z = same_height d c q r.1 t in record {
+side_row g c q n d r h t s = let same_z : q.z ≡ c.z = same_height d c q r.1 t in record {
   within = s;
-  last = let l = h.last in omega arith;
-  row = let l = h.row in omega arith;
+  last = let last = h.last in omega arith;
+  row = let row = h.row in omega arith;
 }
 
 pub side_free : (w : Coord → ℕ) (c q : Coord) (n d toward : ℕ) → (0 < d) × (d ≤ 4) → Toward d c q
@@ -199,8 +199,8 @@ pub side_none : (g : Grid) (r : ℕ) (c : Coord) (n d toward : ℕ) → (0 < d) 
     → SideHangsNot (word_at g) c n d toward
 side_none g r c n d toward b h e space none k p l t f m =
     let s = space p (omega arith) in
-    let z = h.within.z in
-    none (record { x = p.x; y = p.y; z = c.z }) (side_back d k c p b.1 t) (subst (λ (i : ℕ). IsInSpace i (record { x = p.x; y = p.y; z = c.z })) (sym e) (record { x = s.x; y = s.y; z = z }))
+    let within_z = h.within.z in
+    none (record { x = p.x; y = p.y; z = c.z }) (side_back d k c p b.1 t) (subst (λ (i : ℕ). IsInSpace i (record { x = p.x; y = p.y; z = c.z })) (sym e) (record { x = s.x; y = s.y; z = within_z }))
 
 -- a side in the brick at hand
 pub side_in_slot : (g : Grid) (chunk : List ℕ) (slot index from n d toward : ℕ) (c : Coord) → (0 < d) × (d ≤ 4)
@@ -208,8 +208,8 @@ pub side_in_slot : (g : Grid) (chunk : List ℕ) (slot index from n d toward : �
     → from ≡ start_in_chunk slot + index → WordsHangNot chunk from n toward → SideHangsNot (word_at g) c n d toward
 side_in_slot g chunk slot index from n d toward c r s b h t f w =
     let at : StandsAt g slot index t.there = stands_beside g c d slot index b.row.within b.own t in
-    let z : t.there.z ≡ c.z = same_height d c t.there r.1 t.toward in
-    let o = b.row.row in
+    let same_z : t.there.z ≡ c.z = same_height d c t.there r.1 t.toward in
+    let row = b.row.row in
     side_free (word_at g) c t.there n d toward r t.toward
     (row_in_slot g chunk slot index from n t.there (λ v. HangsNot v toward) s at.within (omega arith) at.in_slot h (sym at.at_index) f w)
 
@@ -217,16 +217,16 @@ pub side_in_chunk : (g : Grid) (chunk : List ℕ) (slot index from n d : ℕ) (c
     → HasSlot g.bricks slot chunk → IsIndexToward c d index → from ≡ start_in_chunk slot + index
     → from + n ≤ length chunk
 side_in_chunk g chunk slot index from n d c r b h t f =
-    let z : t.there.z ≡ c.z = same_height d c t.there r t.toward in
-    let o = b.row.row in
+    let same_z : t.there.z ≡ c.z = same_height d c t.there r t.toward in
+    let row = b.row.row in
     row_in_chunk g chunk slot index from n t.there h (sym t.at_index) (omega arith) f
 
 pub end_free : (w : Coord → ℕ) (c : Coord) (d toward word : ℕ) → IsWordToward w c d word → HangsNot word toward
     → SideHangsNot w c 1 d toward
 end_free w c d toward word t h k p l u =
-    let e : c.z + k ≡ c.z = omega arith in
-    let b : further c k ≡ c = λ j. record { x = c.x; y = c.y; z = e j } in
-    subst (λ (v : ℕ). HangsNot v toward) (sym (t.each p (subst (λ (x : Coord). Toward d x p) b u))) h
+    let z_is : c.z + k ≡ c.z = omega arith in
+    let further_is : further c k ≡ c = λ j. record { x = c.x; y = c.y; z = z_is j } in
+    subst (λ (v : ℕ). HangsNot v toward) (sym (t.each p (subst (λ (x : Coord). Toward d x p) further_is u))) h
 
 pub far_free : (w : Coord → ℕ) (c : Coord) (n : ℕ) → 0 < n → SideHangsNot w (further c (n - 1)) 1 6 5 → (p : Coord)
     → p.x ≡ c.x → p.y ≡ c.y → p.z ≡ c.z + n → HangsNot (w p) 5
@@ -248,8 +248,8 @@ stretch_in_row g gone end count c e s b full =
     let first = e.space (further c 0) (stretch_full g gone end count 0 c s b full m) in
     let last = e.space (further c (count - 1)) (stretch_full g gone end count (count - 1) c s b full (omega arith)) in
     record {
-      within = record { x = first.x; y = first.y; z = let z = first.z in omega arith };
-      last = let z = last.z in omega arith;
+      within = record { x = first.x; y = first.y; z = let first_z = first.z in omega arith };
+      last = let last_z = last.z in omega arith;
       row = s.row;
     }
 
@@ -263,7 +263,7 @@ first_of gone end from count d s b l e =
 -- ---- a part of a whole row
 
 pub row_has : (c : Coord) (k : ℕ) → further c k ≡ further (whole_row_start c) (c.z % 8 + k)
-row_has c k = let z : c.z + k ≡ c.z / 8 * 8 + (c.z % 8 + k) = omega arith in λ j. record { x = c.x; y = c.y; z = z j }
+row_has c k = let same_z : c.z + k ≡ c.z / 8 * 8 + (c.z % 8 + k) = omega arith in λ j. record { x = c.x; y = c.y; z = same_z j }
 
 part_side : (w : Coord → ℕ) (c : Coord) (n d toward : ℕ) → c.z % 8 + n ≤ 8
     → SideHangsNot w (whole_row_start c) 8 d toward → SideHangsNot w c n d toward
@@ -280,7 +280,7 @@ part_free w c n r s = record {
 }
 
 whole_row_brick : (c : Coord) → brick (whole_row_start c) ≡ brick c
-whole_row_brick c = let z : c.z / 8 * 8 / 8 ≡ c.z / 8 = omega arith in λ j. record { x = c.x / 8; y = c.y / 8; z = z j }
+whole_row_brick c = let same_z : c.z / 8 * 8 / 8 ≡ c.z / 8 = omega arith in λ j. record { x = c.x / 8; y = c.y / 8; z = same_z j }
 
 -- what holds of the words of the whole row in the chunk holds of those of its voxels, which may lie beyond space
 pub whole_row_in_slot : (g : Grid) (chunk : List ℕ) (slot index from : ℕ) (c : Coord) (P : ℕ → Type 0) → IsStore g

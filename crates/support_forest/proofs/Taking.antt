@@ -18,30 +18,30 @@ unfolding Toward
 none_hangs w c b k n q h t = by t
   where
     by : Toward (w q % 8) q c → ⊥
-    by (inl d) = let e : w q ≡ b.right = k.right.each q (inr (inl (refl, omega arith, omega arith, omega arith))) in n.right (omega arith) (omega arith)
-    by (inr (inl d)) = let e : w q ≡ b.left = k.left.each q (inl (refl, omega arith, omega arith, omega arith)) in n.left (omega arith) (omega arith)
-    by (inr (inr (inl d))) = let e : w q ≡ b.over = k.over.each q (inr (inr (inr (inl (refl, omega arith, omega arith, omega arith))))) in n.over (omega arith) (omega arith)
-    by (inr (inr (inr (inl d)))) = let e : w q ≡ b.under = k.under.each q (inr (inr (inl (refl, omega arith, omega arith, omega arith)))) in n.under (omega arith) (omega arith)
-    by (inr (inr (inr (inr (inl d))))) = let e : w q ≡ b.far = k.far.each q (inr (inr (inr (inr (inr (refl, omega arith, omega arith, omega arith)))))) in n.far (omega arith) (omega arith)
-    by (inr (inr (inr (inr (inr d))))) = let e : w q ≡ b.near = k.near.each q (inr (inr (inr (inr (inl (refl, omega arith, omega arith, omega arith)))))) in n.near (omega arith) (omega arith)
+    by (inl d) = let w_is : w q ≡ b.right = k.right.each q (inr (inl (refl, omega arith, omega arith, omega arith))) in n.right (omega arith) (omega arith)
+    by (inr (inl d)) = let w_is : w q ≡ b.left = k.left.each q (inl (refl, omega arith, omega arith, omega arith)) in n.left (omega arith) (omega arith)
+    by (inr (inr (inl d))) = let w_is : w q ≡ b.over = k.over.each q (inr (inr (inr (inl (refl, omega arith, omega arith, omega arith))))) in n.over (omega arith) (omega arith)
+    by (inr (inr (inr (inl d)))) = let w_is : w q ≡ b.under = k.under.each q (inr (inr (inl (refl, omega arith, omega arith, omega arith)))) in n.under (omega arith) (omega arith)
+    by (inr (inr (inr (inr (inl d))))) = let w_is : w q ≡ b.far = k.far.each q (inr (inr (inr (inr (inr (refl, omega arith, omega arith, omega arith)))))) in n.far (omega arith) (omega arith)
+    by (inr (inr (inr (inr (inr d))))) = let w_is : w q ≡ b.near = k.near.each q (inr (inr (inr (inr (inl (refl, omega arith, omega arith, omega arith)))))) in n.near (omega arith) (omega arith)
 
 pub exact_without : (r : ℕ) (w v : Coord → ℕ) (c : Coord) → AreExact r w → IsNoParent w c → IsWritten w v c 0
     → AreExact r v
 exact_without r w v c e n k = record {
   space = λ d f. let s = still d (omega arith) in e.space d (omega arith);
-  form = λ d l. elim (same_or_not d c) [ inl m ↦ let z : v d ≡ 0 = ap v m ∙ k.here in omega arith | inr m ↦ let s = k.kept d m in let h : w d ≤ 1 = e.form d (omega arith) in omega arith ];
+  form = λ d l. elim (same_or_not d c) [ inl m ↦ let v_is : v d ≡ 0 = ap v m ∙ k.here in omega arith | inr m ↦ let kept = k.kept d m in let w_to_1 : w d ≤ 1 = e.form d (omega arith) in omega arith ];
   floor = λ d f y. let s = still d f in s ∙ e.floor d (omega arith) y;
   parent = λ d h. let s = still d (omega arith) in elim (e.parent d (omega arith)) [
     | inl p ↦ inl (s ∙ p.0, p.1)
     | inr p ↦
-        let o : v p.0 ≡ w p.0 = k.kept p.0 (λ m. n d (omega arith) (subst (λ (x : Coord). Toward (w d % 8) d x) m p.1)) in
+        let v_is : v p.0 ≡ w p.0 = k.kept p.0 (λ m. n d (omega arith) (subst (λ (x : Coord). Toward (w d % 8) d x) m p.1)) in
         inr (p.0, subst (λ (j : ℕ). Toward (j % 8) d p.0) (sym s) p.1, omega (arith, p.2), omega (arith, p.3))
   ];
-  near = λ a b f h i. let s = still a f in let t = still b (omega arith) in let q = e.near a b (omega arith) (omega arith) i in (omega (arith, q.0), omega (arith, q.1));
+  near = λ a b f h i. let s = still a f in let t = still b (omega arith) in let near = e.near a b (omega arith) (omega arith) i in (omega (arith, near.0), omega (arith, near.1));
 }
   where
     still : (d : Coord) → 0 < v d → v d ≡ w d
-    still d f = k.kept d (λ m. let z : v d ≡ 0 = ap v m ∙ k.here in omega arith)
+    still d f = k.kept d (λ m. let v_is : v d ≡ 0 = ap v m ∙ k.here in omega arith)
 
 taken_by : (old new : Grid) (c : Coord) (before after : ℕ) → AreExact old.resolution (word_at old)
     → IsNoParent (word_at old) c → IsWritten (word_at old) (word_at new) c 0 → new.resolution ≡ old.resolution
@@ -68,12 +68,12 @@ unfolding Toward
 none_hangs_on_floor r w c over e y k n q h t = by t
   where
     by : Toward (w q % 8) q c → ⊥
-    by (inl d) = let l : w q ≡ 8 = e.floor q (omega arith) (omega arith) in omega arith
-    by (inr (inl d)) = let l : w q ≡ 8 = e.floor q (omega arith) (omega arith) in omega arith
-    by (inr (inr (inl d))) = let l : w q ≡ over = k.each q (inr (inr (inr (inl (refl, omega arith, omega arith, omega arith))))) in n (omega arith) (omega arith)
+    by (inl d) = let w_is : w q ≡ 8 = e.floor q (omega arith) (omega arith) in omega arith
+    by (inr (inl d)) = let w_is : w q ≡ 8 = e.floor q (omega arith) (omega arith) in omega arith
+    by (inr (inr (inl d))) = let w_is : w q ≡ over = k.each q (inr (inr (inr (inl (refl, omega arith, omega arith, omega arith))))) in n (omega arith) (omega arith)
     by (inr (inr (inr (inl d)))) = omega arith
-    by (inr (inr (inr (inr (inl d))))) = let l : w q ≡ 8 = e.floor q (omega arith) (omega arith) in omega arith
-    by (inr (inr (inr (inr (inr d))))) = let l : w q ≡ 8 = e.floor q (omega arith) (omega arith) in omega arith
+    by (inr (inr (inr (inr (inl d))))) = let w_is : w q ≡ 8 = e.floor q (omega arith) (omega arith) in omega arith
+    by (inr (inr (inr (inr (inr d))))) = let w_is : w q ≡ 8 = e.floor q (omega arith) (omega arith) in omega arith
 
 pub taken_from_floor : (old new : Grid) (c : Coord) (over before mid after : ℕ) → AreExact old.resolution (word_at old)
     → c.y ≡ 0 → IsWordToward (word_at old) c 4 over → HangsNot over 3 → IsWritten (word_at old) (word_at new) c 0
@@ -88,8 +88,8 @@ pub taken_removed : (old new : Grid) (gone : List Coord) (c : Coord) (before aft
 taken_removed old new gone c before after l e a p = record {
   resolution = p.resolution;
   exact = p.exact;
-  full = λ x f. elim (same_or_not x c) [ inl m ↦ let k : word_at new x ≡ word_at new c = ap (word_at new) m in let g = p.gone in absurd (omega arith) | inr m ↦ let k = p.kept x m in omega arith ];
+  full = λ x f. elim (same_or_not x c) [ inl m ↦ let same_word : word_at new x ≡ word_at new c = ap (word_at new) m in let gone = p.gone in absurd (omega arith) | inr m ↦ let kept = p.kept x m in omega arith ];
   voided = λ x h. subst (λ (y : Coord). word_at new y ≡ 0) (only_one gone c x l e h) p.gone;
-  kept = λ x f. elim (same_or_not x c) [ inl m ↦ inr (0, omega arith, get_or_default gone 0 x c (omega arith) ∙ (sym e ∙ sym m)) | inr m ↦ let k = p.kept x m in inl (omega arith) ];
+  kept = λ x f. elim (same_or_not x c) [ inl m ↦ inr (0, omega arith, get_or_default gone 0 x c (omega arith) ∙ (sym e ∙ sym m)) | inr m ↦ let kept = p.kept x m in inl (omega arith) ];
   cost = omega (arith, p.cost);
 }

@@ -46,7 +46,7 @@ voided_listed g area rest more x e f a only m = subst (λ (xs : List Coord). Are
     | inr o ↦ inr (subst (λ (d : Coord). area d) o a, subst (λ (d : Coord). 0 < word_at g d) o f, refl)
   ];
   differ = λ d b. differ_more rest x d (λ c h o. b c h (subst (λ (p : Coord). area p) (sym o) a));
-  few = let n : length (rest ++ x ∷ []) ≡ length rest + 1 = length-append rest (x ∷ []) in omega arith;
+  few = let same_length : length (rest ++ x ∷ []) ≡ length rest + 1 = length-append rest (x ∷ []) in omega arith;
 })
 
 -- one area after another, which it does not meet
@@ -86,7 +86,7 @@ voided_more old mid new A B C a b n rest more most p q apart parts left right e 
 -- ---- a row of a brick
 
 row_is : (first c : Coord) (n : ℕ) → IsInRow first n c → c ≡ further first (c.z - first.z)
-row_is first c n h = let x : c.x ≡ first.x = h.0 in let y : c.y ≡ first.y = h.1 in let z : c.z ≡ first.z + (c.z - first.z) = omega arith in λ j. record { x = x j; y = y j; z = z j }
+row_is first c n h = let same_x : c.x ≡ first.x = h.0 in let same_y : c.y ≡ first.y = h.1 in let z_is : c.z ≡ first.z + (c.z - first.z) = omega arith in λ j. record { x = same_x j; y = same_y j; z = z_is j }
 
 pub row_cleared_is : (old new : Grid) (first : Coord) (n : ℕ) (rest : List Coord) (before after : ℕ)
     → AreCleared old new first 0 n before after → AreVoided old new (IsInRow first n) n rest rest
@@ -106,10 +106,10 @@ row_cleared_is old new first n rest before after a = record {
 
     by : (c : Coord) (j : ℕ) → j < n → c ≡ further first j → IsInRow first n c
     by c j m e =
-        let x : c.x ≡ first.x = ap (λ (p : Coord). p.x) e in
-        let y : c.y ≡ first.y = ap (λ (p : Coord). p.y) e in
-        let z : c.z ≡ first.z + j = ap (λ (p : Coord). p.z) e in
-        (x, y, omega arith, omega arith)
+        let same_x : c.x ≡ first.x = ap (λ (p : Coord). p.x) e in
+        let same_y : c.y ≡ first.y = ap (λ (p : Coord). p.y) e in
+        let z_is : c.z ≡ first.z + j = ap (λ (p : Coord). p.z) e in
+        (same_x, same_y, omega arith, omega arith)
 
     in_row : (c : Coord) → IsInRow first n c ⊎ (IsInRow first n c → ⊥)
     in_row c = elim (cases_eq c.x first.x) [
@@ -139,14 +139,14 @@ pub voided_and_removed : (old now new : Grid) (area : Coord → Type 0) (n : ℕ
 voided_and_removed old now new area n rest more before steps after e p t h = record {
   resolution = h.resolution ∙ p.resolution;
   exact = h.exact;
-  full = λ c f. let g = h.full c f in elim (p.each c) [ inl s ↦ omega arith | inr s ↦ absurd (omega (arith, s.0)) ];
+  full = λ c f. let full = h.full c f in elim (p.each c) [ inl s ↦ omega arith | inr s ↦ absurd (omega (arith, s.0)) ];
   voided = λ c a. elim (p.done c a) [ inl z ↦ void c z | inr g ↦ h.voided c g ];
   kept = λ c f. elim (p.each c) [ inl s ↦ elim (h.kept c (omega arith)) [ inl g ↦ inl g | inr g ↦ elim (p.listed c g) [ inl o ↦ absurd (no_member rest c e o) | inr o ↦ inr o.0 ] ] | inr s ↦ inr s.1 ];
-  cost = let z : length rest ≡ 0 = ap length e in omega (arith, h.cost, p.few, t, changed_since old now new p.resolution (λ c. elim (p.each c) [ inl s ↦ inl s | inr s ↦ inr s.0 ]) h.full);
+  cost = let length_is : length rest ≡ 0 = ap length e in omega (arith, h.cost, p.few, t, changed_since old now new p.resolution (λ c. elim (p.each c) [ inl s ↦ inl s | inr s ↦ inr s.0 ]) h.full);
 }
   where
     void : (c : Coord) → word_at now c ≡ 0 → word_at new c ≡ 0
-    void c z = elim (cases_lt 0 (word_at new c)) [ inl g ↦ let y = h.full c g in absurd (omega arith) | inr g ↦ omega arith ]
+    void c z = elim (cases_lt 0 (word_at new c)) [ inl g ↦ let full = h.full c g in absurd (omega arith) | inr g ↦ omega arith ]
 
 -- ---- parts of a row, rows of a wall, walls of a region
 
@@ -182,7 +182,7 @@ part_before_row old now new first left part end rest more most l p q =
     (omega arith)
 
 one_more_of : (high y n : ℕ) → y ≤ high → (high + 1 - y) * n ≡ (high + 1 - (y + 1)) * n + n
-one_more_of high y n l = let e : high + 1 - y ≡ high + 1 - (y + 1) + 1 = omega arith in ap (λ (k : ℕ). k * n) e ∙ grind arith
+one_more_of high y n l = let same_high : high + 1 - y ≡ high + 1 - (y + 1) + 1 = omega arith in ap (λ (k : ℕ). k * n) same_high ∙ grind arith
 
 -- a row under those of the wall
 pub row_before_wall : (old now new : Grid) (k : Corners) (x y : ℕ) (rest more most : List Coord) → k.low.y ≤ y
@@ -262,23 +262,23 @@ part_in_row old now first left part end e s l m r b = record {
 pub row_none : (g : Grid) (first c : Coord) (n : ℕ) → LieInRow g first n → None ≡ slot_of g first → IsInRow first n c
     → word_at g c ≡ 0
 row_none g first c n r e h =
-    let k : c.z - first.z < n = omega arith in
-    ap (word_at g) (row_is first c n h) ∙ sym (reads_none g (further first (c.z - first.z)) (row_space g first n (c.z - first.z) r k) (row_slot g first n (c.z - first.z) None r k e))
+    let below_n : c.z - first.z < n = omega arith in
+    ap (word_at g) (row_is first c n h) ∙ sym (reads_none g (further first (c.z - first.z)) (row_space g first n (c.z - first.z) r below_n) (row_slot g first n (c.z - first.z) None r below_n e))
 
 -- ---- the ends of the loops
 
 pub row_one : (x c : Coord) → IsInRow x 1 c → c ≡ x
-row_one x c h = let p : c.x ≡ x.x = h.0 in let q : c.y ≡ x.y = h.1 in let r : c.z ≡ x.z = omega arith in λ j. record { x = p j; y = q j; z = r j }
+row_one x c h = let same_x : c.x ≡ x.x = h.0 in let same_y : c.y ≡ x.y = h.1 in let same_z : c.z ≡ x.z = omega arith in λ j. record { x = same_x j; y = same_y j; z = same_z j }
 
 -- all of a part was looked at
 pub part_at : (old now : Grid) (first : Coord) (left n : ℕ) (rest more : List Coord) → left ≡ 0
     → AreVoided old now (IsInRow (further first left) (n - left)) (n - left) rest more
     → AreVoided old now (IsInRow first n) n rest more
 part_at old now first left n rest more e p =
-    let z : first.z + left ≡ first.z = omega arith in
-    let here : further first left ≡ first = λ j. record { x = first.x; y = first.y; z = z j } in
-    let m : n - left ≡ n = omega arith in
-    subst (λ (k : ℕ). AreVoided old now (IsInRow first k) k rest more) m (subst (λ (x : Coord). AreVoided old now (IsInRow x (n - left)) (n - left) rest more) here p)
+    let z_is : first.z + left ≡ first.z = omega arith in
+    let here : further first left ≡ first = λ j. record { x = first.x; y = first.y; z = z_is j } in
+    let n_is : n - left ≡ n = omega arith in
+    subst (λ (k : ℕ). AreVoided old now (IsInRow first k) k rest more) n_is (subst (λ (x : Coord). AreVoided old now (IsInRow x (n - left)) (n - left) rest more) here p)
 
 -- all of a row was looked at
 pub whole_row_at : (old now : Grid) (first : Coord) (left end : ℕ) (rest more : List Coord) → left ≡ first.z
@@ -290,5 +290,5 @@ whole_row_at old now first left end rest more e p = subst (λ (k : ℕ). AreVoid
 pub part_void : (g : Grid) (first c : Coord) (n : ℕ) → first.z % 8 + n ≤ 8
     → ((k : ℕ) → k < 8 → word_at g (further (whole_row_start first) k) ≡ 0) → IsInRow first n c → word_at g c ≡ 0
 part_void g first c n r z h =
-    let k : c.z - first.z < n = omega arith in
+    let below_n : c.z - first.z < n = omega arith in
     ap (word_at g) (row_is first c n h ∙ row_has first (c.z - first.z)) ∙ z (first.z % 8 + (c.z - first.z)) (omega arith)

@@ -100,7 +100,7 @@ builds_then a b c target d e all from to start end m n way h k near join = recor
   raised = raised_more c.matrix b.matrix a.matrix target d e all h.raised k.raised join;
   ready = k.ready;
   low = k.low;
-  steps_are = let i = h.steps_are in let j = k.steps_are in let l = near (spot b.bots) in omega arith;
+  steps_are = let i = h.steps_are in let steps_are = k.steps_are in let l = near (spot b.bots) in omega arith;
 }
 
 -- the same part, with the way to another place at its end
@@ -112,8 +112,8 @@ builds_on a b target d e from to end m most way h near up fits same = record {
   resolution = h.resolution;
   raised = raised_as b.matrix a.matrix target d e h.raised same;
   ready = h.ready;
-  low = let l = h.low in omega arith;
-  steps_are = let i = h.steps_are in let l = near (spot b.bots) in omega arith;
+  low = let low = h.low in omega arith;
+  steps_are = let steps_are = h.steps_are in let l = near (spot b.bots) in omega arith;
 }
 
 -- ---- where all stays void
@@ -134,7 +134,7 @@ no_cell r x y z c h = no_second_of_three (in_line r x c.x) (c.y == y) (c.z == z)
 -- ---- the search for what is wanted
 
 row_more : (w l n i : ℕ) (c : Coord) → i < n → bot_row w l (n - i) c ≡ held l c ∷ bot_row w l (n - (i + 1)) (next w c)
-row_more w l n i c h = let e : n - i ≡ suc (n - (i + 1)) = omega arith in ap (λ k. bot_row w l k c) e
+row_more w l n i c h = let same_n : n - i ≡ suc (n - (i + 1)) = omega arith in ap (λ k. bot_row w l k c) same_n
 
 pub wanted_here : (m target : Matrix) (w l n i : ℕ) (c : Coord) → i < n → is_wanted m target (held l c) ≡ true
     → are_wanted m target (bot_row w l (n - i) c) ≡ true
@@ -151,7 +151,7 @@ wanted_by m n target t u v x r s y z h g e f k =
 
 pub none_left : (m target : Matrix) (w l n i : ℕ) (c : Coord) → n ≤ i
     → are_wanted m target (bot_row w l (n - i) c) ≡ false
-none_left m target w l n i c h = let e : n - i ≡ 0 = omega arith in ap (λ k. are_wanted m target (bot_row w l k c)) e
+none_left m target w l n i c h = let n_is : n - i ≡ 0 = omega arith in ap (λ k. are_wanted m target (bot_row w l k c)) n_is
 
 -- ---- one cell
 
@@ -198,8 +198,8 @@ cell_built a b c target x y z k g f =
       };
       low = let e = ap (λ (q : Coord). q.y) stands in omega arith;
       steps_are =
-          let i = f.steps in
-          let j = g.steps_are in
+          let steps = f.steps in
+          let steps_are = g.steps_are in
           let none : distance (spot c.bots) at ≡ 0 = ap (λ (q : Coord). distance q at) stands ∙ no_way at in
           omega arith;
     }
@@ -218,7 +218,7 @@ pub one_more_line : (a b c : TapeState) (target : Matrix) (x y : ℕ)
     → Builds a c target (in_first_lines a.matrix.resolution (x + 1) y) (coord 1 (y + 1) 0) (coord (x + 1 + 1) (y + 1) 0)
     ((x + 1) * line_steps a.matrix.resolution)
 one_more_line a b c target x y h k =
-    let e = h.resolution in
+    let resolution = h.resolution in
     builds_on a c target (in_first_lines a.matrix.resolution (x + 1) y) (in_first_lines a.matrix.resolution (x + 1) y) (coord 1 (y + 1) 0) (coord (x + 1) (y + 1) b.matrix.resolution) (coord (x + 1 + 1) (y + 1) 0) (x * line_steps a.matrix.resolution + 0 + 2 * b.matrix.resolution) ((x + 1) * line_steps a.matrix.resolution) (b.matrix.resolution + 1)
-    (builds_then a b c target (in_first_lines a.matrix.resolution x y) (line b.matrix.resolution (x + 1) y) (in_first_lines a.matrix.resolution (x + 1) y) (coord 1 (y + 1) 0) (coord (x + 1) (y + 1) 0) (coord (x + 1) (y + 1) 0) (coord (x + 1) (y + 1) b.matrix.resolution) (x * line_steps a.matrix.resolution) (2 * b.matrix.resolution) 0 h k (λ p. omega arith) (λ q g. ap (λ r. in_first_lines a.matrix.resolution x y q || line r (x + 1) y q) e ∙ lines_more a.matrix.resolution x y q))
+    (builds_then a b c target (in_first_lines a.matrix.resolution x y) (line b.matrix.resolution (x + 1) y) (in_first_lines a.matrix.resolution (x + 1) y) (coord 1 (y + 1) 0) (coord (x + 1) (y + 1) 0) (coord (x + 1) (y + 1) 0) (coord (x + 1) (y + 1) b.matrix.resolution) (x * line_steps a.matrix.resolution) (2 * b.matrix.resolution) 0 h k (λ p. omega arith) (λ q g. ap (λ r. in_first_lines a.matrix.resolution x y q || line r (x + 1) y q) resolution ∙ lines_more a.matrix.resolution x y q))
     (λ p. omega arith) (omega arith) (omega arith) (λ q g. refl)

@@ -15,8 +15,8 @@ use Rattle.plan_tape.proofs.LegalModels.{full_in_box}
 
 column_at : (w l n a i x : ℕ) → i < n → x ≡ a + w * i → x ≤ l → is_column w l n a x ≡ true
 column_at w l zero a i x h e k = absurd (omega arith)
-column_at w l (suc n) a zero x h e k = or_by_first (x == min a l) (is_column w l n (a + w) x) (test_equal x (min a l) (let f : w * zero ≡ 0 = omega arith in omega arith))
-column_at w l (suc n) a (suc i) x h e k = or_by_second (x == min a l) (is_column w l n (a + w) x) (column_at w l n (a + w) i x (omega arith) (let f : a + w * suc i ≡ a + w + w * i = omega arith in omega arith) k)
+column_at w l (suc n) a zero x h e k = or_by_first (x == min a l) (is_column w l n (a + w) x) (test_equal x (min a l) (let w_is : w * zero ≡ 0 = omega arith in omega arith))
+column_at w l (suc n) a (suc i) x h e k = or_by_second (x == min a l) (is_column w l n (a + w) x) (column_at w l n (a + w) i x (omega arith) (let same_a : a + w * suc i ≡ a + w + w * i = omega arith in omega arith) k)
 
 equal_or_less : (j k : ℕ) → j ≤ suc k → (j ≡ suc k) ⊎ (j ≤ k)
 equal_or_less j k h = grind arith
@@ -32,26 +32,26 @@ line_in r (suc k) j x h l e = by (equal_or_less j k l) (λ m. line_in r k j x h 
 strip_of : (r v : ℕ) → 1 ≤ width r → v ≤ r - 3 → v / width r < count r
 strip_of r v h l =
     let d = div-add-mod (r - 3) (width r) in
-    let m : (r - 3) % width r < width r = mod_below (r - 3) (width r) h in
-    let e : count r * width r ≡ width r * ((r - 3) / width r) + width r = omega arith in
+    let below_width : (r - 3) % width r < width r = mod_below (r - 3) (width r) h in
+    let count_is : count r * width r ≡ width r * ((r - 3) / width r) + width r = omega arith in
     div_below v (width r) (count r) h (omega arith)
 
 -- each column from 1 to r - 2
 covered : (r x : ℕ) → 3 ≤ r → 1 ≤ x → x + 1 < r → in_lines r (width r) x ≡ true
 covered r x s h l =
-    let w : 1 ≤ width r = omega arith in
+    let some_width : 1 ≤ width r = omega arith in
     let d = div-add-mod (x - 1) (width r) in
-    let m : (x - 1) % width r < width r = mod_below (x - 1) (width r) w in
-    line_in r (width r) ((x - 1) % width r + 1) x (omega arith) (omega arith) (column_at (width r) (last r) (count r) ((x - 1) % width r + 1) ((x - 1) / width r) x (strip_of r (x - 1) w (omega arith)) (omega arith) (omega arith))
+    let below_width : (x - 1) % width r < width r = mod_below (x - 1) (width r) some_width in
+    line_in r (width r) ((x - 1) % width r + 1) x (omega arith) (omega arith) (column_at (width r) (last r) (count r) ((x - 1) % width r + 1) ((x - 1) / width r) x (strip_of r (x - 1) some_width (omega arith)) (omega arith) (omega arith))
 
 pub in_layers : (m : Matrix) (c : Coord) → IsLegal m → is_full m c ≡ true
     → layers m.resolution (m.resolution - 1) c ≡ true
 in_layers m c h f =
     let b = full_in_box m c h f in
     let x = b.x in
-    let e = b.x_end in
-    let y = b.y_end in
-    both_true (in_lines m.resolution (width m.resolution) c.x) (nat_lt c.y (m.resolution - 1)) (covered m.resolution c.x (omega arith) x e) (test_less c.y (m.resolution - 1) (omega arith))
+    let x_end = b.x_end in
+    let y_end = b.y_end in
+    both_true (in_lines m.resolution (width m.resolution) c.x) (nat_lt c.y (m.resolution - 1)) (covered m.resolution c.x (omega arith) x x_end) (test_less c.y (m.resolution - 1) (omega arith))
 
 all_there : (full done target : Bool) → full ≡ false → (target ≡ true → done ≡ true)
     → (full || (done && target)) ≡ target

@@ -36,10 +36,10 @@ all_map P Q f (x ∷ xs) h = (f x h.0, all_map P Q f xs h.1)
 apart : (low high next end : ℕ) (s t : Span) → high < next → IsInColumns low high s → IsInColumns next end t
     → LieApart s t
 apart low high next end s t l h k =
-    let a = h.from_high in
-    let b = h.to_high in
-    let c = k.from_low in
-    let d = k.to_low in
+    let from_high = h.from_high in
+    let to_high = h.to_high in
+    let from_low = k.from_low in
+    let to_low = k.to_low in
     LieApart.before_x (record { near = omega (arith, ints); far = omega (arith, ints); next_near = omega (arith, ints); next_far = omega (arith, ints) })
 
 fenced_apart : (low high next end : ℕ) (a b : Act) → high < next → IsFenced low high a → IsFenced next end b

@@ -139,8 +139,8 @@ module _ (s : State) (target : Matrix) (light : s.profile ≡ light_profile) whe
       → AreFenced low (acts bots (fills s.matrix target bots))
   all_fenced [] low k = AreFenced.none
   all_fenced (b ∷ bots) low k =
-      let l = k.0.low_from in
-      AreFenced.one (max b.pos.x b.pos.x) (omega arith) (fenced s.matrix target low (max b.pos.x b.pos.x) b l (omega arith)) (all_fenced bots (max b.pos.x b.pos.x + 1) k.1)
+      let low_from = k.0.low_from in
+      AreFenced.one (max b.pos.x b.pos.x) (omega arith) (fenced s.matrix target low (max b.pos.x b.pos.x) b low_from (omega arith)) (all_fenced bots (max b.pos.x b.pos.x + 1) k.1)
 
   pub fills_free : (bots : List Bot) (low : ℕ) → AreLed s.matrix.resolution 1 Z low (places bots) (places bots)
       → AreFree s (acts bots (fills s.matrix target bots))

@@ -59,8 +59,8 @@ module _ (s : State) (light : s.profile ≡ light_profile) (y z : ℕ) (below : 
   pair_free all low b c within k e =
       let next : next_along_x b.pos ≡ c.pos = beside_is b.pos c.pos e (k.1.0.height ∙ sym k.0.height) (k.1.0.depth ∙ sym k.0.depth) in
       let pair = are_pair b c next in
-      let h = k.0.height in
-      let d = k.0.depth in
+      let height = k.0.height in
+      let depth = k.0.depth in
       let here : IsInSpace s.matrix.resolution b.pos = record { x = k.0.within; y = omega arith; z = omega arith } in
       let there : IsInSpace s.matrix.resolution (next_along_x b.pos) = let x = k.1.0.within in record { x = omega arith; y = omega arith; z = omega arith } in (
         record {
@@ -102,12 +102,12 @@ module _ (s : State) (light : s.profile ≡ light_profile) (y z : ℕ) (below : 
   all_fenced (b ∷ []) low k e h = absurd (omega arith)
   all_fenced (b ∷ c ∷ []) low k e h =
       let l = k.0.past in
-      let m = k.1.0.past in
+      let past = k.1.0.past in
       let next : next_along_x b.pos ≡ c.pos = beside_is b.pos c.pos e (k.1.0.height ∙ sym k.0.height) (k.1.0.depth ∙ sym k.0.depth) in
       AreFenced.two c.pos.x (just_in low c.pos.x (point b.pos) b.pos.x refl l (omega arith), tt) (just_in low c.pos.x (point c.pos) c.pos.x refl (omega arith) (omega arith), tt) (or_by_first (is_pair (record { bot = b; command = FusionP right }) (record { bot = c; command = FusionS left })) _ (are_pair b c next))
   all_fenced (b ∷ c ∷ d ∷ more) low k e h =
-      let l = k.0.past in
-      AreFenced.one b.pos.x l (just_in low b.pos.x (point b.pos) b.pos.x refl l (omega arith), tt) (all_fenced (c ∷ d ∷ more) (b.pos.x + 1) k.1 e (omega arith))
+      let past = k.0.past in
+      AreFenced.one b.pos.x past (just_in low b.pos.x (point b.pos) b.pos.x refl past (omega arith), tt) (all_fenced (c ∷ d ∷ more) (b.pos.x + 1) k.1 e (omega arith))
 
   pub fuse_free : (bots : List Bot) (low : ℕ) → AreLined s.matrix.resolution y z low (places bots)
       → last_column (places bots) ≡ free_column low (places bots) → 1 < length bots

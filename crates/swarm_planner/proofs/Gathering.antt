@@ -46,8 +46,8 @@ free_at [] low d h = absurd (omega arith)
 free_at (b ∷ []) low d h = absurd (omega arith)
 free_at (b ∷ c ∷ []) low d h = refl
 free_at (b ∷ c ∷ k ∷ more) low d h =
-    let n : length (b ∷ c ∷ k ∷ more) - 2 ≡ suc (length (c ∷ k ∷ more) - 2) = omega arith in
-    ap (λ i. (get_or (b ∷ c ∷ k ∷ more) i d).pos.x + 1) n ∙ free_at (c ∷ k ∷ more) (b.pos.x + 1) d (omega arith)
+    let same_length : length (b ∷ c ∷ k ∷ more) - 2 ≡ suc (length (c ∷ k ∷ more) - 2) = omega arith in
+    ap (λ i. (get_or (b ∷ c ∷ k ∷ more) i d).pos.x + 1) same_length ∙ free_at (c ∷ k ∷ more) (b.pos.x + 1) d (omega arith)
 
 pub gathers : (a b c : TapeState) (x m : ℕ) → InLine a → 2 ≤ length a.bots → x ≡ free_column 1 (places a.bots)
     → CrewGoes a b (sent (places a.bots) x) m → InLine b → Regroups b c → places c.bots ≡ without_last (places b.bots)
@@ -60,8 +60,8 @@ gathers a b c x m line two e g on r f =
     let k = length-fused (places a.bots) (omega arith) in
     let same = ap length all in
     let most = on.most in
-    let y = on.y in
-    let z = on.z in
+    let on_y = on.y in
+    let on_z = on.z in
     record {
       source = r.source ∙ g.source;
       matrix = r.matrix ∙ g.matrix;
@@ -69,23 +69,23 @@ gathers a b c x m line two e g on r f =
           (subst (λ q. AreLined q (spot b.bots).y (spot b.bots).z 1 (places c.bots)) (sym size) (subst (λ (cs : List Coord). AreLined b.matrix.resolution (spot b.bots).y (spot b.bots).z 1 cs) (sym f) (fused_lined b.matrix.resolution (spot b.bots).y (spot b.bots).z 1 (places b.bots) on.lined)))
           (subst (λ (q : Matrix). IsVoidFrom q (spot b.bots).y) (sym r.matrix) on.void);
       places_are = all;
-      steps_are = let i = g.steps_are in let j = r.steps in omega arith;
+      steps_are = let steps_are = g.steps_are in let steps = r.steps in omega arith;
     }
 
 -- ---- the row of all strips
 
 pub row_in_line : (p : TapeState) → IsSwarm p → InRow p → IsVoidFrom p.matrix (spot p.bots).y → InLine p
 row_in_line p swarm bot_row void =
-    let h = bot_row.leads in
-    let r = p.matrix.resolution in
-    let s = h.some in
-    let f = h.first in
-    let e = h.wide in
-    let d = mul-div-le (r - 3) (width r) in
+    let leads = bot_row.leads in
+    let resolution = p.matrix.resolution in
+    let s = leads.some in
+    let first = leads.first in
+    let wide = leads.wide in
+    let d = mul-div-le (resolution - 3) (width resolution) in
     let l = ap length bot_row.places_are in
-    let n = length-row (width r) (last r) (count r) (spot p.bots) in
-    line_of p (spot p.bots).y (spot p.bots).z swarm (omega arith) h.most h.y h.z
-    (subst (λ (cs : List Coord). AreLined r (spot p.bots).y (spot p.bots).z 1 cs) (sym bot_row.places_are) (row_lined r (width r) (last r) (count r) 1 1 (spot p.bots) (record { begins = omega arith; from = f; from_end = omega arith; room = omega arith; within = omega arith })))
+    let n = length-row (width resolution) (last resolution) (count resolution) (spot p.bots) in
+    line_of p (spot p.bots).y (spot p.bots).z swarm (omega arith) leads.most leads.y leads.z
+    (subst (λ (cs : List Coord). AreLined resolution (spot p.bots).y (spot p.bots).z 1 cs) (sym bot_row.places_are) (row_lined resolution (width resolution) (last resolution) (count resolution) 1 1 (spot p.bots) (record { begins = omega arith; from = first; from_end = omega arith; room = omega arith; within = omega arith })))
     void
 
 -- so many bots of the row are left, after so many steps at most
@@ -115,7 +115,7 @@ left_as a b c d n k m most h ec en l = record {
   matrix = h.matrix;
   line = h.line;
   places_are = h.places_are ∙ (λ i. bot_row (width a.matrix.resolution) (last a.matrix.resolution) (en i) (ec i));
-  steps_are = let s = h.steps_are in omega arith;
+  steps_are = let steps_are = h.steps_are in omega arith;
 }
 
 -- as long as two are left, there is one to fuse
@@ -125,9 +125,9 @@ two_left a b c n m h = sym (length-places b.bots) ∙ (ap length h.places_are �
 pub near_left : (a b : TapeState) (c : Coord) (n m : ℕ) → AreLeft a b c (suc (suc n)) m
     → gap (last_column (places b.bots)) (free_column 1 (places b.bots)) ≤ width a.matrix.resolution
 near_left a b c n m h =
-    let e : gap (last_column (places b.bots)) (free_column 1 (places b.bots)) ≡ gap (last_column (bot_row (width a.matrix.resolution) (last a.matrix.resolution) (suc (suc n)) c)) (free_column 1 (bot_row (width a.matrix.resolution) (last a.matrix.resolution) (suc (suc n)) c)) = ap (λ cs. gap (last_column cs) (free_column 1 cs)) h.places_are in
+    let same_gap : gap (last_column (places b.bots)) (free_column 1 (places b.bots)) ≡ gap (last_column (bot_row (width a.matrix.resolution) (last a.matrix.resolution) (suc (suc n)) c)) (free_column 1 (bot_row (width a.matrix.resolution) (last a.matrix.resolution) (suc (suc n)) c)) = ap (λ cs. gap (last_column cs) (free_column 1 cs)) h.places_are in
     let k = row_gap (width a.matrix.resolution) (last a.matrix.resolution) n 1 c (omega arith) in
-    omega (arith, e, k)
+    omega (arith, same_gap, k)
 
 pub one_less : (a b c : TapeState) (to : Coord) (n m most : ℕ) → AreLeft a b to (suc (suc n)) m
     → Gathers b c (gap (last_column (places b.bots)) (free_column 1 (places b.bots)) + 1) → a.matrix.resolution ≤ 400
@@ -135,14 +135,14 @@ pub one_less : (a b c : TapeState) (to : Coord) (n m most : ℕ) → AreLeft a b
 one_less a b c to n m most h g fits l =
     let w = width a.matrix.resolution in
     let k = row_gap w (last a.matrix.resolution) n 1 to (omega arith) in
-    let e : gap (last_column (places b.bots)) (free_column 1 (places b.bots)) ≡ gap (last_column (bot_row w (last a.matrix.resolution) (suc (suc n)) to)) (free_column 1 (bot_row w (last a.matrix.resolution) (suc (suc n)) to)) = ap (λ cs. gap (last_column cs) (free_column 1 cs)) h.places_are in
+    let same_gap : gap (last_column (places b.bots)) (free_column 1 (places b.bots)) ≡ gap (last_column (bot_row w (last a.matrix.resolution) (suc (suc n)) to)) (free_column 1 (bot_row w (last a.matrix.resolution) (suc (suc n)) to)) = ap (λ cs. gap (last_column cs) (free_column 1 cs)) h.places_are in
     let v = narrow a.matrix.resolution fits in
     record {
       source = g.source ∙ h.source;
       matrix = g.matrix ∙ h.matrix;
       line = g.line;
       places_are = g.places_are ∙ (ap without_last h.places_are ∙ fused-row w (last a.matrix.resolution) (suc n) to);
-      steps_are = let i = h.steps_are in let j = g.steps_are in omega (arith, i, j, k, e, v, l);
+      steps_are = let i = h.steps_are in let steps_are = g.steps_are in omega (arith, i, steps_are, k, same_gap, v, l);
     }
 
 first_of : (bots : List Bot) (c : Coord) → places bots ≡ c ∷ [] → (length bots ≡ 1) × (spot bots ≡ c)
@@ -156,12 +156,12 @@ first_of (b ∷ bots) c e = (sym (length-places (b ∷ bots)) ∙ ap length e, a
 pub is_gathered : (a b : TapeState) (to : Coord) (n most : ℕ) → AreLeft a b to n most → n ≡ 1
     → MayLead a.matrix.resolution to → to ≡ coord (spot a.bots).x (spot a.bots).y 0 → HasGathered a b most
 is_gathered a b to n most h e lead at =
-    let r = a.matrix.resolution in
+    let resolution = a.matrix.resolution in
     let s = lead.some in
-    let w = lead.wide in
-    let x : min to.x (last r) ≡ to.x = omega arith in
-    let here : held (last r) to ≡ to = λ i. record { x = x i; y = to.y; z = to.z } in
-    let one = first_of b.bots (held (last r) to) (h.places_are ∙ ap (λ k. bot_row (width r) (last r) k to) e) in
+    let wide = lead.wide in
+    let min_is : min to.x (last resolution) ≡ to.x = omega arith in
+    let here : held (last resolution) to ≡ to = λ i. record { x = min_is i; y = to.y; z = to.z } in
+    let one = first_of b.bots (held (last resolution) to) (h.places_are ∙ ap (λ k. bot_row (width resolution) (last resolution) k to) e) in
     record {
       source = h.source;
       matrix = h.matrix;

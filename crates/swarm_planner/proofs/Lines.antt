@@ -17,7 +17,7 @@ use Rattle.vox_geom.proofs.Tests.{test_itself, test_unequal}
 
 pub weaker : (r y z low first : ℕ) (cs : List Coord) → first ≤ low → AreLined r y z low cs → AreLined r y z first cs
 weaker r y z low first [] h k = tt
-weaker r y z low first (c ∷ cs) h k = (record { within = k.0.within; past = let l = k.0.past in omega arith; height = k.0.height; depth = k.0.depth }, k.1)
+weaker r y z low first (c ∷ cs) h k = (record { within = k.0.within; past = let past = k.0.past in omega arith; height = k.0.height; depth = k.0.depth }, k.1)
 
 pub sent_lined : (r y z low x : ℕ) (cs : List Coord) → AreLined r y z low cs → free_column low cs ≤ x → x < r
     → AreLined r y z low (sent cs x)
@@ -96,21 +96,21 @@ pub sent_led : (r y z low x : ℕ) (cs : List Coord) → y < r → z < r → Are
     → x < r → gap (last_column cs) x ≤ 15 → AreLed r y X low cs (sent cs x)
 sent_led r y z low x [] i j k h l near = tt
 sent_led r y z low x (c ∷ []) i j k h l near =
-    let f = k.0.height in
-    let g = k.0.depth in
+    let height = k.0.height in
+    let depth = k.0.depth in
     (record { line = (refl, refl); near = near; from = record { x = k.0.within; y = omega arith; z = omega arith }; to = record { x = l; y = omega arith; z = omega arith }; high_from = omega arith; high_to = omega arith; low_from = k.0.past; low_to = h }, tt)
 sent_led r y z low x (c ∷ d ∷ more) i j k h l near =
-    let f = k.0.height in
-    let g = k.0.depth in
-    (record { line = (refl, refl); near = omega arith; from = record { x = k.0.within; y = omega arith; z = omega arith }; to = record { x = k.0.within; y = omega arith; z = omega arith }; high_from = omega arith; high_to = omega arith; low_from = k.0.past; low_to = k.0.past }, subst (λ v. AreLed r y X v (d ∷ more) (sent (d ∷ more) x)) (let e : c.x + 1 ≡ max c.x c.x + 1 = omega arith in e) (sent_led r y z (c.x + 1) x (d ∷ more) i j k.1 h l near))
+    let height = k.0.height in
+    let depth = k.0.depth in
+    (record { line = (refl, refl); near = omega arith; from = record { x = k.0.within; y = omega arith; z = omega arith }; to = record { x = k.0.within; y = omega arith; z = omega arith }; high_from = omega arith; high_to = omega arith; low_from = k.0.past; low_to = k.0.past }, subst (λ v. AreLed r y X v (d ∷ more) (sent (d ∷ more) x)) (let x_is : c.x + 1 ≡ max c.x c.x + 1 = omega arith in x_is) (sent_led r y z (c.x + 1) x (d ∷ more) i j k.1 h l near))
 
 pub waits_then : (k : Command) (bots : List Bot) → 0 < length bots
     → replicate (length bots - 1) Wait ++ k ∷ [] ≡ ends k bots
 waits_then k [] h = absurd (omega arith)
 waits_then k (b ∷ []) h = refl
 waits_then k (b ∷ c ∷ more) h =
-    let n : length (b ∷ c ∷ more) - 1 ≡ suc (length (c ∷ more) - 1) = omega arith in
-    ap (λ m. replicate m Wait ++ k ∷ []) n ∙ ap (λ ks. Wait ∷ ks) (waits_then k (c ∷ more) (omega arith))
+    let same_length : length (b ∷ c ∷ more) - 1 ≡ suc (length (c ∷ more) - 1) = omega arith in
+    ap (λ m. replicate m Wait ++ k ∷ []) same_length ∙ ap (λ ks. Wait ∷ ks) (waits_then k (c ∷ more) (omega arith))
 
 pub waits_then_two : (k l : Command) (bots : List Bot) → 1 < length bots
     → replicate (length bots - 2) Wait ++ k ∷ l ∷ [] ≡ pair_ends k l bots
@@ -118,8 +118,8 @@ waits_then_two k l [] h = absurd (omega arith)
 waits_then_two k l (b ∷ []) h = absurd (omega arith)
 waits_then_two k l (b ∷ c ∷ []) h = refl
 waits_then_two k l (b ∷ c ∷ d ∷ more) h =
-    let n : length (b ∷ c ∷ d ∷ more) - 2 ≡ suc (length (c ∷ d ∷ more) - 2) = omega arith in
-    ap (λ m. replicate m Wait ++ k ∷ l ∷ []) n ∙ ap (λ ks. Wait ∷ ks) (waits_then_two k l (c ∷ d ∷ more) (omega arith))
+    let same_length : length (b ∷ c ∷ d ∷ more) - 2 ≡ suc (length (c ∷ d ∷ more) - 2) = omega arith in
+    ap (λ m. replicate m Wait ++ k ∷ l ∷ []) same_length ∙ ap (λ ks. Wait ∷ ks) (waits_then_two k l (c ∷ d ∷ more) (omega arith))
 
 pub ends_led : (bots : List Bot) (x : ℕ) → (last_column (places bots) ≡ x → ⊥)
     → ends (SMove (along X (pos x -ℤ pos (last_column (places bots))))) bots ≡ led X bots (sent (places bots) x)
@@ -140,14 +140,14 @@ pub last_at : (bots : List Bot) (b : Bot) → 0 < length bots
 last_at [] d h = absurd (omega arith)
 last_at (b ∷ []) d h = refl
 last_at (b ∷ c ∷ more) d h =
-    let n : length (b ∷ c ∷ more) - 1 ≡ suc (length (c ∷ more) - 1) = omega arith in
-    ap (λ k. (get_or (b ∷ c ∷ more) k d).pos.x) n ∙ last_at (c ∷ more) d (omega arith)
+    let same_length : length (b ∷ c ∷ more) - 1 ≡ suc (length (c ∷ more) - 1) = omega arith in
+    ap (λ k. (get_or (b ∷ c ∷ more) k d).pos.x) same_length ∙ last_at (c ∷ more) d (omega arith)
 
 -- the commands by which the last bot goes to a column
 pub last_led : (bots read : List Bot) (waits ks : List Command) (d : Diff) (at x : ℕ) → read ≡ bots → 0 < length bots
     → waits ≡ replicate (length read - 1) Wait → at ≡ last_column (places bots) → d ≡ along X (pos x -ℤ pos at)
     → ks ≡ waits ++ SMove d ∷ [] → (last_column (places bots) ≡ x → ⊥) → ks ≡ led X bots (sent (places bots) x)
 last_led bots read waits ks d at x eb some ew ea ed ek differ =
-    let w : waits ≡ replicate (length bots - 1) Wait = ew ∙ ap (λ (bs : List Bot). replicate (length bs - 1) Wait) eb in
-    let e : d ≡ along X (pos x -ℤ pos (last_column (places bots))) = ed ∙ ap (λ v. along X (pos x -ℤ pos v)) ea in
-    ek ∙ ((λ i. w i ++ SMove (e i) ∷ []) ∙ (waits_then (SMove (along X (pos x -ℤ pos (last_column (places bots))))) bots some ∙ ends_led bots x differ))
+    let waits_is : waits ≡ replicate (length bots - 1) Wait = ew ∙ ap (λ (bs : List Bot). replicate (length bs - 1) Wait) eb in
+    let d_is : d ≡ along X (pos x -ℤ pos (last_column (places bots))) = ed ∙ ap (λ v. along X (pos x -ℤ pos v)) ea in
+    ek ∙ ((λ i. waits_is i ++ SMove (d_is i) ∷ []) ∙ (waits_then (SMove (along X (pos x -ℤ pos (last_column (places bots))))) bots some ∙ ends_led bots x differ))

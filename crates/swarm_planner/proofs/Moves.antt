@@ -26,7 +26,7 @@ module _ (p : TapeState) (swarm : IsSwarm p) (h : ℕ) (void : IsVoidFrom p.matr
     matrix = s.matrix;
     swarm = record { high = s.harmonics ∙ swarm.high; light = s.profile ∙ swarm.light };
     bots_are = s.bots_are ∙ gone_there p.matrix.resolution h axis p.bots cs low k;
-    steps_are = let e = s.steps in omega arith;
+    steps_are = let steps = s.steps in omega arith;
   }
 
 -- ---- the row of all strips
@@ -35,14 +35,14 @@ module _ (p : TapeState) (swarm : IsSwarm p) (h : ℕ) (void : IsVoidFrom p.matr
 pub same_way : (p : TapeState) (axis : Axis) (to : Coord) (r w : ℕ) (bots : List Bot) → r ≡ p.matrix.resolution
     → w ≡ width r → bots ≡ p.bots
     → row_led axis w (r - 2) bots to ≡ row_led axis (width p.matrix.resolution) (last p.matrix.resolution) p.bots to
-same_way p axis to r w bots er ew eb = let e : w ≡ width p.matrix.resolution = ew ∙ ap width er in λ i. row_led axis (e i) (er i - 2) (eb i) to
+same_way p axis to r w bots er ew eb = let w_is : w ≡ width p.matrix.resolution = ew ∙ ap width er in λ i. row_led axis (w_is i) (er i - 2) (eb i) to
 
 pub near_way : (p : TapeState) (axis : Axis) (to : Coord) (r w : ℕ) (bots : List Bot) → r ≡ p.matrix.resolution
     → w ≡ width r → bots ≡ p.bots → AreNear axis (width p.matrix.resolution) (last p.matrix.resolution) p.bots to
     → AreNear axis w (r - 2) bots to
 near_way p axis to r w bots er ew eb h =
-    let e : w ≡ width p.matrix.resolution = ew ∙ ap width er in
-    subst (λ n. AreNear axis n (r - 2) bots to) (sym e) (subst (λ n. AreNear axis (width p.matrix.resolution) (n - 2) bots to) (sym er) (subst (λ (bs : List Bot). AreNear axis (width p.matrix.resolution) (last p.matrix.resolution) bs to) (sym eb) h))
+    let w_is : w ≡ width p.matrix.resolution = ew ∙ ap width er in
+    subst (λ n. AreNear axis n (r - 2) bots to) (sym w_is) (subst (λ n. AreNear axis (width p.matrix.resolution) (n - 2) bots to) (sym er) (subst (λ (bs : List Bot). AreNear axis (width p.matrix.resolution) (last p.matrix.resolution) bs to) (sym eb) h))
 
 module _ (p : TapeState) (swarm : IsSwarm p) (row : InRow p) (void : IsVoidFrom p.matrix (spot p.bots).y) (axis : Axis) (to : Coord) (leads : MayLead p.matrix.resolution to) (line : AreAlong axis (spot p.bots) to) (near : gap (component_of axis (spot p.bots)) (component_of axis to) ≤ 15) (up : (spot p.bots).y ≤ to.y) where
   all_led : AreLed p.matrix.resolution (spot p.bots).y axis 1 (places p.bots) (strip_row p.matrix.resolution to)

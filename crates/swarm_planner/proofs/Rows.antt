@@ -139,9 +139,9 @@ pub led_row : (r h : ℕ) (axis : Axis) (c d : Coord) → MayLead r c → MayLea
     → AreLed r h axis 1 (strip_row r c) (strip_row r d)
 led_row r h axis c d a b line near high high_to =
     let s = a.some in
-    let m = a.most in
+    let most = a.most in
     let e = a.first in
-    let f = b.first in
+    let first = b.first in
     let i = a.wide in
     let j = b.wide in
     row_are_led r h axis (width r) (last r) (count r) 1 1 c d (record {
@@ -150,7 +150,7 @@ led_row r h axis c d a b line near high high_to =
       near = near;
       from = e;
       from_end = omega arith;
-      to = f;
+      to = first;
       to_end = omega arith;
       room = let k = mul-div-le (r - 3) (width r) in omega arith;
       within = omega arith;
@@ -178,8 +178,8 @@ held_is : (r : ℕ) (c : Coord) → MayLead r c → held (last r) c ≡ c
 held_is r c h =
     let s = h.some in
     let w = h.wide in
-    let e : min c.x (last r) ≡ c.x = omega arith in
-    λ i. record { x = e i; y = c.y; z = c.z }
+    let min_is : min c.x (last r) ≡ c.x = omega arith in
+    λ i. record { x = min_is i; y = c.y; z = c.z }
 
 pub spot_of_row : (r : ℕ) (bots : List Bot) (c : Coord) → MayLead r c → places bots ≡ strip_row r c → spot bots ≡ c
 spot_of_row r bots c h e = first_of_bots bots (held (last r) c) _ (e ∙ row_begins r c) ∙ held_is r c h

@@ -84,8 +84,8 @@ module _ (a b : TapeState) (line : InLine a) (x m : ℕ) (goes : CrewGoes a b (s
       let l = length-sent (places a.bots) x in
       let some = line.some in
       let e = ap length places_on in
-      let y = line.y in
-      let z = line.z in
+      let line_y = line.y in
+      let line_z = line.z in
       let most = line.most in
       line_of b (spot a.bots).y (spot a.bots).z goes.swarm (omega arith) (omega arith) (omega arith) (omega arith)
       (subst (λ r. AreLined r (spot a.bots).y (spot a.bots).z 1 (places b.bots)) (sym size) (subst (λ (cs : List Coord). AreLined a.matrix.resolution (spot a.bots).y (spot a.bots).z 1 cs) (sym places_on) (sent_lined a.matrix.resolution (spot a.bots).y (spot a.bots).z 1 x (places a.bots) line.lined free within)))
@@ -116,7 +116,7 @@ goes_more a b c u v m n most g e h l =
       matrix = h.matrix ∙ g.matrix;
       swarm = h.swarm;
       bots_are = h.bots_are ∙ ((λ i. placed (g.bots_are i) (onto i)) ∙ placed-placed a.bots (sent (places a.bots) u) (sent (places a.bots) v) (length-sent (places a.bots) u ∙ length-places a.bots));
-      steps_are = let i = g.steps_are in let j = h.steps_are in omega arith;
+      steps_are = let i = g.steps_are in let steps_are = h.steps_are in omega arith;
     }
 
 pub longer : (a t n o : ℕ) → gap a t + gap t o ≡ gap a o → IsOnward t n o
@@ -161,7 +161,7 @@ row_lined r w l (suc n) low start c k =
 -- where the last of n + 1 places is
 pub last-row : (w l n : ℕ) (c : Coord) → c.x + w * n ≤ l → last_column (bot_row w l (suc n) c) ≡ c.x + w * n
 last-row w l zero c h = omega arith
-last-row w l (suc n) c h = last-row w l n (next w c) (let e : c.x + w * suc n ≡ c.x + w + w * n = omega arith in omega arith) ∙ (let e : c.x + w * suc n ≡ c.x + w + w * n = omega arith in omega arith)
+last-row w l (suc n) c h = last-row w l n (next w c) (let same_x : c.x + w * suc n ≡ c.x + w + w * n = omega arith in omega arith) ∙ (let same_x : c.x + w * suc n ≡ c.x + w + w * n = omega arith in omega arith)
 
 split_more : (c : Coord) (cs : List Coord) → 0 < length cs → split (c ∷ cs) ≡ c ∷ split cs
 split_more c [] h = absurd (omega arith)
@@ -195,12 +195,12 @@ last-split (c ∷ d ∷ more) h = last_more c (split (d ∷ more)) (some_split (
 pub row_grows : (w l n x : ℕ) (c : Coord) → x ≡ c.x + w * suc n → x ≤ l
     → sent (split (bot_row w l (suc n) c)) x ≡ bot_row w l (suc (suc n)) c
 row_grows w l zero x c e h =
-    let f : x ≡ min (c.x + w) l = omega arith in
-    λ i. held l c ∷ coord (f i) c.y c.z ∷ []
+    let x_is : x ≡ min (c.x + w) l = omega arith in
+    λ i. held l c ∷ coord (x_is i) c.y c.z ∷ []
 row_grows w l (suc n) x c e h =
     ap (λ cs. sent cs x) (split_more (held l c) (bot_row w l (suc n) (next w c)) (omega arith))
     ∙ (sent_more (held l c) (split (bot_row w l (suc n) (next w c))) x (some_split (bot_row w l (suc n) (next w c)) (omega arith))
-    ∙ ap (λ cs. held l c ∷ cs) (row_grows w l n x (next w c) (let g : c.x + w * suc (suc n) ≡ c.x + w + w * suc n = omega arith in omega arith) h))
+    ∙ ap (λ cs. held l c ∷ cs) (row_grows w l n x (next w c) (let same_x : c.x + w * suc (suc n) ≡ c.x + w + w * suc n = omega arith in omega arith) h))
 
 -- ---- one more strip
 
@@ -209,7 +209,7 @@ strip_start r n s h =
     let d = mul-div-le (r - 3) (width r) in
     let same : width r ≤ width r = omega arith in
     let fewer : n ≤ (r - 3) / width r = omega arith in
-    let m : width r * n ≤ width r * ((r - 3) / width r) = mul-le-mul same fewer in
+    let at_most_width : width r * n ≤ width r * ((r - 3) / width r) = mul-le-mul same fewer in
     omega arith
 
 -- the places of the first n + 1 strips
@@ -237,10 +237,10 @@ module _ (p : TapeState) (n : ℕ) (spread : IsSpreadOver p (suc n)) (more : suc
       line_of p 1 0 spread.swarm (omega arith) spread.most (omega arith) (omega arith) (subst (λ (cs : List Coord). AreLined p.matrix.resolution 1 0 1 cs) (sym spread_places) spread_lined) (λ c h. spread.void c (omega arith))
 
   pub spread_last : last_column (places p.bots) ≡ 1 + width p.matrix.resolution * n
-  spread_last = ap last_column spread_places ∙ last-row (width p.matrix.resolution) (last p.matrix.resolution) n (coord 1 1 0) (let h = room in let e : width p.matrix.resolution * suc n ≡ width p.matrix.resolution * n + width p.matrix.resolution = omega arith in omega arith)
+  spread_last = ap last_column spread_places ∙ last-row (width p.matrix.resolution) (last p.matrix.resolution) n (coord 1 1 0) (let h = room in let same_width : width p.matrix.resolution * suc n ≡ width p.matrix.resolution * n + width p.matrix.resolution = omega arith in omega arith)
 
   pub spread_room : last_column (places p.bots) + width p.matrix.resolution ≤ last p.matrix.resolution
-  spread_room = let l = spread_last in let h = room in let e : width p.matrix.resolution * suc n ≡ width p.matrix.resolution * n + width p.matrix.resolution = omega arith in omega arith
+  spread_room = let l = spread_last in let h = room in let same_width : width p.matrix.resolution * suc n ≡ width p.matrix.resolution * n + width p.matrix.resolution = omega arith in omega arith
 
   module _ (q : TapeState) (g : Regroups p q) (bots : q.bots ≡ lined_up 1 (split (places p.bots))) where
     size : q.matrix.resolution ≡ p.matrix.resolution
@@ -255,7 +255,7 @@ module _ (p : TapeState) (n : ℕ) (spread : IsSpreadOver p (suc n)) (more : suc
     pub born_line : InLine q
     born_line =
         let s = spread.some in
-        let m = spread.most in
+        let most = spread.most in
         let e = size in
         let h = spread_room in
         let l = some_split (places p.bots) some in
@@ -275,7 +275,7 @@ module _ (p : TapeState) (n : ℕ) (spread : IsSpreadOver p (suc n)) (more : suc
     spreads t x m ex h few_steps =
         let same : t.matrix ≡ p.matrix = h.matrix ∙ g.matrix in
         let wide = ap (λ (k : Matrix). k.resolution) same in
-        let to : x ≡ 1 + width p.matrix.resolution * suc n = let l = spread_last in let e : width p.matrix.resolution * suc n ≡ width p.matrix.resolution * n + width p.matrix.resolution = omega arith in omega arith in
+        let to : x ≡ 1 + width p.matrix.resolution * suc n = let l = spread_last in let same_width : width p.matrix.resolution * suc n ≡ width p.matrix.resolution * n + width p.matrix.resolution = omega arith in omega arith in
         let there : sent (split (places p.bots)) x ≡ starts p.matrix.resolution (suc (suc n)) = ap (λ cs. sent (split cs) x) spread_places ∙ row_grows (width p.matrix.resolution) (last p.matrix.resolution) n x (coord 1 1 0) to (let r = room in omega arith) in
         let at : t.bots ≡ lined_up 1 (starts p.matrix.resolution (suc (suc n))) =
         h.bots_are
@@ -288,9 +288,9 @@ module _ (p : TapeState) (n : ℕ) (spread : IsSpreadOver p (suc n)) (more : suc
           spread = record {
             swarm = h.swarm;
             some = let s = spread.some in omega arith;
-            most = let s = spread.most in omega arith;
+            most = let most = spread.most in omega arith;
             void = subst (λ (k : Matrix). IsVoidFrom k 0) (sym same) spread.void;
             bots_are = at ∙ ap (λ r. lined_up 1 (starts r (suc (suc n)))) (sym wide);
           };
-          steps_are = let i = h.steps_are in let j = g.steps in omega arith;
+          steps_are = let steps_are = h.steps_are in let steps = g.steps in omega arith;
         }

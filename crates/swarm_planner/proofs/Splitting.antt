@@ -65,11 +65,11 @@ module _ (s : State) (light : s.profile ≡ light_profile) (y z : ℕ) (void : I
       → AreFenced low (acts bots (ends (Fission right m) bots))
   all_fenced [] low k = AreFenced.none
   all_fenced (b ∷ []) low k =
-      let l = k.0.past in
-      AreFenced.one (b.pos.x + 1) (omega arith) (just_in low (b.pos.x + 1) (point b.pos) b.pos.x refl l (omega arith), (just_in low (b.pos.x + 1) (plus (point b.pos) right) (b.pos.x + 1) (plus_one b.pos.x) (omega arith) (omega arith), tt)) AreFenced.none
+      let past = k.0.past in
+      AreFenced.one (b.pos.x + 1) (omega arith) (just_in low (b.pos.x + 1) (point b.pos) b.pos.x refl past (omega arith), (just_in low (b.pos.x + 1) (plus (point b.pos) right) (b.pos.x + 1) (plus_one b.pos.x) (omega arith) (omega arith), tt)) AreFenced.none
   all_fenced (b ∷ c ∷ more) low k =
-      let l = k.0.past in
-      AreFenced.one b.pos.x l (just_in low b.pos.x (point b.pos) b.pos.x refl l (omega arith), tt) (all_fenced (c ∷ more) (b.pos.x + 1) k.1)
+      let past = k.0.past in
+      AreFenced.one b.pos.x past (just_in low b.pos.x (point b.pos) b.pos.x refl past (omega arith), tt) (all_fenced (c ∷ more) (b.pos.x + 1) k.1)
 
   pub split_free : (bots : List Bot) (low : ℕ) → AreLined s.matrix.resolution y z low (places bots)
       → last_column (places bots) + 1 < s.matrix.resolution → m < length (seed_list (last_seeds bots))
@@ -114,7 +114,7 @@ drop_numbers a (suc n) = drop_numbers (a + 1) n
 
 -- the list of seeds with its first one apart
 first_seed : (bid m : ℕ) → m + bid ≡ 19 → seed_list (seeds_after bid) ≡ (bid + 1) ∷ numbers_from (bid + 1 + 1) m
-first_seed bid m h = seeds_list bid (omega arith) ∙ ap (numbers_from (bid + 1)) (let e : 20 - bid ≡ suc m = omega arith in e)
+first_seed bid m h = seeds_list bid (omega arith) ∙ ap (numbers_from (bid + 1)) (let bid_is : 20 - bid ≡ suc m = omega arith in bid_is)
 
 pub enough_seeds : (bid m : ℕ) → m + bid ≡ 19 → m < length (seed_list (seeds_after bid))
 enough_seeds bid m h = let e = ap length (first_seed bid m h) in let n = numbers_length (bid + 1 + 1) m in omega arith
@@ -122,7 +122,7 @@ enough_seeds bid m h = let e = ap length (first_seed bid m h) in let n = numbers
 pub parent_is : (bid m : ℕ) (c : Coord) → m + bid ≡ 19
     → parent (record { bid = bid; pos = c; seeds = seeds_after bid }) m ≡ record { bid = bid; pos = c; seeds = 0 }
 parent_is bid m c h =
-    let whole : drop (m + 1) (seed_list (seeds_after bid)) ≡ [] = ap (drop (m + 1)) (first_seed bid m h) ∙ (ap (λ n. drop n ((bid + 1) ∷ numbers_from (bid + 1 + 1) m)) (let e : m + 1 ≡ suc m = omega arith in e) ∙ drop_numbers (bid + 1 + 1) m) in
+    let whole : drop (m + 1) (seed_list (seeds_after bid)) ≡ [] = ap (drop (m + 1)) (first_seed bid m h) ∙ (ap (λ n. drop n ((bid + 1) ∷ numbers_from (bid + 1 + 1) m)) (let same_m : m + 1 ≡ suc m = omega arith in same_m) ∙ drop_numbers (bid + 1 + 1) m) in
     λ i. record { bid = bid; pos = c; seeds = seed_set (whole i) }
 
 pub newborn_is : (bid m : ℕ) (c : Coord) → m + bid ≡ 19
@@ -131,7 +131,7 @@ pub newborn_is : (bid m : ℕ) (c : Coord) → m + bid ≡ 19
 newborn_is bid m c h =
     let first : slice_index (seed_list (seeds_after bid)) 0 ≡ bid + 1 = ap (λ ks. slice_index ks 0) (first_seed bid m h) in
     let rest : take m (drop 1 (seed_list (seeds_after bid))) ≡ numbers_from (bid + 1 + 1) (20 - (bid + 1)) =
-    ap (λ ks. take m (drop 1 ks)) (first_seed bid m h) ∙ (take_numbers (bid + 1 + 1) m ∙ ap (numbers_from (bid + 1 + 1)) (let e : m ≡ 20 - (bid + 1) = omega arith in e)) in
+    ap (λ ks. take m (drop 1 ks)) (first_seed bid m h) ∙ (take_numbers (bid + 1 + 1) m ∙ ap (numbers_from (bid + 1 + 1)) (let m_is : m ≡ 20 - (bid + 1) = omega arith in m_is)) in
     let there = ap coordinate (right_is c) in
     λ i. record { bid = first i; pos = there i; seeds = seed_set (rest i) }
 

@@ -46,8 +46,8 @@ turn_at all (a ∷ leaders) [] i d h lt = absurd h
 turn_at all (a ∷ leaders) (t ∷ turns) zero d h lt = (a, refl, h.0, refl)
 turn_at all (a ∷ leaders) (t ∷ turns) (suc i) d h lt =
     let w = turn_at all leaders turns i d h.1 (omega arith) in
-    let e : suc i + 1 ≡ suc (i + 1) = omega arith in
-    (w.0, ap (λ (xs : List Act). a ∷ xs) w.1 ∙ ap (λ n. a ∷ (take i leaders ++ w.0 ∷ drop n (a ∷ leaders))) (sym e), w.2, ap (λ n. take n (a ∷ leaders)) e ∙ ap (λ (xs : List Act). a ∷ xs) w.3)
+    let same_i : suc i + 1 ≡ suc (i + 1) = omega arith in
+    (w.0, ap (λ (xs : List Act). a ∷ xs) w.1 ∙ ap (λ n. a ∷ (take i leaders ++ w.0 ∷ drop n (a ∷ leaders))) (sym same_i), w.2, ap (λ n. take n (a ∷ leaders)) same_i ∙ ap (λ (xs : List Act). a ∷ xs) w.3)
 
 pub turns_many : (all leaders : List Act) (turns : List Turn) → AreTurns all leaders turns
     → length turns ≡ length leaders
@@ -74,20 +74,20 @@ contained x xs i = let p = in_place x x xs i in (p.0, p.1, p.2)
 -- ---- touches
 
 pub sums_more : (f : Act → ℕ) (xs : List Act) (y : Act) → sum (map f (xs ++ y ∷ [])) ≡ sum (map f xs) + f y
-sums_more f [] y = let e : sum (f y ∷ []) ≡ f y + sum [] = sum_by-cons (λ n. n) (f y) [] in let z : sum [] ≡ 0 = refl in omega arith
+sums_more f [] y = let e : sum (f y ∷ []) ≡ f y + sum [] = sum_by-cons (λ n. n) (f y) [] in let sum_is : sum [] ≡ 0 = refl in omega arith
 sums_more f (x ∷ xs) y =
     let e : sum (map f ((x ∷ xs) ++ y ∷ [])) ≡ f x + sum (map f (xs ++ y ∷ [])) = sum_by-cons (λ n. n) (f x) (map f (xs ++ y ∷ [])) in
-    let k : sum (map f (x ∷ xs)) ≡ f x + sum (map f xs) = sum_by-cons (λ n. n) (f x) (map f xs) in
-    let r : sum (map f (xs ++ y ∷ [])) ≡ sum (map f xs) + f y = sums_more f xs y in
+    let sum_is : sum (map f (x ∷ xs)) ≡ f x + sum (map f xs) = sum_by-cons (λ n. n) (f x) (map f xs) in
+    let same_sum : sum (map f (xs ++ y ∷ [])) ≡ sum (map f xs) + f y = sums_more f xs y in
     omega arith
 
 fewer : (p q : Coord → Bool) (xs : List Coord) → ((c : Coord) → p c ≡ true → q c ≡ true) → count_by p xs ≤ count_by q xs
 fewer p q [] h = omega arith
 fewer p q (x ∷ xs) h =
     let e : count_by p (x ∷ xs) ≡ cond (p x) 1 0 + count_by p xs = sum_by-cons (λ c. cond (p c) 1 0) x xs in
-    let f : count_by q (x ∷ xs) ≡ cond (q x) 1 0 + count_by q xs = sum_by-cons (λ c. cond (q c) 1 0) x xs in
-    let r : count_by p xs ≤ count_by q xs = fewer p q xs h in
-    let k : cond (p x) 1 0 ≤ cond (q x) 1 0 = one (p x) (q x) (h x) in
+    let count_is : count_by q (x ∷ xs) ≡ cond (q x) 1 0 + count_by q xs = sum_by-cons (λ c. cond (q c) 1 0) x xs in
+    let at_most_count : count_by p xs ≤ count_by q xs = fewer p q xs h in
+    let at_most_choice : cond (p x) 1 0 ≤ cond (q x) 1 0 = one (p x) (q x) (h x) in
     omega arith
   where
     one : (a b : Bool) → (a ≡ true → b ≡ true) → cond {A = ℕ} a 1 0 ≤ cond b 1 0
@@ -231,13 +231,13 @@ module _ (s : State) (commands : List Command) (step : ℕ) (ready : IsReady s) 
       → old ≤ start + sum (map (volatile_count s.matrix (acts s.bots commands)) (take i order))
       → new ≤ start + sum (map (volatile_count s.matrix (acts s.bots commands)) (take (i + 1) order))
   touched_more command e old new start h k =
-      let a : new ≤ old + met_count now.matrix here.0.bot command = subst (λ (o : Option Bot). IfSome o (λ bot. new ≤ old + met_count now.matrix bot command)) found_now h in
-      let b : met_count now.matrix here.0.bot command ≡ met_count s.matrix here.0.bot here.0.command = (λ j. met_count (taken j).matrix here.0.bot (command_is command e j)) in
-      let m : met_count s.matrix here.0.bot here.0.command ≤ volatile_count s.matrix (acts s.bots commands) here.0 = met_volatile s.matrix (acts s.bots commands) here.0
+      let at_most_met_count : new ≤ old + met_count now.matrix here.0.bot command = subst (λ (o : Option Bot). IfSome o (λ bot. new ≤ old + met_count now.matrix bot command)) found_now h in
+      let same_met_count : met_count now.matrix here.0.bot command ≡ met_count s.matrix here.0.bot here.0.command = (λ j. met_count (taken j).matrix here.0.bot (command_is command e j)) in
+      let at_most_volatile_count : met_count s.matrix here.0.bot here.0.command ≤ volatile_count s.matrix (acts s.bots commands) here.0 = met_volatile s.matrix (acts s.bots commands) here.0
       (itself_in s (acts s.bots commands) good here.0 leads (after_some s (acts s.bots commands) (take i order)) law.bots law.rules apart_there
       (rising_is (after_some s (acts s.bots commands) (take i order)).bots ready_there.rising) within_there (get_or turns i d).partner here.2.partner)
       may.stays in
-      let t : sum (map (volatile_count s.matrix (acts s.bots commands)) (take (i + 1) order)) ≡ sum (map (volatile_count s.matrix (acts s.bots commands)) (take i order)) + volatile_count s.matrix (acts s.bots commands) here.0 =
+      let same_sum : sum (map (volatile_count s.matrix (acts s.bots commands)) (take (i + 1) order)) ≡ sum (map (volatile_count s.matrix (acts s.bots commands)) (take i order)) + volatile_count s.matrix (acts s.bots commands) here.0 =
       ap (λ (xs : List Act). sum (map (volatile_count s.matrix (acts s.bots commands)) xs)) here.3 ∙ sums_more (volatile_count s.matrix (acts s.bots commands)) (take i order) here.0 in
       omega arith
 

@@ -36,8 +36,8 @@ module _ (bots : List Bot) (rising : Rising bots) (same : List Bot) (differ : Di
       by : (bs : List Bot) → Rising bs → In b bs → In c bs → b ≡ c
       by [] r i j = absurd i
       by (x ∷ xs) r (inl i) (inl j) = i ∙ sym j
-      by (x ∷ xs) r (inl i) (inr j) = absurd (let u : x.bid < c.bid = r.0 c j in let t : b.bid ≡ x.bid = ap (λ (d : Bot). d.bid) i in omega arith)
-      by (x ∷ xs) r (inr i) (inl j) = absurd (let u : x.bid < b.bid = r.0 b i in let t : c.bid ≡ x.bid = ap (λ (d : Bot). d.bid) j in omega arith)
+      by (x ∷ xs) r (inl i) (inr j) = absurd (let below_bid : x.bid < c.bid = r.0 c j in let same_bid : b.bid ≡ x.bid = ap (λ (d : Bot). d.bid) i in omega arith)
+      by (x ∷ xs) r (inr i) (inl j) = absurd (let below_bid : x.bid < b.bid = r.0 b i in let same_bid : c.bid ≡ x.bid = ap (λ (d : Bot). d.bid) j in omega arith)
       by (x ∷ xs) r (inr i) (inr j) = by xs r.1 i j
 
   of_named : (b : Bot) → In b bots → is_named b ≡ true → In b same

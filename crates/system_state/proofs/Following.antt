@@ -35,12 +35,12 @@ split_keys : (key : Act → ℕ) (ys : List Act) (xs : List ℕ) (k : ℕ) (zs :
     × (key l ≡ k)
 split_keys key [] [] k zs e = cc
 split_keys key [] (x ∷ xs) k zs e = cc
-split_keys key (y ∷ ys) [] k zs e = let f : key y ≡ k = cc in ([], y, ys, refl, refl, f)
+split_keys key (y ∷ ys) [] k zs e = let key_is : key y ≡ k = cc in ([], y, ys, refl, refl, key_is)
 split_keys key (y ∷ ys) (x ∷ xs) k zs e =
-    let f : key y ≡ x = cc in
-    let g : map key ys ≡ xs ++ k ∷ zs = cc in
-    let r = split_keys key ys xs k zs g in
-    (y ∷ r.0, r.1, r.2, ap (λ (more : List Act). y ∷ more) r.3, (λ i. f i ∷ r.4 i), r.5)
+    let key_is : key y ≡ x = cc in
+    let list_is : map key ys ≡ xs ++ k ∷ zs = cc in
+    let r = split_keys key ys xs k zs list_is in
+    (y ∷ r.0, r.1, r.2, ap (λ (more : List Act). y ∷ more) r.3, (λ i. key_is i ∷ r.4 i), r.5)
 
 of_map : (f : ℕ → List Act) (xs : List Act) → ((x : Act) → In x xs → f (bid_of x) ≡ x ∷ [])
     → flat_map f (map bid_of xs) ≡ xs

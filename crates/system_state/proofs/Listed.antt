@@ -72,11 +72,11 @@ module _ (bots : List Bot) (commands : List Command) (i : ℕ) (b : Bot) (k : Co
       → AreTurns (acts bots commands)
       (filter (is_leader (acts bots commands)) (acts (take (i + 1) bots) (take (i + 1) commands))) next
   leader_more turns next partner f e second h =
-      let t : Turn = record { leader = b.bid; place = i; partner = partner } in
+      let turn : Turn = record { leader = b.bid; place = i; partner = partner } in
       let mates : members all (act b k) ≡ act b k ∷ filter (are_together (act b k)) ys = ap (λ (zs : List Act). members zs (act b k)) whole ∙ group xs ys (act b k) up e in
       subst (λ (ts : List Turn). AreTurns all (filter (is_leader all) more) ts) (sym f)
-      (subst (λ (ls : List Act). AreTurns all ls (turns ++ t ∷ [])) (sym (leaders_are false e))
-      (turn_more all (filter (is_leader all) xs) turns (act b k) t h (record {
+      (subst (λ (ls : List Act). AreTurns all ls (turns ++ turn ∷ [])) (sym (leaders_are false e))
+      (turn_more all (filter (is_leader all) xs) turns (act b k) turn h (record {
         leader = refl;
         place = act_there bots commands i b k lt lengths bi ki;
         partner = second ∙ ap (λ (ms : List Act). slice_index_or (map bid_of ms) 1 0) (sym mates);

@@ -36,7 +36,7 @@ two_pass p l b [] up less i j e f h = absurd i
 two_pass p l b (x ∷ xs) up less (inl i) j e f h = on (p x) refl
   where
     here : In b (x ∷ xs) → In b xs
-    here (inl k) = absurd (let s : b.bot.bid ≡ l.bot.bid = ap (λ (a : Act). a.bot.bid) (k ∙ sym i) in omega arith)
+    here (inl k) = absurd (let same_bid : b.bot.bid ≡ l.bot.bid = ap (λ (a : Act). a.bot.bid) (k ∙ sym i) in omega arith)
     here (inr k) = k
 
     only : (a : Act) → In a xs → p a ≡ true → a ≡ b
@@ -44,18 +44,18 @@ two_pass p l b (x ∷ xs) up less (inl i) j e f h = on (p x) refl
       where
         of : (a ≡ l) ⊎ (a ≡ b) → a ≡ b
         of (inr s) = s
-        of (inl s) = absurd (let u : x.bot.bid < a.bot.bid = up.0 a.bot (in_map (λ (c : Act). c.bot) a xs k) in let t : a.bot.bid ≡ x.bot.bid = ap (λ (c : Act). c.bot.bid) (s ∙ i) in omega arith)
+        of (inl s) = absurd (let below_bid : x.bot.bid < a.bot.bid = up.0 a.bot (in_map (λ (c : Act). c.bot) a xs k) in let same_bid : a.bot.bid ≡ x.bot.bid = ap (λ (c : Act). c.bot.bid) (s ∙ i) in omega arith)
 
     on : (t : Bool) → p x ≡ t → cond t (x ∷ filter p xs) (filter p xs) ≡ l ∷ b ∷ []
     on true g = λ k. sym i k ∷ filter_only (λ (a : Act). a.bot.bid) p b xs (differ_acts xs up.1) (here j) f only k
     on false g = absurd (not_both (ap p (sym i) ∙ e) g)
 two_pass p l b (x ∷ xs) up less (inr i) (inl j) e f h =
-    absurd (let u : x.bot.bid < l.bot.bid = up.0 l.bot (in_map (λ (c : Act). c.bot) l xs i) in let t : b.bot.bid ≡ x.bot.bid = ap (λ (c : Act). c.bot.bid) j in omega arith)
+    absurd (let below_bid : x.bot.bid < l.bot.bid = up.0 l.bot (in_map (λ (c : Act). c.bot) l xs i) in let same_bid : b.bot.bid ≡ x.bot.bid = ap (λ (c : Act). c.bot.bid) j in omega arith)
 two_pass p l b (x ∷ xs) up less (inr i) (inr j) e f h = on (p x) refl (two_pass p l b xs up.1 less i j e f (λ a k q. h a (inr k) q))
   where
     neither : (x ≡ l) ⊎ (x ≡ b) → ⊥
-    neither (inl s) = let u : x.bot.bid < l.bot.bid = up.0 l.bot (in_map (λ (c : Act). c.bot) l xs i) in let t : x.bot.bid ≡ l.bot.bid = ap (λ (c : Act). c.bot.bid) s in omega arith
-    neither (inr s) = let u : x.bot.bid < b.bot.bid = up.0 b.bot (in_map (λ (c : Act). c.bot) b xs j) in let t : x.bot.bid ≡ b.bot.bid = ap (λ (c : Act). c.bot.bid) s in omega arith
+    neither (inl s) = let below_bid : x.bot.bid < l.bot.bid = up.0 l.bot (in_map (λ (c : Act). c.bot) l xs i) in let same_bid : x.bot.bid ≡ l.bot.bid = ap (λ (c : Act). c.bot.bid) s in omega arith
+    neither (inr s) = let below_bid : x.bot.bid < b.bot.bid = up.0 b.bot (in_map (λ (c : Act). c.bot) b xs j) in let same_bid : x.bot.bid ≡ b.bot.bid = ap (λ (c : Act). c.bot.bid) s in omega arith
 
     on : (t : Bool) → p x ≡ t → filter p xs ≡ l ∷ b ∷ [] → cond t (x ∷ filter p xs) (filter p xs) ≡ l ∷ b ∷ []
     on true g ih = absurd (neither (h x (inl refl) g))

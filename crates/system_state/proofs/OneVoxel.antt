@@ -31,10 +31,10 @@ one_there : (m : Matrix) (b : Bot) (d : Diff) → in_space m.resolution (plus (p
 one_there m b d i =
     let q = of_point m.resolution (plus (point b.pos) d) i in
     let there : Coord = coordinate (plus (point b.pos) d) in
-    let e : length (filter (λ c. is_within (just (plus (point b.pos) d)) (point c) || false) (coordinates m.resolution)) ≡ 1 =
+    let length_is : length (filter (λ c. is_within (just (plus (point b.pos) d)) (point c) || false) (coordinates m.resolution)) ≡ 1 =
     (λ j. length (filter (λ c. or_false (is_within (just (sym q.0 j)) (point c)) j) (coordinates m.resolution))) ∙ ap length (one_only m.resolution there q.1) in
     let n = length-filter (λ c. is_within (just (plus (point b.pos) d)) (point c) || false) (coordinates m.resolution) in
-    omega (arith, n, e)
+    omega (arith, n, length_is)
 
 pub one_met : (m : Matrix) (b : Bot) (d : Diff) (full : Bool) → in_space m.resolution (plus (point b.pos) d) ≡ true
     → 1 ≤ met_count m b (edit_of full d)

@@ -97,7 +97,7 @@ cost_is m b k = ap (λ (xs : List Act). total (map (λ a. group_cost m (point a.
 
 numbers_differ : (r n a : ℕ) → Differ (place r) (map (coordinate_at r) (numbers_from a n))
 numbers_differ r zero a = tt
-numbers_differ r (suc n) a = ((λ y i e. let w = later (numbers_from (a + 1) n) y i in let l : a + 1 ≤ w.0 = above n (a + 1) w.0 w.1 in absurd (let f : a ≡ w.0 = sym (place-coordinate_at r a) ∙ (e ∙ (ap (place r) w.2 ∙ place-coordinate_at r w.0)) in omega arith)), numbers_differ r n (a + 1))
+numbers_differ r (suc n) a = ((λ y i e. let w = later (numbers_from (a + 1) n) y i in let at_most_w : a + 1 ≤ w.0 = above n (a + 1) w.0 w.1 in absurd (let a_is : a ≡ w.0 = sym (place-coordinate_at r a) ∙ (e ∙ (ap (place r) w.2 ∙ place-coordinate_at r w.0)) in omega arith)), numbers_differ r n (a + 1))
   where
     later : (xs : List ℕ) (y : Coord) → In y (map (coordinate_at r) xs) → (k : ℕ) × In k xs × (y ≡ coordinate_at r k)
     later xs y i = map_in (coordinate_at r) y xs i

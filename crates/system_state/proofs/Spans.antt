@@ -52,18 +52,18 @@ module _ (m : Matrix) (k : Corners) (s : Span) (same : (p : Point) → is_within
       → size ≡ count_by (λ c. is_within (span k) (point c)) (all_of m) → cond full others (size - others) ≡ void_in m s
   void_met true others size h e = h ∙ others_void
   void_met false others size h e =
-      let a : others ≡ full_in m s = h ∙ others_full in
-      let b : size ≡ size_in m s = e ∙ same_size in
-      let c : void_in m s + full_in m s ≡ size_in m s = both_states in
+      let others_is : others ≡ full_in m s = h ∙ others_full in
+      let size_is : size ≡ size_in m s = e ∙ same_size in
+      let void_is : void_in m s + full_in m s ≡ size_in m s = both_states in
       omega arith
 
   pub full_met : (full : Bool) (others size : ℕ) → others ≡ other_count m k full
       → size ≡ count_by (λ c. is_within (span k) (point c)) (all_of m) → cond full (size - others) others ≡ full_in m s
   full_met false others size h e = h ∙ others_full
   full_met true others size h e =
-      let a : others ≡ void_in m s = h ∙ others_void in
-      let b : size ≡ size_in m s = e ∙ same_size in
-      let c : void_in m s + full_in m s ≡ size_in m s = both_states in
+      let others_is : others ≡ void_in m s = h ∙ others_void in
+      let size_is : size ≡ size_in m s = e ∙ same_size in
+      let void_is : void_in m s + full_in m s ≡ size_in m s = both_states in
       omega arith
 
 -- ---- a command that fills or voids one region
@@ -131,8 +131,8 @@ module _ (m : Matrix) (bot : Bot) (command : Command) where
   none_of : (xs : List Coord) → 0 ≡ count_by (λ c. false) xs
   none_of [] = refl
   none_of (x ∷ xs) =
-      let h : 0 ≡ count_by (λ c. false) xs = none_of xs in
-      let e : count_by (λ c. false) (x ∷ xs) ≡ 0 + count_by (λ c. false) xs = sum_by-cons (λ (c : Coord). cond false 1 0) x xs in
+      let count_is : 0 ≡ count_by (λ c. false) xs = none_of xs in
+      let same_count : count_by (λ c. false) (x ∷ xs) ≡ 0 + count_by (λ c. false) xs = sum_by-cons (λ (c : Coord). cond false 1 0) x xs in
       omega arith
 
   pub no_void : filled (point bot.pos) command ≡ [] → voided (point bot.pos) command ≡ []

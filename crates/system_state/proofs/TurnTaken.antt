@@ -116,7 +116,7 @@ none_flips [] h = refl
 none_flips (x ∷ xs) h =
     let e : count_by (λ (a : Act). is_flip a.command) (x ∷ xs) ≡ cond (is_flip x.command) 1 0 + count_by (λ (a : Act). is_flip a.command) xs = sum_by-cons (λ (a : Act). cond (is_flip a.command) 1 0) x xs in
     let f : cond {A = ℕ} (is_flip x.command) 1 0 ≡ 0 = ap (λ (b : Bool). cond {A = ℕ} b 1 0) (h x (inl refl)) in
-    let r : count_by (λ (a : Act). is_flip a.command) xs ≡ 0 = none_flips xs (λ a i. h a (inr i)) in
+    let count_is : count_by (λ (a : Act). is_flip a.command) xs ≡ 0 = none_flips xs (λ a i. h a (inr i)) in
     omega arith
 
 -- ---- the law
@@ -182,10 +182,10 @@ module _ (s : State) (all : List Act) (good : IsGood s all) (l : Act) (leads : I
           (sym (space_is t.matrix.resolution (plus (point l.bot.pos) d) (first_of_two (in_space t.matrix.resolution (plus (point l.bot.pos) d)) true (in_space_of (Fission d m) e))).1 ∙ ap point (sym k))
   needs known (FusionP d) e =
       let w = couple s all good l leads (ap is_fusion e) in
-      (is_active_partner w.0 w.3, λ k. let u : l.bot.bid < w.0.bot.bid = w.2 in let v : partner ≡ w.0.bot.bid = partner_of w.0 w.3 in omega arith)
+      (is_active_partner w.0 w.3, λ k. let below_bid : l.bot.bid < w.0.bot.bid = w.2 in let partner_is : partner ≡ w.0.bot.bid = partner_of w.0 w.3 in omega arith)
   needs known (FusionS d) e =
       let w = couple s all good l leads (ap is_fusion e) in
-      (is_active_partner w.0 w.3, λ k. let u : l.bot.bid < w.0.bot.bid = w.2 in let v : partner ≡ w.0.bot.bid = partner_of w.0 w.3 in omega arith)
+      (is_active_partner w.0 w.3, λ k. let below_bid : l.bot.bid < w.0.bot.bid = w.2 in let partner_is : partner ≡ w.0.bot.bid = partner_of w.0 w.3 in omega arith)
   needs known c e = tt
 
   pub may_take : is_command l.command ≡ true → MayTake t.matrix.resolution t.bots l.bot partner l.command

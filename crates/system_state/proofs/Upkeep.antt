@@ -13,7 +13,7 @@ at_most true v h = omega arith
 at_most false v h = omega arith
 
 pub space_upkeep_most : (r : ℕ) (h : Harmonics) (space : ℕ) → r ≤ 400 → space ≡ space_upkeep r h → space ≤ 1920000000
-space_upkeep_most r h space k e = let p : cond (is_high h) 30 3 * (r * r * r) ≤ 1920000000 = at_most (is_high h) (r * r * r) (mul-le-mul (mul-le-mul k k) k) in omega (arith, p, e)
+space_upkeep_most r h space k e = let choice_to_1920000000 : cond (is_high h) 30 3 * (r * r * r) ≤ 1920000000 = at_most (is_high h) (r * r * r) (mul-le-mul (mul-le-mul k k) k) in omega (arith, choice_to_1920000000, e)
 
 -- what is spent adds up
 pub within_more : (k n : ℕ) (e z : ℤ) → IsWithin k e → IsWithin n z → IsWithin (k + n) (e +ℤ z)

@@ -41,7 +41,7 @@ far_small : (d : Diff) → IsFar d → (raised d.dx 30 ≤ 60) × (raised d.dy 3
 far_small d h = let b = far_bounds d h in (raised_small d.dx 30 b.0, raised_small d.dy 30 b.1, raised_small d.dz 30 b.2)
 
 below : (x a : ℕ) (xs ys : List ℕ) → x ∷ xs ≡ a ∷ ys → a ≤ 60 → x ≤ 60
-below x a xs ys e l = let s : x ≡ a = cc in omega arith
+below x a xs ys e l = let x_is : x ≡ a = cc in omega arith
 
 pub tail_is : (x a : ℕ) (xs ys : List ℕ) → x ∷ xs ≡ a ∷ ys → xs ≡ ys
 tail_is x a xs ys e = cc

@@ -142,7 +142,7 @@ no_short_at a b v bytes l m (by_long e n p q s t) = absurd (omega arith)
 no_short_at a b v bytes l m (by_short d e n o p q r s t u) =
     let i = short_raised d n in
     let j = short_raised e o in
-    let w : v ≡ 16 * raised (component e) 5 + raised (component d) 5 = same_head v _ bytes u.0 u.1 in
+    let v_is : v ≡ 16 * raised (component e) 5 + raised (component d) 5 = same_head v _ bytes u.0 u.1 in
     (d, e, n, o, omega arith, omega arith, omega arith, omega arith)
 
 pub refused_first : (a b : ℕ) (bytes : List ℕ) → a ≤ 3 → b ≤ 3 → 1 ≤ length bytes

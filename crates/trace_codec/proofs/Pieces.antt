@@ -25,7 +25,7 @@ some (x ∷ xs) n = omega arith
 
 pub begins_short : (bytes : List ℕ) → BeginsSpelling bytes → length bytes < 4
 begins_short bytes (c, more, i, n, e) =
-    let l : length (bytes ++ more) ≡ length (spelling c) = ap length e in
+    let same_length : length (bytes ++ more) ≡ length (spelling c) = ap length e in
     omega (arith, length-append bytes more, some more n, spelling_short c)
 
 -- ---- bytes that go on
@@ -50,7 +50,7 @@ pub refused_more : (bytes more : List ℕ) → IsNoCommand bytes → IsNoCommand
 refused_more bytes more h = (none, part)
   where
     longer : (c : Command) (r : List ℕ) → length bytes < length (spelling c) → spelling c ≡ bytes ++ r → r ≢ []
-    longer c r l e n = let k : length (spelling c) ≡ length (bytes ++ []) = ap length (e ∙ ap (λ x. bytes ++ x) n) in omega (arith, length-append bytes [])
+    longer c r l e n = let same_length : length (spelling c) ≡ length (bytes ++ []) = ap length (e ∙ ap (λ x. bytes ++ x) n) in omega (arith, length-append bytes [])
 
     at : (c : Command) (y : List ℕ) → IsCommand c → bytes ++ more ≡ spelling c ++ y
         → (length bytes < length (spelling c)) ⊎ (length (spelling c) ≤ length bytes) → ⊥
@@ -70,7 +70,7 @@ pub says_more : (front rest : List ℕ) (one : One) → 4 ≤ length front → B
     → BeginsWith (front ++ rest) one
 says_more front rest (Got c n) l s = record {
   is_command = s.is_command;
-  within = let k = s.within in omega (arith, length-append front rest);
+  within = let within = s.within in omega (arith, length-append front rest);
   spelling_is = take-append-le n front rest s.within ∙ s.spelling_is;
 }
 says_more front rest More l s = let k = begins_short front s in absurd (omega arith)
@@ -105,8 +105,8 @@ ends_later held piece c len b s = at (cases_lt (length held) len)
     at : (length held < len) ⊎ (len ≤ length held) → length held < len
     at (inl l) = l
     at (inr l) =
-        let e : take len held ≡ spelling c = sym (take-append-le len held piece l) ∙ s.spelling_is in
-        absurd (no_part held (drop len held) c s.is_command (sym (take-append-drop len held) ∙ ap (λ x. x ++ drop len held) e) b)
+        let front_is : take len held ≡ spelling c = sym (take-append-le len held piece l) ∙ s.spelling_is in
+        absurd (no_part held (drop len held) c s.is_command (sym (take-append-drop len held) ∙ ap (λ x. x ++ drop len held) front_is) b)
 
 pub completes : (decoder : DecoderState) (piece : List ℕ) (c : Command) (len used : ℕ) → IsFalse decoder.failed
     → BeginsSpelling decoder.held → Spells (decoder.held ++ piece) c len → used ≡ len - length decoder.held
@@ -114,13 +114,13 @@ pub completes : (decoder : DecoderState) (piece : List ℕ) (c : Command) (len u
 completes decoder piece c len used f b s e =
     let l = ends_later decoder.held piece c len b s in
     let w = s.within in
-    let n : len ≡ length decoder.held + used = omega arith in
+    let len_is : len ≡ length decoder.held + used = omega arith in
     record {
       works = f;
       is_command = s.is_command;
       some = omega arith;
       within = omega (arith, length-append decoder.held piece);
-      spelling_is = sym (take-append-add decoder.held piece used) ∙ (ap (λ k. take k (decoder.held ++ piece)) (sym n) ∙ s.spelling_is);
+      spelling_is = sym (take-append-add decoder.held piece used) ∙ (ap (λ k. take k (decoder.held ++ piece)) (sym len_is) ∙ s.spelling_is);
     }
 
 -- the held bytes and the piece are a command's spelling and what is left of the piece
@@ -131,7 +131,7 @@ fed_split decoder piece c used s =
 
 used_is : (decoder : DecoderState) (piece : List ℕ) (c : Command) (used : ℕ) → Completes decoder piece c used → length decoder.held + used ≡ length (spelling c)
 used_is decoder piece c used s =
-    let l : length (decoder.held ++ take used piece) ≡ length (spelling c) = ap length s.spelling_is in
+    let same_length : length (decoder.held ++ take used piece) ≡ length (spelling c) = ap length s.spelling_is in
     omega (arith, length-append decoder.held (take used piece), length-take-le used piece s.within)
 
 not_both : (decoder : DecoderState) → IsFalse decoder.failed → IsTrue decoder.failed → ⊥
@@ -142,11 +142,11 @@ pub Answers-unique : (decoder : DecoderState) (piece : List ℕ) (a b : Fed) →
     → AnswersPiece decoder piece b → a ≡ b
 Answers-unique decoder piece (fed.Got c n) (fed.Got d m) s t =
     let e = same_command (decoder.held ++ piece) c d _ _ s.is_command t.is_command (fed_split decoder piece c n s) (fed_split decoder piece d m t) in
-    let k : length (spelling c) ≡ length (spelling d) = ap (λ x. length (spelling x)) e in
+    let same_length : length (spelling c) ≡ length (spelling d) = ap (λ x. length (spelling x)) e in
     let p = used_is decoder piece c n s in
     let q = used_is decoder piece d m t in
-    let l : n ≡ m = omega arith in
-    λ i. fed.Got (e i) (l i)
+    let n_is : n ≡ m = omega arith in
+    λ i. fed.Got (e i) (n_is i)
 Answers-unique decoder piece (fed.Got c n) fed.All s t = absurd (no_part (decoder.held ++ piece) (drop n piece) c s.is_command (fed_split decoder piece c n s) t.1)
 Answers-unique decoder piece (fed.Got c n) (fed.Bad o) s (e, inl f) = absurd (not_both decoder s.works f)
 Answers-unique decoder piece (fed.Got c n) (fed.Bad o) s (e, inr r) = absurd (r.0 c (drop n piece) s.is_command (fed_split decoder piece c n s))

@@ -31,7 +31,7 @@ spellings_more commands c = sym (flat_map_more spelling [] commands c)
 longest : (cs ds : List Command) (rest other : List ℕ) → AreCommands cs → AreCommands ds
     → spellings cs ++ rest ≡ spellings ds ++ other → NoSpelling rest → length rest ≤ length other
 longest cs [] rest other h k e n =
-    let l : length (spellings cs ++ rest) ≡ length other = ap length e in
+    let same_length : length (spellings cs ++ rest) ≡ length other = ap length e in
     omega (arith, length-append (spellings cs) rest)
 longest [] (d ∷ ds) rest other h k e n = absurd (n d (spellings ds ++ other) k.0 (e ∙ append_assoc (spelling d) (spellings ds) other))
 longest (c ∷ cs) (d ∷ ds) rest other h k e n =
@@ -46,7 +46,7 @@ rest_of bytes commands rest h e n = ((commands, h, e), λ other f. longest comma
 length_is : (bytes : List ℕ) (commands : List Command) (rest : List ℕ) (offset : ℕ) → bytes ≡ spellings commands ++ rest
     → offset ≡ length (spellings commands) → length bytes ≡ offset + length rest
 length_is bytes commands rest offset e o =
-    let l : length bytes ≡ length (spellings commands ++ rest) = ap length e in
+    let same_length : length bytes ≡ length (spellings commands ++ rest) = ap length e in
     omega (arith, length-append (spellings commands) rest)
 
 -- bytes are bad from where commands are followed by what is refused
@@ -74,7 +74,7 @@ pub taken_got : (bytes piece : List ℕ) (commands : List Command) (decoder : De
     → HasTaken (bytes ++ take used piece) (commands ++ c ∷ []) (decoder_after decoder piece (fed.Got c used))
 taken_got bytes piece commands decoder c used h s =
     let o : decoder.offset ≡ length (spellings commands) = h.offset_is in
-    let l : length (spellings (commands ++ c ∷ [])) ≡ length (spellings commands ++ spelling c) = ap length (spellings_more commands c) in
+    let same_length : length (spellings (commands ++ c ∷ [])) ≡ length (spellings commands ++ spelling c) = ap length (spellings_more commands c) in
     record {
       works = refl;
       are_commands = are_commands_more commands c h.are_commands s.is_command;

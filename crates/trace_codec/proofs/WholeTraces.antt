@@ -50,7 +50,7 @@ cut_nothing bytes = record { are_commands = tt; bytes_are = refl; start_is = ref
 cut_on : (bytes : List ℕ) (commands : List Command) (start : ℕ) (c : Command) (len : ℕ) → HasCut bytes commands start
     → Spells (drop start bytes) c len → HasCut bytes (commands ++ c ∷ []) (start + len)
 cut_on bytes commands start c len h s =
-    let l : length (spellings (commands ++ c ∷ [])) ≡ length (spellings commands ++ spelling c) = ap length (spellings_more commands c) in
+    let same_length : length (spellings (commands ++ c ∷ [])) ≡ length (spellings commands ++ spelling c) = ap length (spellings_more commands c) in
     let m = len_is (drop start bytes) c len s in
     let w = s.within in
     let o = h.start_is in
@@ -63,7 +63,7 @@ cut_on bytes commands start c len h s =
     }
 
 some_left : (bytes : List ℕ) (start : ℕ) → start < length bytes → drop start bytes ≢ []
-some_left bytes start l e = let k : length (drop start bytes) ≡ length {A = ℕ} [] = ap length e in absurd (omega (arith, length-drop start bytes))
+some_left bytes start l e = let same_length : length (drop start bytes) ≡ length {A = ℕ} [] = ap length e in absurd (omega (arith, length-drop start bytes))
 
 -- what is left from the start on, as a slice says it
 abbrev pub left_from : List ℕ → ℕ → List ℕ
@@ -92,6 +92,6 @@ pub encoded_more : (bytes new : List ℕ) (commands : List Command) (i : ℕ) (c
     → Cutting bytes (take i commands) → i < length commands → c ≡ get_or commands i c → IsCommand c
     → new ≡ bytes ++ spelling c → Cutting new (take (i + 1) commands)
 encoded_more bytes new commands i c h l r is_c e =
-    let t : take i commands ++ c ∷ [] ≡ take (i + 1) commands = ap (λ x. take i commands ++ x ∷ []) r ∙ sym (take_more commands i c l) in
-    subst (λ (x : List Command). Cutting new x) t
+    let same_front : take i commands ++ c ∷ [] ≡ take (i + 1) commands = ap (λ x. take i commands ++ x ∷ []) r ∙ sym (take_more commands i c l) in
+    subst (λ (x : List Command). Cutting new x) same_front
     (are_commands_more (take i commands) c h.0 is_c, e ∙ (ap (λ x. x ++ spelling c) h.1 ∙ sym (spellings_more (take i commands) c)))

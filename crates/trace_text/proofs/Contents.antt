@@ -30,7 +30,7 @@ no_high (b ∷ bs) h = by (nat_lt 127 b) refl (no_high bs (λ i. h (suc i)))
     lower = h 0
 
     contrary : nat_lt 127 b ≡ true → ⊥
-    contrary e = let l : 127 < b = grind (arith, nat_tests) in let k = lower in absurd (omega (arith, l, k))
+    contrary e = let b_from_127 : 127 < b = grind (arith, nat_tests) in let k = lower in absurd (omega (arith, b_from_127, k))
 
     by : (t : Bool) → nat_lt 127 b ≡ t → has_high_byte bs ≡ false → (t || has_high_byte bs) ≡ false
     by true e later = absurd (contrary e)
@@ -45,18 +45,18 @@ pub record HasParts (line middle rest : List ℕ) : Type 0 where
 pub skipped : (line middle rest : List ℕ) → HasParts line middle rest → true ≡ (length rest == 0)
     → Skipped ≡ line_of line
 skipped line middle rest h e =
-    let r : rest ≡ from_word (line_content line) = h.rest_is ∙ ap from_word h.middle_is in
-    let b : list_all is_blank (line_content line) ≡ true = all_blank (line_content line) ∙ (ap (λ xs. length xs == 0) (sym r) ∙ sym e) in
+    let rest_is : rest ≡ from_word (line_content line) = h.rest_is ∙ ap from_word h.middle_is in
+    let b : list_all is_blank (line_content line) ≡ true = all_blank (line_content line) ∙ (ap (λ xs. length xs == 0) (sym rest_is) ∙ sym e) in
     let low = h.low in
     rw (low, b) refl
 
 by_word : (line middle rest : List ℕ) → HasParts line middle rest → false ≡ (length rest == 0)
     → said_by (word_of rest) (after_word rest) ≡ line_of line
 by_word line middle rest h e =
-    let r : rest ≡ from_word (line_content line) = h.rest_is ∙ ap from_word h.middle_is in
-    let b : list_all is_blank (line_content line) ≡ false = all_blank (line_content line) ∙ (ap (λ xs. length xs == 0) (sym r) ∙ sym e) in
+    let rest_is : rest ≡ from_word (line_content line) = h.rest_is ∙ ap from_word h.middle_is in
+    let not_list_all : list_all is_blank (line_content line) ≡ false = all_blank (line_content line) ∙ (ap (λ xs. length xs == 0) (sym rest_is) ∙ sym e) in
     let low = h.low in
-    rw (low, b) (ap (λ xs. said_by (word_of xs) (after_word xs)) r)
+    rw (low, not_list_all) (ap (λ xs. said_by (word_of xs) (after_word xs)) rest_is)
 
 pub says : (line middle rest word more : List ℕ) (w : Word) (s : Line) → HasParts line middle rest
     → false ≡ (length rest == 0) → word ≡ take_while is_letter rest → more ≡ drop (prefix_len is_letter rest) rest

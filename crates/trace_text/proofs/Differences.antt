@@ -51,8 +51,8 @@ pub all_there : (old a b c d e : List ℕ) (x y z p q r : ℤ) → p ≡ x → q
     → TakesMark 60 a true b → TakesPart 44 b (Some x) c → TakesPart 44 c (Some y) d → TakesPart 62 d (Some z) e
     → (ps : List Part) → readings (difference_parts ++ ps) old ≡ map (λ ns. p ∷ q ∷ r ∷ ns) (readings ps e)
 all_there old a b c d e x y z p q r i j k h m f g o ps =
-    let t : readings (difference_parts ++ ps) old ≡ map (λ ns. x ∷ y ∷ z ∷ ns) (readings ps e) = h (Mark 60 ∷ parts_one ps) refl ∙ (m (parts_one ps) ∙ (f (parts_two ps) ∙ (ap (λ xs. map (λ ns. x ∷ ns) xs) (g (parts_three ps)) ∙ (ap (λ xs. map (λ ns. x ∷ ns) (map (λ ns. y ∷ ns) xs)) (o ps) ∙ fused x y z (readings ps e))))) in
-    t ∙ (ap (λ v. map (λ ns. v ∷ y ∷ z ∷ ns) (readings ps e)) (sym i) ∙ (ap (λ v. map (λ ns. p ∷ v ∷ z ∷ ns) (readings ps e)) (sym j) ∙ ap (λ v. map (λ ns. p ∷ q ∷ v ∷ ns) (readings ps e)) (sym k)))
+    let readings_is : readings (difference_parts ++ ps) old ≡ map (λ ns. x ∷ y ∷ z ∷ ns) (readings ps e) = h (Mark 60 ∷ parts_one ps) refl ∙ (m (parts_one ps) ∙ (f (parts_two ps) ∙ (ap (λ xs. map (λ ns. x ∷ ns) xs) (g (parts_three ps)) ∙ (ap (λ xs. map (λ ns. x ∷ ns) (map (λ ns. y ∷ ns) xs)) (o ps) ∙ fused x y z (readings ps e))))) in
+    readings_is ∙ (ap (λ v. map (λ ns. v ∷ y ∷ z ∷ ns) (readings ps e)) (sym i) ∙ (ap (λ v. map (λ ns. p ∷ v ∷ z ∷ ns) (readings ps e)) (sym j) ∙ ap (λ v. map (λ ns. p ∷ q ∷ v ∷ ns) (readings ps e)) (sym k)))
 
 -- ---- one difference to the end, and two
 

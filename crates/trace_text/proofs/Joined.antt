@@ -10,8 +10,8 @@ pub difference_joined : (old a b c d e f g x y z : List ℕ) → a ≡ old ++ 32
     → d ≡ c ++ y → e ≡ d ++ 44 ∷ [] → f ≡ e ++ z → g ≡ f ++ 62 ∷ []
     → g ≡ old ++ 32 ∷ 60 ∷ (((((x ++ (44 ∷ [])) ++ y) ++ (44 ∷ [])) ++ z) ++ (62 ∷ []))
 difference_joined old a b c d e f g x y z ha hb hc hd he hf hg =
-    let u : ((((((old ++ (32 ∷ 60 ∷ [])) ++ x) ++ (44 ∷ [])) ++ y) ++ (44 ∷ [])) ++ z) ++ (62 ∷ []) ≡ old ++ 32 ∷ 60 ∷ (((((x ++ (44 ∷ [])) ++ y) ++ (44 ∷ [])) ++ z) ++ (62 ∷ [])) = simp append_assoc in
-    rw (hg, hf, he, hd, hc, hb, ha) u
+    let x_is : ((((((old ++ (32 ∷ 60 ∷ [])) ++ x) ++ (44 ∷ [])) ++ y) ++ (44 ∷ [])) ++ z) ++ (62 ∷ []) ≡ old ++ 32 ∷ 60 ∷ (((((x ++ (44 ∷ [])) ++ y) ++ (44 ∷ [])) ++ z) ++ (62 ∷ [])) = simp append_assoc in
+    rw (hg, hf, he, hd, hc, hb, ha) x_is
 
 print_joined : (xs ys : List Command) → print (xs ++ ys) ≡ print xs ++ print ys
 print_joined [] ys = refl
@@ -22,8 +22,8 @@ pub printed_on : (before more : List Command) (c : Command) (old mid new : List 
     → old ≡ print before → mid ≡ old ++ printed c → new ≡ mid ++ 10 ∷ [] → new ≡ print more
 printed_on before more c old mid new m o p n =
     let one : print (c ∷ []) ≡ printed c ++ 10 ∷ [] = append_none (printed c ++ 10 ∷ []) in
-    let e : print more ≡ print before ++ (printed c ++ 10 ∷ []) = ap print m ∙ (print_joined before (c ∷ []) ∙ ap (λ v. print before ++ v) one) in
-    n ∙ (ap (λ v. v ++ 10 ∷ []) (p ∙ ap (λ v. v ++ printed c) o) ∙ (append_assoc (print before) (printed c) (10 ∷ []) ∙ sym e))
+    let same_print : print more ≡ print before ++ (printed c ++ 10 ∷ []) = ap print m ∙ (print_joined before (c ∷ []) ∙ ap (λ v. print before ++ v) one) in
+    n ∙ (ap (λ v. v ++ 10 ∷ []) (p ∙ ap (λ v. v ++ printed c) o) ∙ (append_assoc (print before) (printed c) (10 ∷ []) ∙ sym same_print))
 
 pub on_ok : {A E P Q : Type 0} (r : Result A E) → (P → Q) → OnOk r P → OnOk r Q
 on_ok (Ok a) f h = f h

@@ -108,8 +108,8 @@ pub minus_number : (old rest new : List ℕ) (r : Option ℕ) → old ≡ 45 ∷
     → (ps : List Part) → IsTrue (is_free ps)
     → readings (Number ∷ ps) old ≡ after_number (signed_by (λ n. neg_ℤ (pos n)) r) ps new
 minus_number old rest new r e f ps h =
-    let a : readings (Number ∷ ps) (45 ∷ rest) ≡ flat_map (λ q. behind (λ x. neg_ℤ x.number) ps q) (digits 3 0 rest) = mapped_first negative (behind (λ q. q.number) ps) (digits 3 0 rest) in
-    ap (readings (Number ∷ ps)) e ∙ (a ∙ (longest_taken (λ q. neg_ℤ q.number) ps 3 0 rest h ∙ (ap (behind_any (λ q. neg_ℤ q.number) ps) (sym f) ∙ after_minus ps new r)))
+    let readings_is : readings (Number ∷ ps) (45 ∷ rest) ≡ flat_map (λ q. behind (λ x. neg_ℤ x.number) ps q) (digits 3 0 rest) = mapped_first negative (behind (λ q. q.number) ps) (digits 3 0 rest) in
+    ap (readings (Number ∷ ps)) e ∙ (readings_is ∙ (longest_taken (λ q. neg_ℤ q.number) ps 3 0 rest h ∙ (ap (behind_any (λ q. neg_ℤ q.number) ps) (sym f) ∙ after_minus ps new r)))
 
 plain_digits : (ps : List Part) (old : List ℕ) → begins_with 45 old ≡ false
     → readings (Number ∷ ps) old ≡ flat_map (behind (λ q. q.number) ps) (digits 3 0 old)
@@ -151,7 +151,7 @@ empty_reads [] = refl
 empty_reads (b ∷ new) = by (length (b ∷ new) == 0) refl
   where
     no : (length (b ∷ new) == 0) ≡ true → ⊥
-    no e = let k : suc (length new) ≡ 0 = equal_by_test (length (b ∷ new)) 0 e in absurd (omega arith)
+    no e = let length_is : suc (length new) ≡ 0 = equal_by_test (length (b ∷ new)) 0 e in absurd (omega arith)
 
     by : (t : Bool) → (length (b ∷ new) == 0) ≡ t → readings [] (b ∷ new) ≡ cond t ([] ∷ []) []
     by true e = absurd (no e)

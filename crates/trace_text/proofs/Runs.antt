@@ -19,17 +19,17 @@ from_start [] = refl
 from_start (x ∷ xs) = refl
 
 pub none_yet : (p : ℕ → Bool) (xs : List ℕ) → Pass p xs 0
-none_yet p xs = let e : prefix_len p (drop 0 xs) ≡ prefix_len p xs = ap (prefix_len p) (from_start xs) in record { run = omega (arith, e); within = omega arith }
+none_yet p xs = let same_prefix_len : prefix_len p (drop 0 xs) ≡ prefix_len p xs = ap (prefix_len p) (from_start xs) in record { run = omega (arith, same_prefix_len); within = omega arith }
 
 pub passes_on : (p : ℕ → Bool) (xs : List ℕ) (n : ℕ) → Pass p xs n → n < length xs → p (slice_index_or xs n 0) ≡ true
     → Pass p xs (n + 1)
 passes_on p xs n h l e =
     let k = at_place p xs n l in
-    let f : prefix_len p (drop n xs) ≡ 1 + prefix_len p (drop (suc n) xs) = k ∙ ap (λ t. cond t (1 + prefix_len p (drop (suc n) xs)) 0) e in
-    let s : suc n ≡ n + 1 = omega arith in
+    let same_prefix_len : prefix_len p (drop n xs) ≡ 1 + prefix_len p (drop (suc n) xs) = k ∙ ap (λ t. cond t (1 + prefix_len p (drop (suc n) xs)) 0) e in
+    let same_n : suc n ≡ n + 1 = omega arith in
     let r = h.run in
     record {
-      run = subst (λ (m : ℕ). prefix_len p xs ≡ m + prefix_len p (drop m xs)) s (omega (arith, r, f));
+      run = subst (λ (m : ℕ). prefix_len p xs ≡ m + prefix_len p (drop m xs)) same_n (omega (arith, r, same_prefix_len));
       within = omega arith;
     }
 
@@ -37,12 +37,12 @@ pub stops_at : (p : ℕ → Bool) (xs : List ℕ) (n : ℕ) → Pass p xs n → 
     → n ≡ prefix_len p xs
 stops_at p xs n h l e =
     let k = at_place p xs n l in
-    let f : prefix_len p (drop n xs) ≡ 0 = k ∙ ap (λ t. cond t (1 + prefix_len p (drop (suc n) xs)) 0) e in
-    let r = h.run in
-    omega (arith, r, f)
+    let prefix_len_is : prefix_len p (drop n xs) ≡ 0 = k ∙ ap (λ t. cond t (1 + prefix_len p (drop (suc n) xs)) 0) e in
+    let run = h.run in
+    omega (arith, run, prefix_len_is)
 
 pub ends_at : (p : ℕ → Bool) (xs : List ℕ) (n : ℕ) → Pass p xs n → length xs ≤ n → n ≡ prefix_len p xs
 ends_at p xs n h l =
-    let f : prefix_len p (drop n xs) ≡ 0 = ap (prefix_len p) (drop_all n xs l) in
-    let r = h.run in
-    omega (arith, r, f)
+    let prefix_len_is : prefix_len p (drop n xs) ≡ 0 = ap (prefix_len p) (drop_all n xs l) in
+    let run = h.run in
+    omega (arith, run, prefix_len_is)

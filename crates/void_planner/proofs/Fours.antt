@@ -113,10 +113,10 @@ module _ (p : TapeState) (c : Coord) (w d : ℕ) (n : Coord) (width depth : ℕ)
   lie a b k l q r g h e = subst (λ (s : Span). LieApart s (way (act b l))) (sym (way_is a k q g)) (subst (λ (s : Span). LieApart (between (point a.pos) (point q)) s) (sym (way_is b l r h)) e)
 
   left_right : AreBelow (pos c.x) (pos n.x) (pos (c.x + w)) (pos (n.x + width))
-  left_right = let a = apart.wide in let b = apart.wide_then in let e = apart.right in let f = apart.left in below c.x n.x (c.x + w) (n.x + width) (omega arith) (omega arith) (omega arith) (omega arith)
+  left_right = let wide = apart.wide in let wide_then = apart.wide_then in let right = apart.right in let left = apart.left in below c.x n.x (c.x + w) (n.x + width) (omega arith) (omega arith) (omega arith) (omega arith)
 
   front_rear : AreBelow (pos c.z) (pos n.z) (pos (c.z + d)) (pos (n.z + depth))
-  front_rear = let a = apart.deep in let b = apart.deep_then in let e = apart.rear in let f = apart.front in below c.z n.z (c.z + d) (n.z + depth) (omega arith) (omega arith) (omega arith) (omega arith)
+  front_rear = let deep = apart.deep in let deep_then = apart.deep_then in let rear = apart.rear in let front = apart.front in below c.z n.z (c.z + d) (n.z + depth) (omega arith) (omega arith) (omega arith) (omega arith)
 
   pub ways_apart : AreWaysApart (acts (four c w d) (k ∷ l ∷ m ∷ o ∷ []))
   ways_apart =
@@ -269,7 +269,7 @@ module _ (p : TapeState) (axis : Axis) (at next : ℕ) (a b e g : Diff) (square 
 
 module _ (p : TapeState) (d at next : ℕ) (b e : Diff) (rectangle : IsRectangle p at d) (some : 1 ≤ next) (within : (spot p.bots).x + next < p.matrix.resolution) (eb : b ≡ along X (pos next -ℤ pos at)) (ee : e ≡ along X (pos next -ℤ pos at)) where
   wider : CanStand p.matrix next d (spot p.bots)
-  wider = let s = rectangle.stand in record { x = within; y = s.y; z = s.z; above = s.above }
+  wider = let stand = rectangle.stand in record { x = within; y = stand.y; z = stand.z; above = stand.above }
 
   pub can_widen : CanMoveAll p (Wait ∷ SMove b ∷ SMove e ∷ Wait ∷ [])
   can_widen = can_move_all p _ _ _ _ _ _ _ _ _ _ rectangle.full rectangle.stand wider (stay_apart (spot p.bots) at d next d rectangle.wide rectangle.deep some rectangle.deep) (widen_goes (spot p.bots) d at next b e eb ee) rectangle.bots_are
@@ -281,7 +281,7 @@ module _ (p : TapeState) (d at next : ℕ) (b e : Diff) (rectangle : IsRectangle
 
 module _ (p : TapeState) (w at next : ℕ) (e g : Diff) (rectangle : IsRectangle p w at) (some : 1 ≤ next) (within : (spot p.bots).z + next < p.matrix.resolution) (ee : e ≡ along Z (pos next -ℤ pos at)) (eg : g ≡ along Z (pos next -ℤ pos at)) where
   deeper : CanStand p.matrix w next (spot p.bots)
-  deeper = let s = rectangle.stand in record { x = s.x; y = s.y; z = within; above = s.above }
+  deeper = let stand = rectangle.stand in record { x = stand.x; y = stand.y; z = within; above = stand.above }
 
   pub can_deepen : CanMoveAll p (Wait ∷ Wait ∷ SMove e ∷ SMove g ∷ [])
   can_deepen = can_move_all p _ _ _ _ _ _ _ _ _ _ rectangle.full rectangle.stand deeper (stay_apart (spot p.bots) w at w next rectangle.wide rectangle.deep rectangle.wide some) (deepen_goes (spot p.bots) w at next e g ee eg) rectangle.bots_are

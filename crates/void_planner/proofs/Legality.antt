@@ -21,8 +21,8 @@ none_full m [] v = refl
 none_full m (c ∷ cs) v =
     let s = sum_by-cons (λ d. cond {A = ℕ} (is_full m d) 1 0) c cs in
     let f : cond {A = ℕ} (is_full m c) 1 0 ≡ 0 = ap (λ t. cond {A = ℕ} t 1 0) (v c) in
-    let g : count_by (is_full m) cs ≡ 0 = none_full m cs v in
-    omega (arith, s, f, g)
+    let count_is : count_by (is_full m) cs ≡ 0 = none_full m cs v in
+    omega (arith, s, f, count_is)
 
 pub void_count : (m : Matrix) → IsVoidModel m → count_by (is_full m) (all_of m) ≡ 0
 void_count m v = none_full m (all_of m) v

@@ -44,16 +44,16 @@ void_all_over m h = λ c. h c (omega arith)
 -- ---- how many steps
 
 swept : (r m : ℕ) → 2 ≤ r → 34 + (r - 1) * (8 * m + 8) + 6 + 2 ≤ 8 * r * m + 8 * r + 200
-swept r m some = let e : r ≡ (r - 1) + 1 = omega arith in by (r - 1) r e
+swept r m some = let r_is : r ≡ (r - 1) + 1 = omega arith in by (r - 1) r r_is
   where
     by : (k s : ℕ) → s ≡ k + 1 → 34 + k * (8 * m + 8) + 6 + 2 ≤ 8 * s * m + 8 * s + 200
-    by k s e = let p : s * m ≡ k * m + m = ap (λ n. n * m) e ∙ (let q : (k + 1) * m ≡ k * m + m = omega arith in q) in omega (arith, p)
+    by k s e = let s_is : s * m ≡ k * m + m = ap (λ n. n * m) e ∙ (let same_k : (k + 1) * m ≡ k * m + m = omega arith in same_k) in omega (arith, s_is)
 
 -- no plan is longer than a tape may be
 pub steps_fit : (r : ℕ) → r ≤ 400 → most_void_steps r ≤ 1073741824
 steps_fit r l =
-    let n : tiles_of r ≤ 13 = omega arith in
-    let square : tiles_of r * tiles_of r ≤ 13 * 13 = mul-le-mul n n in
+    let tiles_to_13 : tiles_of r ≤ 13 = omega arith in
+    let square : tiles_of r * tiles_of r ≤ 13 * 13 = mul-le-mul tiles_to_13 tiles_to_13 in
     let cube : r * (tiles_of r * tiles_of r) ≤ 400 * (13 * 13) = mul-le-mul l square in
     omega arith
 

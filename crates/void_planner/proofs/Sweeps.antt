@@ -30,7 +30,7 @@ clears_more a b c p q s k n most h g l = record {
   fewer = λ d v. g.fewer d (h.fewer d v);
   square = subst (λ r. IsRectangle c (far_of r) (far_of r)) h.resolution g.square;
   fissions_are = g.fissions_are ∙ h.fissions_are;
-  steps_are = let x = h.steps_are in let y = g.steps_are in omega arith;
+  steps_are = let x = h.steps_are in let steps_are = g.steps_are in omega arith;
 }
 
 -- the way to another coordinate
@@ -42,14 +42,14 @@ clears_to a b p q s k n most h l m = record {
   fewer = h.fewer;
   square = h.square;
   fissions_are = h.fissions_are;
-  steps_are = let x = h.steps_are in let w = moves_on (spot b.bots) q s in omega arith;
+  steps_are = let steps_are = h.steps_are in let w = moves_on (spot b.bots) q s in omega arith;
 }
 
 -- the four can go on where they have voided
 pub clears_on : (a b : TapeState) (p q : Coord) (k y : ℕ) → CanVoidLayers a y → Clears a b p q k → CanVoidLayers b y
 clears_on a b p q k y c h = record {
   square = subst (λ r. IsRectangle b (far_of r) (far_of r)) (sym h.resolution) h.square;
-  within = let w = c.within in let r = h.resolution in omega arith;
+  within = let within = c.within in let resolution = h.resolution in omega arith;
   above = λ d l. h.fewer d (c.above d l);
 }
 
@@ -76,7 +76,7 @@ tile_cleared a b c x y z far ef g v =
         fewer = λ d w. ap (λ (m : Matrix). is_full m d) em ∙ region_fewer a.matrix (tile (far_of a.matrix.resolution) (coord x y z)) d w;
         square = subst (λ f. IsRectangle c f f) er v.rectangle;
         fissions_are = v.fissions_are ∙ g.fissions_are;
-        steps_are = let p = g.steps in let q = v.steps in omega arith;
+        steps_are = let p = g.steps in let steps = v.steps in omega arith;
       },
       subst (λ (m : Matrix). IsVoidTile m (far_of a.matrix.resolution) x y z) (sym em) (tile_void a.matrix (far_of a.matrix.resolution) x y z),
     )
@@ -97,11 +97,11 @@ next_turned r n false k = next_forth r k
 
 -- each one is taken once
 twice : (n : ℕ) (back : Bool) (j : ℕ) → j < n → turned n back (turned n back j) ≡ j
-twice n true j h = let e : n - 1 - (n - 1 - j) ≡ j = omega arith in e
+twice n true j h = let n_is : n - 1 - (n - 1 - j) ≡ j = omega arith in n_is
 twice n false j h = refl
 
 turned_below : (n : ℕ) (back : Bool) (j : ℕ) → j < n → turned n back j < n
-turned_below n true j h = let e : n - 1 - j < n = omega arith in e
+turned_below n true j h = let below_n : n - 1 - j < n = omega arith in below_n
 turned_below n false j h = h
 
 -- a place is in the tile of its number
@@ -118,7 +118,7 @@ taken_more P Q k f h q i l = by (less_or_not i k)
   where
     by : (i < k) ⊎ (k ≤ i) → Q i
     by (inl m) = f i (h i m)
-    by (inr m) = let e : k ≡ i = omega arith in subst Q e q
+    by (inr m) = let k_is : k ≡ i = omega arith in subst Q k_is q
 
 -- what holds of all that were taken holds of each
 each_taken : (P : ℕ → Type 0) (n : ℕ) (back : Bool) → ((i : ℕ) → i < n → P (turned n back i)) → (j : ℕ) → j < n → P j
@@ -191,7 +191,7 @@ layer_limit a b r turn first now y k limit h p q =
   where
     within : (s b u t w n k m limit : ℕ) → b + u ≤ s + (4 * n + 3) * k → t ≤ u + w → w ≤ 3 → (4 * n + 3) * (k + 1) ≤ m
         → s + m < limit → b + t + 4 * n < limit
-    within s b u t w n k m limit e f g h q = let d : (4 * n + 3) * (k + 1) ≡ (4 * n + 3) * k + (4 * n + 3) = omega arith in omega arith
+    within s b u t w n k m limit e f g h q = let same_n : (4 * n + 3) * (k + 1) ≡ (4 * n + 3) * k + (4 * n + 3) = omega arith in omega arith
 
 -- one strip more, and the way to it
 pub layer_on : (a b c : TapeState) (r : ℕ) (turn first now : Bool) (y k : ℕ)
@@ -248,7 +248,7 @@ nine : (n : ℕ) → 9 * n ≤ 4 * (n * n) + 7
 nine zero = omega arith
 nine (suc zero) = omega arith
 nine (suc (suc zero)) = omega arith
-nine (suc (suc (suc k))) = let h : 3 * suc (suc (suc k)) ≤ suc (suc (suc k)) * suc (suc (suc k)) = mul-le-mul (omega arith) (omega arith) in omega (arith, h)
+nine (suc (suc (suc k))) = let at_most_k : 3 * suc (suc (suc k)) ≤ suc (suc (suc k)) * suc (suc (suc k)) = mul-le-mul (omega arith) (omega arith) in omega (arith, at_most_k)
 
 squares : (n : ℕ) → (4 * n + 3) * n ≡ 4 * (n * n) + 3 * n
 squares n = omega arith
@@ -287,7 +287,7 @@ layers_all a b r y turn back some e p =
     let low = subst (λ v. Clears a b (coord 0 (r - 1) 0) (coord (edge r turn) v (edge r back)) ((r - 1 - v) * fro_steps r)) e p in
     let way : moves_to (coord (edge r turn) 0 (edge r back)) (coord 0 0 0) ≤ 6 * tiles_of r = let u = edge_near r turn in let v = edge_near r back in omega arith in
     clears_to a b (coord 0 (r - 1) 0) (coord (edge r turn) 0 (edge r back)) (coord 0 0 0) ((r - 1 - 0) * fro_steps r) (6 * tiles_of r) ((r - 1) * voiding_steps r) low way
-    (subst (λ v. v * fro_steps r + 6 * tiles_of r ≤ (r - 1) * voiding_steps r) (let e : r - 1 ≡ r - 1 - 0 = omega arith in e) (times (r - 1) (fro_steps r) (6 * tiles_of r) (voiding_steps r) (omega arith) (with_way (tiles_of r))))
+    (subst (λ v. v * fro_steps r + 6 * tiles_of r ≤ (r - 1) * voiding_steps r) (let same_r : r - 1 ≡ r - 1 - 0 = omega arith in same_r) (times (r - 1) (fro_steps r) (6 * tiles_of r) (voiding_steps r) (omega arith) (with_way (tiles_of r))))
 
 -- with the layer below all is void from there on
 pub void_more : (a b : Matrix) (y : ℕ) → 0 < y → AreFewer b a → IsVoidFrom a y → IsVoidBefore b b.resolution (y - 1)

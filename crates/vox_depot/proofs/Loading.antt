@@ -42,11 +42,11 @@ module _ (told : Option Files) (name v : List ℕ) (n : ℕ) (buf : List ℕ) (s
   pub SoFar-next : (taken : ℕ) (w : List ℕ) → taken ≤ n → n ≤ length buf → w ≡ v ++ take taken buf → SoFar told name w
   SoFar-next taken w le fits is = record {
     front = λ files file t c.
-        let p : IsPiece file (length v) n buf = from_told told name _ piece files file t c in
+        let piece : IsPiece file (length v) n buf = from_told told name _ piece files file t c in
         let old : v ≡ take (length v) file = so_far.front files file t c in
         let cut : take taken (take n buf) ≡ take taken buf = take-take taken n buf le in
         let cut_file : take taken (take n (drop (length v) file)) ≡ take taken (drop (length v) file) = take-take taken n _ le in
-        let new : take taken buf ≡ take taken (drop (length v) file) = sym cut ∙ ap (take taken) p.same ∙ cut_file in
+        let new : take taken buf ≡ take taken (drop (length v) file) = sym cut ∙ ap (take taken) piece.same ∙ cut_file in
         let whole : w ≡ take (length v + taken) file = is ∙ ap (λ l. l ++ take taken buf) old ∙ ap (λ l. take (length v) file ++ l) new ∙ take-split (length v) taken file in
         let size : length w ≡ length v + taken = length_joined v w buf taken (omega arith) is in
         whole ∙ ap (λ k. take k file) (sym size);
@@ -61,6 +61,6 @@ module _ (told : Option Files) (name v : List ℕ) (n : ℕ) (buf : List ℕ) (s
   pub SoFar-end : (most : ℕ) → 0 < length buf → n ≡ 0 → length v ≤ most → IfTold told name (λ file. v ≡ take most file)
   SoFar-end most room none le =
       to_told told name _ _ piece (λ files file t c.
-      let p : IsPiece file (length v) n buf = from_told told name _ piece files file t c in
-      let end : length file ≤ length v = p.ends none room in
+      let piece : IsPiece file (length v) n buf = from_told told name _ piece files file t c in
+      let end : length file ≤ length v = piece.ends none room in
       so_far.front files file t c ∙ take_all (length v) file end ∙ sym (take_all most file (omega arith)))

@@ -43,17 +43,17 @@ all_tallied (suc n) a = ap (λ k. 1 + k) (all_tallied n (a + 1)) ∙ omega arith
 
 in_parts : (p : ℕ → Bool) (m n a : ℕ) → tally p (m + n) a ≡ tally p m a + tally p n (a + m)
 unfolding tally
-in_parts p zero n a = let e : 0 + n ≡ n = omega arith in let f : a + 0 ≡ a = omega arith in rw (e, f) (omega arith)
+in_parts p zero n a = let n_is : 0 + n ≡ n = omega arith in let a_is : a + 0 ≡ a = omega arith in rw (n_is, a_is) (omega arith)
 in_parts p (suc m) n a =
-    let e : suc m + n ≡ suc (m + n) = omega arith in
-    let f : a + suc m ≡ a + 1 + m = omega arith in
-    ap (λ k. tally p k a) e ∙ (ap (λ k. cond (p a) 1 0 + k) (in_parts p m n (a + 1)) ∙ (omega arith ∙ ap (λ v. cond (p a) 1 0 + tally p m (a + 1) + tally p n v) (sym f)))
+    let same_m : suc m + n ≡ suc (m + n) = omega arith in
+    let same_a : a + suc m ≡ a + 1 + m = omega arith in
+    ap (λ k. tally p k a) same_m ∙ (ap (λ k. cond (p a) 1 0 + k) (in_parts p m n (a + 1)) ∙ (omega arith ∙ ap (λ v. cond (p a) 1 0 + tally p m (a + 1) + tally p n v) (sym same_a)))
 
 -- numbers moved up by a
 moved : (p : ℕ → Bool) (n a b : ℕ) → tally p n (a + b) ≡ tally (λ k. p (a + k)) n b
 unfolding tally
 moved p zero a b = refl
-moved p (suc n) a b = let e : a + b + 1 ≡ a + (b + 1) = omega arith in ap (λ v. cond (p (a + b)) 1 0 + tally p n v) e ∙ ap (λ k. cond (p (a + b)) 1 0 + k) (moved p n a (b + 1))
+moved p (suc n) a b = let same_a : a + b + 1 ≡ a + (b + 1) = omega arith in ap (λ v. cond (p (a + b)) 1 0 + tally p n v) same_a ∙ ap (λ k. cond (p (a + b)) 1 0 + k) (moved p n a (b + 1))
 
 with_test : (b : Bool) (g : ℕ → Bool) (n a : ℕ) → tally (λ k. b && g k) n a ≡ cond b 1 0 * tally g n a
 with_test true g n a = omega arith
@@ -62,23 +62,23 @@ with_test false g n a = none_tallied n a ∙ omega arith
 -- pairs of numbers, as n digits before m digits, are counted one by one
 pairs : (f g : ℕ → Bool) (m n : ℕ) → tally (λ p. f (p / m) && g (p % m)) (n * m) 0 ≡ tally f n 0 * tally g m 0
 unfolding tally
-pairs f g m zero = let e : 0 * m ≡ 0 = omega arith in rw e (omega arith)
+pairs f g m zero = let m_is : 0 * m ≡ 0 = omega arith in rw m_is (omega arith)
 pairs f g m (suc n) =
     let both : ℕ → Bool = λ p. f (p / m) && g (p % m) in
     let e : suc n * m ≡ n * m + m = omega arith in
     let split : tally both (n * m + m) 0 ≡ tally both (n * m) 0 + tally both m (0 + n * m) = in_parts both (n * m) m 0 in
-    let up : tally both m (0 + n * m) ≡ tally both m (n * m + 0) = (let i : 0 + n * m ≡ n * m + 0 = omega arith in ap (tally both m) i) in
+    let up : tally both m (0 + n * m) ≡ tally both m (n * m + 0) = (let same_n : 0 + n * m ≡ n * m + 0 = omega arith in ap (tally both m) same_n) in
     let at : tally both m (n * m + 0) ≡ tally (λ k. both (n * m + k)) m 0 = moved both m (n * m) 0 in
     let same : tally (λ k. both (n * m + k)) m 0 ≡ tally (λ k. f n && g k) m 0 = same_tally (λ k. both (n * m + k)) (λ k. f n && g k) m 0 (λ k i j. digits k j) in
     let last : tally (λ k. f n && g k) m 0 ≡ cond (f n) 1 0 * tally g m 0 = with_test (f n) g m 0 in
     let first : tally both (n * m) 0 ≡ tally f n 0 * tally g m 0 = pairs f g m n in
     let one : tally f (n + 1) 0 ≡ tally f n 0 + tally f 1 (0 + n) = in_parts f n 1 0 in
-    let here : tally f 1 (0 + n) ≡ cond (f n) 1 0 = (let i : 0 + n ≡ n = omega arith in ap (λ v. cond (f v) 1 0 + 0) i ∙ omega arith) in
-    let whole : tally f (suc n) 0 ≡ tally f n 0 + cond (f n) 1 0 = (let i : suc n ≡ n + 1 = omega arith in ap (λ v. tally f v 0) i) ∙ (one ∙ ap (λ v. tally f n 0 + v) here) in
+    let here : tally f 1 (0 + n) ≡ cond (f n) 1 0 = (let n_is : 0 + n ≡ n = omega arith in ap (λ v. cond (f v) 1 0 + 0) n_is ∙ omega arith) in
+    let whole : tally f (suc n) 0 ≡ tally f n 0 + cond (f n) 1 0 = (let same_n : suc n ≡ n + 1 = omega arith in ap (λ v. tally f v 0) same_n) ∙ (one ∙ ap (λ v. tally f n 0 + v) here) in
     ap (λ v. tally both v 0) e ∙ (split ∙ (ap (λ v. v + tally both m (0 + n * m)) first ∙ (ap (λ v. tally f n 0 * tally g m 0 + v) (up ∙ (at ∙ (same ∙ last))) ∙ (omega arith ∙ ap (λ v. v * tally g m 0) (sym whole)))))
   where
     digits : (k : ℕ) → k < 0 + m → (f ((n * m + k) / m) && g ((n * m + k) % m)) ≡ (f n && g k)
-    digits k j = let l : k < m = omega arith in ap (λ v. f v && g ((n * m + k) % m)) (digits_div n l) ∙ ap (λ v. f n && g v) (digits_mod n l)
+    digits k j = let below_m : k < m = omega arith in ap (λ v. f v && g ((n * m + k) % m)) (digits_div n below_m) ∙ ap (λ v. f n && g v) (digits_mod n below_m)
 
 -- ---- a region's coordinates
 
@@ -98,13 +98,13 @@ between_tallied low high r h k =
     let test : ℕ → Bool = λ v. is_between (pos low) (pos high) (pos v) in
     let n = high - low + 1 in
     let m = r - (high + 1) in
-    let e : r ≡ low + (n + m) = omega arith in
+    let r_is : r ≡ low + (n + m) = omega arith in
     let front : tally test low 0 ≡ 0 = same_tally test (λ _. false) low 0 (λ v i j. below low high v h (omega arith)) ∙ none_tallied low 0 in
     let middle : tally test n (0 + low) ≡ n = same_tally test (λ _. true) n (0 + low) (λ v i j. between_ends low high v (omega arith) (omega arith)) ∙ all_tallied n (0 + low) in
     let back : tally test m (0 + low + n) ≡ 0 = same_tally test (λ _. false) m (0 + low + n) (λ v i j. above low high v h (omega arith)) ∙ none_tallied m (0 + low + n) in
     let outer : tally test (low + (n + m)) 0 ≡ tally test low 0 + tally test (n + m) (0 + low) = in_parts test low (n + m) 0 in
     let inner : tally test (n + m) (0 + low) ≡ tally test n (0 + low) + tally test m (0 + low + n) = in_parts test n m (0 + low) in
-    ap (λ v. tally test v 0) e ∙ (outer ∙ (omega arith ∙ sym (extent_is low high h)))
+    ap (λ v. tally test v 0) r_is ∙ (outer ∙ (omega arith ∙ sym (extent_is low high h)))
 
 -- the coordinates of the matrix in a region are counted axis by axis
 axis_by_axis : (r : ℕ) (s : Span) → count_by (λ c. is_within s (point c)) (coordinates r)
@@ -169,7 +169,7 @@ at_most_extent (pos a) (pos b) r = by (cases_lt a b)
     by (inr h) =
         let e : tally (λ v. is_between (pos a) (pos b) (pos v)) r 0 ≡ tally (λ v. is_between (pos b) (pos a) (pos v)) r 0 = same_tally (λ v. is_between (pos a) (pos b) (pos v)) (λ v. is_between (pos b) (pos a) (pos v)) r 0 (λ v i j. swapped (pos a) (pos b) (pos v)) in
         let l = up_to b a r h in
-        let f : extent (pos a) (pos b) ≡ extent (pos b) (pos a) = extent_swapped b a h in
+        let same_extent : extent (pos a) (pos b) ≡ extent (pos b) (pos a) = extent_swapped b a h in
         omega arith
 at_most_extent (pos a) (negsuc b) r =
     let e : tally (λ v. is_between (pos a) (negsuc b) (pos v)) r 0 ≡ tally (λ v. is_between (pos 0) (pos a) (pos v)) r 0 = same_tally (λ v. is_between (pos a) (negsuc b) (pos v)) (λ v. is_between (pos 0) (pos a) (pos v)) r 0 (λ v i j. from_nothing a b v) in
@@ -182,7 +182,7 @@ at_most_extent (negsuc a) (pos b) r =
     let f = longer' a b in
     omega arith
 at_most_extent (negsuc a) (negsuc b) r =
-    let e : tally (λ v. is_between (negsuc a) (negsuc b) (pos v)) r 0 ≡ 0 = same_tally (λ v. is_between (negsuc a) (negsuc b) (pos v)) (λ _. false) r 0 (λ v i j. refl) ∙ none_tallied r 0 in
+    let tally_is : tally (λ v. is_between (negsuc a) (negsuc b) (pos v)) r 0 ≡ 0 = same_tally (λ v. is_between (negsuc a) (negsuc b) (pos v)) (λ _. false) r 0 (λ v i j. refl) ∙ none_tallied r 0 in
     omega arith
 
 -- a region has at most as many coordinates of the matrix as its size says, also where it leaves the matrix

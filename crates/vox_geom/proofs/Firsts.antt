@@ -38,10 +38,10 @@ in_order d c x y z = grind (arith, nat_tests)
 
 pub before : (r : ℕ) (d c : Coord) → IsInSpace r d → IsInSpace r c → place r d < place r c → IsTrue (is_before d c)
 before r d c h k lt =
-    let x : d.x ≤ c.x = lead d.x c.x (r * r) (d.y * r + d.z) (c.y * r + c.z) (digits_lt k.y k.z) (omega arith) in
+    let at_most_x : d.x ≤ c.x = lead d.x c.x (r * r) (d.y * r + d.z) (c.y * r + c.z) (digits_lt k.y k.z) (omega arith) in
     let y : d.x ≡ c.x → d.y ≤ c.y = λ e. lead d.y c.y r d.z c.z k.z (omega (arith, ap (λ v. v * r * r) e)) in
     let z : d.x ≡ c.x → d.y ≡ c.y → d.z < c.z = λ e f. omega (arith, ap (λ v. v * r * r) e, ap (λ v. v * r) f) in
-    in_order d c x y z
+    in_order d c at_most_x y z
 
 pub before-trans : (a b c : Coord) → IsTrue (is_before a b) → IsTrue (is_before b c) → IsTrue (is_before a c)
 before-trans a b c h k = grind (arith, nat_tests)
@@ -124,8 +124,8 @@ by_order d c m n x y z h = grind (arith, nat_tests)
 pub rises : (r : ℕ) (d c : Coord) → IsInSpace r d → IsInSpace r c → IsTrue (is_before d c) → place r d < place r c
 rises r d c h k lt =
     by_order d c (place r d) (place r c)
-    (λ e. let f : d.x * (r * r) + (d.y * r + d.z) < c.x * (r * r) = digits_lt e (digits_lt h.y h.z) in omega arith)
-    (λ e l. let f : d.y * r + d.z < c.y * r = digits_lt l h.z in omega (arith, ap (λ v. v * r * r) e))
+    (λ e. let below_x : d.x * (r * r) + (d.y * r + d.z) < c.x * (r * r) = digits_lt e (digits_lt h.y h.z) in omega arith)
+    (λ e l. let below_y : d.y * r + d.z < c.y * r = digits_lt l h.z in omega (arith, ap (λ v. v * r * r) e))
     (λ e f l. omega (arith, ap (λ v. v * r * r) e, ap (λ v. v * r) f))
     lt
 
@@ -133,7 +133,7 @@ pub first_of : (r : ℕ) (test : Coord → Bool) → LeastOf r test (find test (
 first_of r test = by (find test (coordinates r)) (hit_of test (coordinate_at r) (r * r * r) 0)
   where
     by : (o : Option Coord) → HitOf test (coordinate_at r) 0 (r * r * r) o → LeastOf r test o
-    by None h = λ d i. subst (λ (e : Coord). IsFalse (test e)) (coordinate_at-place r d i) (let b : place r d < r * r * r = place_below r d i in h (place r d) (omega arith) (omega arith))
+    by None h = λ d i. subst (λ (e : Coord). IsFalse (test e)) (coordinate_at-place r d i) (let below_r : place r d < r * r * r = place_below r d i in h (place r d) (omega arith) (omega arith))
     by (Some c) h =
         let within : IsInSpace r c = subst (λ (e : Coord). IsInSpace r e) (sym h.is) (at_in_space r h.at (omega (arith, h.below))) in
         record {

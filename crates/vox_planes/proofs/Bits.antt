@@ -59,7 +59,7 @@ set_others ws i v b h e j n = by (ℕ_discrete (j / 64) (i / 64))
 
 -- a row of a layer ends before the layer does
 pub in_layer : (r : ℕ) (c : Coord) → IsInSpace r c → c.x * r + c.z < layer_words r * 64
-in_layer r c h = let l : c.x * r + c.z < r * r = digits_lt h.x h.z in omega arith
+in_layer r c h = let below_r : c.x * r + c.z < r * r = digits_lt h.x h.z in omega arith
 
 -- two coordinates with one bit are one
 pub one_bit : (r : ℕ) (c d : Coord) → IsInSpace r c → IsInSpace r d → bit_index r c ≡ bit_index r d → c ≡ d

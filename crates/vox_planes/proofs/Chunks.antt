@@ -26,7 +26,7 @@ low_bit n count i l =
     sym (bit_at_cat_low (n / 2 ^ count) count (n % 2 ^ count) i l) ∙ ap (λ v. bit_at v i) split
 
 raised_bit : (n s j : ℕ) → s ≤ j → bit_at (n * 2 ^ s) j ≡ bit_at n (j - s)
-raised_bit n s j l = ap (λ v. bit_at v j) (let e : n * 2 ^ s ≡ n * 2 ^ s + 0 = omega arith in e) ∙ bit_at_cat_high n s 0 j (pow_pos s) l
+raised_bit n s j l = ap (λ v. bit_at v j) (let same_n : n * 2 ^ s ≡ n * 2 ^ s + 0 = omega arith in same_n) ∙ bit_at_cat_high n s 0 j (pow_pos s) l
 
 -- ---- reading
 
@@ -37,21 +37,21 @@ in_one_word : (ws : List ℕ) (index count k : ℕ) → k < count → index % 64
 unfolding is_set
 in_one_word ws index count k l h =
     let d : (index + k) / 64 ≡ index / 64 = omega arith in
-    let m : (index + k) % 64 ≡ index % 64 + k = omega arith in
-    λ t. bit (get_or ws (d t) 0) (m t)
+    let same_index : (index + k) % 64 ≡ index % 64 + k = omega arith in
+    λ t. bit (get_or ws (d t) 0) (same_index t)
 
 pub chunk_is : (ws : List ℕ) (index count k w v m : ℕ) → k < count → index % 64 + count ≤ 64
     → w ≡ get_or ws (index / 64) 0 → m ≡ 2 ^ (0 + count) - 2 ^ 0 → v ≡ bit_and (w / 2 ^ (index % 64)) m
     → bit v k ≡ is_set ws (index + k)
 chunk_is ws index count k w v m l h ew em ev =
-    let all : 2 ^ (0 + count) - 2 ^ 0 ≡ 2 ^ count - 1 = ap (λ n. 2 ^ n - 1) (let z : 0 + count ≡ count = omega arith in z) in
+    let all : 2 ^ (0 + count) - 2 ^ 0 ≡ 2 ^ count - 1 = ap (λ n. 2 ^ n - 1) (let count_is : 0 + count ≡ count = omega arith in count_is) in
     ap (λ n. bit n k) (ev ∙ (ap (bit_and (w / 2 ^ (index % 64))) (em ∙ all) ∙ and_mask (w / 2 ^ (index % 64)) count))
     ∙ (chunk_bit w (index % 64) count k l
     ∙ (ap (λ n. bit n (index % 64 + k)) ew ∙ sym (in_one_word ws index count k l h)))
 
 pub chunk_below : (w s count v m : ℕ) → m ≡ 2 ^ (0 + count) - 2 ^ 0 → v ≡ bit_and (w / 2 ^ s) m → v < 2 ^ count
 chunk_below w s count v m em ev =
-    let all : 2 ^ (0 + count) - 2 ^ 0 ≡ 2 ^ count - 1 = ap (λ n. 2 ^ n - 1) (let z : 0 + count ≡ count = omega arith in z) in
+    let all : 2 ^ (0 + count) - 2 ^ 0 ≡ 2 ^ count - 1 = ap (λ n. 2 ^ n - 1) (let count_is : 0 + count ≡ count = omega arith in count_is) in
     let is : v ≡ (w / 2 ^ s) % 2 ^ count = ev ∙ (ap (bit_and (w / 2 ^ s)) (em ∙ all) ∙ and_mask (w / 2 ^ s) count) in
     subst (λ (n : ℕ). n < 2 ^ count) (sym is) (mod_below (w / 2 ^ s) (2 ^ count) (pow_pos count))
 
@@ -147,7 +147,7 @@ put_bits ws index count bits v within h ev = record {
 
 less_one : (x y : ℕ) → 0 < x → (x - 1) * y ≡ x * y - y
 less_one zero y l = absurd (omega arith)
-less_one (suc x) y l = let e : suc x - 1 ≡ x = omega arith in ap (λ v. v * y) e ∙ omega arith
+less_one (suc x) y l = let x_is : suc x - 1 ≡ x = omega arith in ap (λ v. v * y) x_is ∙ omega arith
 
 pub mask_is : (first count : ℕ) → 1 ≤ count → first + count ≤ 64
     → (2 ^ 64 - 1) / 2 ^ (64 - count) * 2 ^ first % 2 ^ 64 ≡ 2 ^ (first + count) - 2 ^ first

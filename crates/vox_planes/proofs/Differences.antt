@@ -45,9 +45,9 @@ pub record AreAlike (ws us : List ℕ) (first n : ℕ) : Type 0 where
 in_word : (ws : List ℕ) (first i k : ℕ) → k < 64 → is_set ws (first * 64 + (64 * i + k)) ≡ bit (get_or ws (first + i) 0) k
 unfolding is_set
 in_word ws first i k l =
-    let d : (first * 64 + (64 * i + k)) / 64 ≡ first + i = omega arith in
+    let same_first : (first * 64 + (64 * i + k)) / 64 ≡ first + i = omega arith in
     let m : (first * 64 + (64 * i + k)) % 64 ≡ k = omega arith in
-    λ t. bit (get_or ws (d t) 0) (m t)
+    λ t. bit (get_or ws (same_first t) 0) (m t)
 
 -- up to the bit k of the next word, where its bits below k are the same
 alike_to : (ws us : List ℕ) (first i k w u : ℕ) → k ≤ 64 → w ≡ get_or ws (first + i) 0 → u ≡ get_or us (first + i) 0
@@ -59,14 +59,14 @@ alike_to ws us first i k w u l ew eu a none = record { same = λ j m. by j m (ca
     by j m (inl h) = a.same j h
     by j m (inr h) =
         let n : ℕ = j - 64 * i in
-        let e : j ≡ 64 * i + n = omega arith in
-        ap (λ v. is_set ws (first * 64 + v)) e
+        let j_is : j ≡ 64 * i + n = omega arith in
+        ap (λ v. is_set ws (first * 64 + v)) j_is
         ∙ (in_word ws first i n (omega arith)
         ∙ (ap (λ v. bit v n) (sym ew)
         ∙ (bits_same w u n (none n (omega arith))
         ∙ (ap (λ v. bit v n) eu
         ∙ (sym (in_word us first i n (omega arith))
-        ∙ ap (λ v. is_set us (first * 64 + v)) (sym e))))))
+        ∙ ap (λ v. is_set us (first * 64 + v)) (sym j_is))))))
 
 pub alike_more : (ws us : List ℕ) (first i w u : ℕ) → w ≡ get_or ws (first + i) 0 → u ≡ get_or us (first + i) 0
     → bit_xor w u ≡ 0 → AreAlike ws us first (64 * i) → AreAlike ws us first (64 * (i + 1))
@@ -124,8 +124,8 @@ at_bit r ws us y n d a h t = (parts.1, by (cases_lt (d.x * r + d.z) n))
     by : ((d.x * r + d.z < n) ⊎ (n ≤ d.x * r + d.z)) → n ≤ d.x * r + d.z
     by (inr l) = l
     by (inl l) =
-        let e : bit_index r d ≡ y * layer_words r * 64 + (d.x * r + d.z) = ap (λ v. v * layer_words r * 64 + (d.x * r + d.z)) parts.1 in
-        let same : is_set ws (bit_index r d) ≡ is_set us (bit_index r d) = ap (is_set ws) e ∙ (a.same (d.x * r + d.z) l ∙ sym (ap (is_set us) e)) in
+        let bit_index_is : bit_index r d ≡ y * layer_words r * 64 + (d.x * r + d.z) = ap (λ v. v * layer_words r * 64 + (d.x * r + d.z)) parts.1 in
+        let same : is_set ws (bit_index r d) ≡ is_set us (bit_index r d) = ap (is_set ws) bit_index_is ∙ (a.same (d.x * r + d.z) l ∙ sym (ap (is_set us) bit_index_is)) in
         let no = differ-bits r ws us d h ∙ differ-same (is_set ws (bit_index r d)) (is_set us (bit_index r d)) same in
         let yes = parts.0 in
         cc
@@ -149,8 +149,8 @@ before-bits d r x y z ld lz e t = by (row d x y z e t)
     by (inl l) = digits_lt' l
       where
         digits_lt' : d.x < x → d.x * r + d.z < x * r + z
-        digits_lt' l = let f : d.x * r + d.z < x * r = digits_lt l ld in omega arith
-    by (inr p) = let f : d.x * r ≡ x * r = ap (λ v. v * r) p.0 in omega (arith, p.1)
+        digits_lt' l = let below_x : d.x * r + d.z < x * r = digits_lt l ld in omega arith
+    by (inr p) = let same_x : d.x * r ≡ x * r = ap (λ v. v * r) p.0 in omega (arith, p.1)
 
 pub layer_differs : (r : ℕ) (ws us : List ℕ) (y at : ℕ) → IsLayered r ws → IsLayered r us → y < r
     → at < 64 * layer_words r → IsFirst ws us (y * layer_words r) at → (at < r * r)
@@ -179,8 +179,8 @@ layer_differs r ws us y at hw hu ly la f = (used, record { within = within; pass
     passes : IsTrue (in_layer_differ (layered r ws) (layered r us) y (record { x = at / r; y = y; z = at % r }))
     passes =
         let d : Coord = record { x = at / r; y = y; z = at % r } in
-        let e : bit_index r d ≡ y * layer_words r * 64 + at = ap (λ v. y * layer_words r * 64 + v) back in
-        let differ : differ_at (layered r ws) (layered r us) d ≡ true = differ-bits r ws us d within ∙ differ-other (is_set ws (bit_index r d)) (is_set us (bit_index r d)) (λ s. f.differs (sym (ap (is_set ws) e) ∙ (s ∙ ap (is_set us) e))) in
+        let bit_index_is : bit_index r d ≡ y * layer_words r * 64 + at = ap (λ v. y * layer_words r * 64 + v) back in
+        let differ : differ_at (layered r ws) (layered r us) d ≡ true = differ-bits r ws us d within ∙ differ-other (is_set ws (bit_index r d)) (is_set us (bit_index r d)) (λ s. f.differs (sym (ap (is_set ws) bit_index_is) ∙ (s ∙ ap (is_set us) bit_index_is))) in
         rw differ same_layer
       where
         same_layer : (y == y) ≡ true
@@ -295,14 +295,14 @@ pub read_by : (r s : ℕ) (ws us : List ℕ) (y i first from count w u : ℕ) �
     → u ≡ get_or us (first + i) u → AreAlike ws us first (64 * i) → IsRead r ws us y i first count w u
 read_by r s ws us y i first from count w u hw hu e ly li ec ef e1 ew eu a =
     let here : first ≡ y * layer_words r = e1 ∙ (λ t. ef t * ec t) in
-    let k : i < layer_words r = omega arith in
+    let below_layer_words : i < layer_words r = omega arith in
     let hu' : IsLayered r us = subst (λ (n : ℕ). IsLayered n us) (sym e) hu in
-    let within : y * layer_words r + i < layer_words r * r = mul-add-lt y (layer_words r) i r ly k in
+    let within : y * layer_words r + i < layer_words r * r = mul-add-lt y (layer_words r) i r ly below_layer_words in
     record {
       left = hw;
       right = hu';
       layer = ly;
-      index = k;
+      index = below_layer_words;
       first_is = here;
       word = get_or_read ws (first + i) w (omega (arith, hw.whole)) ew 0;
       other = get_or_read us (first + i) u (omega (arith, hu'.whole)) eu 0;
@@ -317,12 +317,12 @@ pub read_differs : (r s : ℕ) (ws us : List ℕ) (m n : Matrix) (y i first coun
 read_differs r s ws us m n y i first count w u side h e em en es nz l =
     let k : ℕ = trailing_zeros w64 (bit_xor w u) in
     let found = first_differs ws us first i w u h.word h.other (omega arith) l h.alike in
-    let near : 64 * i + k < 64 * layer_words r = (let a = found.0 in let b = h.index in omega arith) in
+    let near : 64 * i + k < 64 * layer_words r = (let a = found.0 in let index = h.index in omega arith) in
     let here = layer_differs r ws us y (64 * i + k) h.left h.right h.layer near (subst (λ (f : ℕ). IsFirst ws us f (64 * i + k)) h.first_is found.1) in
     let turn : 64 * i + k ≡ i * 64 + k = omega arith in
     let other : layered r us ≡ n = ap (λ v. layered v us) e ∙ en in
-    let x : (i * 64 + k) / side < r = (let q : (64 * i + k) / r < r = (div-lt_iff_lt-mul (omega (arith, (h.left).some))).1 here.0 in subst (λ (v : ℕ). v / side < r) turn (subst (λ (v : ℕ). (64 * i + k) / v < r) (sym es) q)) in (
-      x,
+    let below_r : (i * 64 + k) / side < r = (let below_r : (64 * i + k) / r < r = (div-lt_iff_lt-mul (omega (arith, (h.left).some))).1 here.0 in subst (λ (v : ℕ). v / side < r) turn (subst (λ (v : ℕ). (64 * i + k) / v < r) (sym es) below_r)) in (
+      below_r,
       subst (λ (v : ℕ). LeastOf v (in_layer_differ m n y) (Some (record { x = (i * 64 + k) / side; y = y; z = (i * 64 + k) % side }))) (ap (λ (v : Matrix). v.resolution) em)
           (subst (λ (v : ℕ). LeastOf r (in_layer_differ m n y) (Some (record { x = v / side; y = y; z = v % side }))) turn
           (subst (λ (v : ℕ). LeastOf r (in_layer_differ m n y) (Some (record { x = (64 * i + k) / v; y = y; z = (64 * i + k) % v }))) (sym es)

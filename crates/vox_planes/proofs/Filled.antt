@@ -65,14 +65,14 @@ filled_more old mid new index done count full a b h p = record {
   where
     unmoved : (k : ℕ) → is_set mid (index + done + k) ≡ is_set old (index + (done + k))
     unmoved k =
-        let e : index + done + k ≡ index + (done + k) = omega arith in
-        h.others (index + done + k) (after_these index done (index + done + k) (omega arith)) ∙ ap (is_set old) e
+        let same_index : index + done + k ≡ index + (done + k) = omega arith in
+        h.others (index + done + k) (after_these index done (index + done + k) (omega arith)) ∙ ap (is_set old) same_index
 
     by : (k : ℕ) → k < done + count → ((k < done) ⊎ (done ≤ k)) → is_set new (index + k) ≡ full
     by k l (inl m) = p.others (index + k) (before_these (index + done) count (index + k) (omega arith)) ∙ h.here k m
     by k l (inr m) =
-        let e : index + k ≡ index + done + (k - done) = omega arith in
-        ap (is_set new) e ∙ p.here (k - done) (omega arith)
+        let same_index : index + k ≡ index + done + (k - done) = omega arith in
+        ap (is_set new) same_index ∙ p.here (k - done) (omega arith)
 
     other : (j : ℕ) → ((j < index) ⊎ (index + (done + count) ≤ j)) → is_set new j ≡ is_set old j
     other j (inl l) = p.others j (before_these (index + done) count j (omega arith)) ∙ h.others j (before_these index done j l)

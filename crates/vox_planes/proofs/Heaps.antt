@@ -53,8 +53,8 @@ pub word_bit : (ws : List ℕ) (i k : ℕ) → k < 64 → is_set ws (i * 64 + k)
 unfolding is_set
 word_bit ws i k l =
     let d : (i * 64 + k) / 64 ≡ i = omega arith in
-    let m : (i * 64 + k) % 64 ≡ k = omega arith in
-    λ t. bit (get_or ws (d t) 0) (m t)
+    let i_is : (i * 64 + k) % 64 ≡ k = omega arith in
+    λ t. bit (get_or ws (d t) 0) (i_is t)
 
 -- a word above the lowest layer, and the word under it
 pub record AreStacked (ws : List ℕ) (layer i w u : ℕ) : Type 0 where
@@ -104,11 +104,11 @@ is_heap-held r ws layer end size all a = λ c h. by c h (cases_lt 0 c.y)
     by c h (inr l) = inl (omega arith)
     by c h (inl l) =
         let within : IsInSpace r c = space_by_test r c (first_of_two (in_space r (point c)) _ h) in
-        let below : IsInSpace r (under c) = record { x = within.x; y = (let y = within.y in omega arith); z = within.z } in
+        let below : IsInSpace r (under c) = record { x = within.x; y = (let within_y = within.y in omega arith); z = within.z } in
         let here : is_set ws (bit_index r c) ≡ true = sym (is_full-layered r ws c within) ∙ h in
         let row = in_layer r c within in
         let down : c.y * layer_words r ≡ (c.y - 1) * layer_words r + layer_words r = one_down c.y (layer_words r) l in
-        let most : (c.y + 1) * layer_words r ≤ r * layer_words r = mul-le-mul_right (layer_words r) (let y = within.y in omega arith) in
+        let most : (c.y + 1) * layer_words r ≤ r * layer_words r = mul-le-mul_right (layer_words r) (let within_y = within.y in omega arith) in
         let place : bit_index r c - layer * 64 ≡ bit_index r (under c) = omega (arith, bit_under r c l) in
         inr (is_full-layered r ws (under c) below ∙ (ap (is_set ws) (sym place) ∙ a.held (bit_index r c) (omega arith) (omega arith) here))
 
@@ -162,7 +162,7 @@ module _ (r : ℕ) (ws : List ℕ) (h : IsLayered r ws) (heap : IsHeap (layered 
   none_lost layer i w u size high s some =
       let lost = lost_bit w u s.fits s.lower_fits some in
       let k : ℕ = lost.0 in
-      let l : k < 64 = lost.1 in
+      let k_below_64 : k < 64 = lost.1 in
       let n : ℕ = layer_words r in
       let above : layer ≤ i = s.above in
       let back : i / n * n + i % n ≡ i = div-add-mod' i n in
@@ -171,7 +171,7 @@ module _ (r : ℕ) (ws : List ℕ) (h : IsLayered r ws) (heap : IsHeap (layered 
       let low : 0 < i / n = not_first (i / n) n (i % n) i back end (omega arith) in
       let place : i / n * n * 64 + (i % n * 64 + k) ≡ i * 64 + k = omega arith in
       let there : i * 64 + k - n * 64 ≡ (i - layer) * 64 + k = omega arith in
-      let one : is_set ws (i * 64 + k) ≡ true = word_bit ws i k l ∙ (ap (λ v. bit v k) (sym s.upper) ∙ lost.2) in
+      let one : is_set ws (i * 64 + k) ≡ true = word_bit ws i k k_below_64 ∙ (ap (λ v. bit v k) (sym s.upper) ∙ lost.2) in
       let held = held_in_heap (i / n) (i % n * 64 + k) (i * 64 + k) low ((div-lt_iff_lt-mul positive).1 high) (omega arith) place one in
-      let none : is_set ws (i * 64 + k - n * 64) ≡ false = ap (is_set ws) there ∙ (word_bit ws (i - layer) k l ∙ (ap (λ v. bit v k) (sym s.lower) ∙ lost.3)) in
+      let none : is_set ws (i * 64 + k - n * 64) ≡ false = ap (is_set ws) there ∙ (word_bit ws (i - layer) k k_below_64 ∙ (ap (λ v. bit v k) (sym s.lower) ∙ lost.3)) in
       cc

@@ -44,10 +44,10 @@ not_before : (test : Coord → Bool) (at : ℕ → Coord) (walk : ℕ → Option
     → (n : ℕ) → n ≤ count → ((k : ℕ) → k < n → test (at k) ≡ false) → walk 0 ≡ walk n
 not_before test at walk count w zero l free = refl
 not_before test at walk count w (suc n) l free =
-    let e : n + 1 ≡ suc n = omega arith in
+    let same_n : n + 1 ≡ suc n = omega arith in
     not_before test at walk count w n (omega arith) (λ k m. free k (omega arith))
     ∙ (w.next n (omega arith)
-    ∙ (ap (λ b. cond b (Some (at n)) (walk (n + 1))) (free n (omega arith)) ∙ ap walk e))
+    ∙ (ap (λ b. cond b (Some (at n)) (walk (n + 1))) (free n (omega arith)) ∙ ap walk same_n))
 
 first_of : (test : Coord → Bool) (at : ℕ → Coord) (walk : ℕ → Option Coord) (count : ℕ) → IsLine test at walk count
     → (n : ℕ) → n < count → ((k : ℕ) → k < n → test (at k) ≡ false) → test (at n) ≡ true → walk 0 ≡ Some (at n)
@@ -97,15 +97,15 @@ module _ (r : ℕ) (k : Corners) (test : Coord → Bool) (o : IsOrdered k) (s : 
       (k.high.x + 1 - k.low.x)
   is_line_x y z = record {
     next = λ n l.
-        let e : k.low.x + n + 1 ≡ k.low.x + (n + 1) = omega arith in
+        let same_x : k.low.x + n + 1 ≡ k.low.x + (n + 1) = omega arith in
         one_more z (k.low.x + n) k.low.y (omega arith) (omega arith) (omega arith) (omega (arith, o.y))
         ∙ ap (λ f. cond (test (along_x k n)) (Some (along_x k n)) f)
         (ap (λ v. find (passes_in k test) (coordinates_from r (place r (row_start k (k.low.x + n) (v + 1))))) y
         ∙ (find-next_wall r k test o s (k.low.x + n)
-        ∙ ap (λ v. find (passes_in k test) (coordinates_from r (place r (row_start k v k.low.y)))) e));
+        ∙ ap (λ v. find (passes_in k test) (coordinates_from r (place r (row_start k v k.low.y)))) same_x));
     ended =
-        let e : k.low.x + (k.high.x + 1 - k.low.x) ≡ k.high.x + 1 = omega (arith, o.x) in
-        ap (λ v. find (passes_in k test) (coordinates_from r (place r (row_start k v k.low.y)))) e ∙ find-end r k test o s;
+        let same_x : k.low.x + (k.high.x + 1 - k.low.x) ≡ k.high.x + 1 = omega (arith, o.x) in
+        ap (λ v. find (passes_in k test) (coordinates_from r (place r (row_start k v k.low.y)))) same_x ∙ find-end r k test o s;
   }
 
   is_line_y : k.low.x ≡ k.high.x → k.low.z ≡ k.high.z → IsLine test (along_y k)
@@ -113,13 +113,13 @@ module _ (r : ℕ) (k : Corners) (test : Coord → Bool) (o : IsOrdered k) (s : 
       (k.high.y + 1 - k.low.y)
   is_line_y x z = record {
     next = λ n l.
-        let e : k.low.y + n + 1 ≡ k.low.y + (n + 1) = omega arith in
+        let same_y : k.low.y + n + 1 ≡ k.low.y + (n + 1) = omega arith in
         one_more z k.low.x (k.low.y + n) (omega arith) (omega (arith, o.x)) (omega arith) (omega arith)
         ∙ ap (λ f. cond (test (along_y k n)) (Some (along_y k n)) f)
-        (ap (λ v. find (passes_in k test) (coordinates_from r (place r (row_start k k.low.x v)))) e);
+        (ap (λ v. find (passes_in k test) (coordinates_from r (place r (row_start k k.low.x v)))) same_y);
     ended =
-        let e : k.low.y + (k.high.y + 1 - k.low.y) ≡ k.high.y + 1 = omega (arith, o.y) in
-        ap (λ v. find (passes_in k test) (coordinates_from r (place r (row_start k k.low.x v)))) e
+        let same_y : k.low.y + (k.high.y + 1 - k.low.y) ≡ k.high.y + 1 = omega (arith, o.y) in
+        ap (λ v. find (passes_in k test) (coordinates_from r (place r (row_start k k.low.x v)))) same_y
         ∙ (find-next_wall r k test o s k.low.x
         ∙ (ap (λ v. find (passes_in k test) (coordinates_from r (place r (row_start k (v + 1) k.low.y)))) x ∙ find-end r k test o s));
   }
@@ -127,14 +127,14 @@ module _ (r : ℕ) (k : Corners) (test : Coord → Bool) (o : IsOrdered k) (s : 
   start_x : find (passes_in k test) (coordinates r)
       ≡ find (passes_in k test) (coordinates_from r (place r (row_start k (k.low.x + 0) k.low.y)))
   start_x =
-      let e : k.low.x ≡ k.low.x + 0 = omega arith in
-      find-start r k test o s ∙ ap (λ v. find (passes_in k test) (coordinates_from r (place r (row_start k v k.low.y)))) e
+      let x_is : k.low.x ≡ k.low.x + 0 = omega arith in
+      find-start r k test o s ∙ ap (λ v. find (passes_in k test) (coordinates_from r (place r (row_start k v k.low.y)))) x_is
 
   start_y : find (passes_in k test) (coordinates r)
       ≡ find (passes_in k test) (coordinates_from r (place r (row_start k k.low.x (k.low.y + 0))))
   start_y =
-      let e : k.low.y ≡ k.low.y + 0 = omega arith in
-      find-start r k test o s ∙ ap (λ v. find (passes_in k test) (coordinates_from r (place r (row_start k k.low.x v)))) e
+      let y_is : k.low.y ≡ k.low.y + 0 = omega arith in
+      find-start r k test o s ∙ ap (λ v. find (passes_in k test) (coordinates_from r (place r (row_start k k.low.x v)))) y_is
 
   -- a region that is a row
   pub row_alone : k.low.x ≡ k.high.x → k.low.y ≡ k.high.y
@@ -183,27 +183,27 @@ module _ (r : ℕ) (ws : List ℕ) (m : Matrix) (k : Corners) (e : layered r ws 
       → first ≡ bit_index r k.low → apart ≡ r → length ws ≡ r * layer_words r → (n : ℕ) → n < k.high.x + 1 - k.low.x
       → (first + n * apart) / 64 < length words
   within_x y z words first apart ew ef ea el n l =
-      let i : bit_index r (along_x k n) ≡ bit_index r k.low + n * r = omega arith in
-      subst (λ (v : ℕ). v / 64 < length words) (i ∙ (λ j. sym ef j + n * sym ea j)) (subst (λ (v : ℕ). bit_index r (along_x k n) / 64 < v) (sym (ap length ew ∙ el)) (index_within (along_x k n) (in_x y z n l)))
+      let same_bit_index : bit_index r (along_x k n) ≡ bit_index r k.low + n * r = omega arith in
+      subst (λ (v : ℕ). v / 64 < length words) (same_bit_index ∙ (λ j. sym ef j + n * sym ea j)) (subst (λ (v : ℕ). bit_index r (along_x k n) / 64 < v) (sym (ap length ew ∙ el)) (index_within (along_x k n) (in_x y z n l)))
 
   pub within_y : k.low.x ≡ k.high.x → k.low.z ≡ k.high.z → (words : List ℕ) (first apart : ℕ) → words ≡ ws
       → first ≡ bit_index r k.low → apart ≡ layer_words r * 64 → length ws ≡ r * layer_words r → (n : ℕ)
       → n < k.high.y + 1 - k.low.y → (first + n * apart) / 64 < length words
   within_y x z words first apart ew ef ea el n l =
-      let i : bit_index r (along_y k n) ≡ bit_index r k.low + n * (layer_words r * 64) = omega arith in
-      subst (λ (v : ℕ). v / 64 < length words) (i ∙ (λ j. sym ef j + n * sym ea j)) (subst (λ (v : ℕ). bit_index r (along_y k n) / 64 < v) (sym (ap length ew ∙ el)) (index_within (along_y k n) (in_y x z n l)))
+      let same_bit_index : bit_index r (along_y k n) ≡ bit_index r k.low + n * (layer_words r * 64) = omega arith in
+      subst (λ (v : ℕ). v / 64 < length words) (same_bit_index ∙ (λ j. sym ef j + n * sym ea j)) (subst (λ (v : ℕ). bit_index r (along_y k n) / 64 < v) (sym (ap length ew ∙ el)) (index_within (along_y k n) (in_y x z n l)))
 
   voxel_x : k.low.y ≡ k.high.y → k.low.z ≡ k.high.z → (n : ℕ) → n < k.high.x + 1 - k.low.x
       → is_full (layered r ws) (along_x k n) ≡ is_set ws (bit_index r k.low + n * r)
   voxel_x y z n l =
-      let i : bit_index r (along_x k n) ≡ bit_index r k.low + n * r = omega arith in
-      is_full-layered r ws (along_x k n) (in_x y z n l) ∙ ap (is_set ws) i
+      let same_bit_index : bit_index r (along_x k n) ≡ bit_index r k.low + n * r = omega arith in
+      is_full-layered r ws (along_x k n) (in_x y z n l) ∙ ap (is_set ws) same_bit_index
 
   voxel_y : k.low.x ≡ k.high.x → k.low.z ≡ k.high.z → (n : ℕ) → n < k.high.y + 1 - k.low.y
       → is_full (layered r ws) (along_y k n) ≡ is_set ws (bit_index r k.low + n * (layer_words r * 64))
   voxel_y x z n l =
-      let i : bit_index r (along_y k n) ≡ bit_index r k.low + n * (layer_words r * 64) = omega arith in
-      is_full-layered r ws (along_y k n) (in_y x z n l) ∙ ap (is_set ws) i
+      let same_bit_index : bit_index r (along_y k n) ≡ bit_index r k.low + n * (layer_words r * 64) = omega arith in
+      is_full-layered r ws (along_y k n) (in_y x z n l) ∙ ap (is_set ws) same_bit_index
 
   pub found_x : k.low.y ≡ k.high.y → k.low.z ≡ k.high.z → (n : ℕ) → n < k.high.x + 1 - k.low.x
       → IsFirstBit ws (bit_index r k.low) r n → Some (along_x k n) ≡ find (passes_in k (is_full m)) (all_of m)

@@ -48,8 +48,8 @@ pub next_place : (r from k : ℕ) → from < volume r → (coordinate_at r from)
     → coordinate_at r (from + k) ≡ at (coordinate_at r from) ((coordinate_at r from).z + k)
 next_place r from k l h =
     let c : Coord = coordinate_at r from in
-    let i : IsInSpace r (coordinate_at r from) = at_in_space r from l in
-    let within : IsInSpace r (at (coordinate_at r from) ((coordinate_at r from).z + k)) = record { x = i.x; y = i.y; z = h } in
+    let in_space : IsInSpace r (coordinate_at r from) = at_in_space r from l in
+    let within : IsInSpace r (at (coordinate_at r from) ((coordinate_at r from).z + k)) = record { x = in_space.x; y = in_space.y; z = h } in
     let back : place r (coordinate_at r from) ≡ from = place-coordinate_at r from in
     let on : place r (at (coordinate_at r from) ((coordinate_at r from).z + k)) ≡ from + k = omega arith in
     ap (coordinate_at r) (sym on) ∙ coordinate_at-place r (at (coordinate_at r from) ((coordinate_at r from).z + k)) within
@@ -119,10 +119,10 @@ module _ (r : ℕ) (old new : List ℕ) (from count bits : ℕ) (within : from +
       unused y i l m n k u e =
           let c : Coord = coordinate_at r (from + k) in
           let less : from + k < volume r = omega arith in
-          let h : IsInSpace r (coordinate_at r (from + k)) = at_in_space r (from + k) less in
-          let inside : (coordinate_at r (from + k)).x * r + (coordinate_at r (from + k)).z < r * r = digits_lt h.x h.z in
+          let in_space : IsInSpace r (coordinate_at r (from + k)) = at_in_space r (from + k) less in
+          let inside : (coordinate_at r (from + k)).x * r + (coordinate_at r (from + k)).z < r * r = digits_lt in_space.x in_space.z in
           let here : y * layer_words r * 64 + i ≡ bit_index r (coordinate_at r (from + k)) = e ∙ sym (index_of k u) in
-          let same = same_from_place y i (coordinate_at r (from + k)).y ((coordinate_at r (from + k)).x * r + (coordinate_at r (from + k)).z) (layer_words r * 64) n (in_layer r (coordinate_at r (from + k)) h) (omega (arith, here)) in
+          let same = same_from_place y i (coordinate_at r (from + k)).y ((coordinate_at r (from + k)).x * r + (coordinate_at r (from + k)).z) (layer_words r * 64) n (in_layer r (coordinate_at r (from + k)) in_space) (omega (arith, here)) in
           omega (arith, same.1)
 
 -- ---- one part after another
@@ -163,8 +163,8 @@ put_parts old mid new from done count test part h set same = record { voxels = �
 pub left_bit : (bits from done p : ℕ) → from + done ≤ p
     → bit (bits / 2 ^ done) (p - (from + done)) ≡ bit bits (p - from)
 left_bit bits from done p l =
-    let e : done + (p - (from + done)) ≡ p - from = omega arith in
-    ap (λ d. d == 1) (shifted_bit bits done (p - (from + done)) ∙ ap (bit_at bits) e)
+    let done_is : done + (p - (from + done)) ≡ p - from = omega arith in
+    ap (λ d. d == 1) (shifted_bit bits done (p - (from + done)) ∙ ap (bit_at bits) done_is)
 
 -- all bits of a full word
 pub full_bit : (k : ℕ) → k < 64 → bit (2 ^ 64 - 1) k ≡ true

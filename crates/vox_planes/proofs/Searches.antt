@@ -35,8 +35,8 @@ bit_from : (ws : List ℕ) (i k : ℕ) → i % 64 + k < 64 → is_set ws (i + k)
 unfolding is_set
 bit_from ws i k l =
     let d : (i + k) / 64 ≡ i / 64 = omega arith in
-    let m : (i + k) % 64 ≡ i % 64 + k = omega arith in
-    λ t. bit (get_or ws (d t) 0) (m t)
+    let same_i : (i + k) % 64 ≡ i % 64 + k = omega arith in
+    λ t. bit (get_or ws (d t) 0) (same_i t)
 
 -- a bit past the shift that is not marked has the other value
 unmarked : (ws : List ℕ) (i w v k : ℕ) (value : Bool) → w ≡ get_or ws (i / 64) 0 → IsMarked w v value → i % 64 + k < 64
@@ -75,7 +75,7 @@ next_in_word ws from i w v value e l h p o f =
     let whole : bits < 2 ^ 64 = (let q = shr_le v s in omega arith) in
     let z = bit_at-trailing_zeros w64 bits p whole in
     let t : ℕ = trailing_zeros w64 bits in
-    let fits : v < 2 ^ (64 - s + s) = (let q : 64 ≡ 64 - s + s = omega arith in subst (λ (n : ℕ). v < 2 ^ n) q l) in
+    let fits : v < 2 ^ (64 - s + s) = (let s_is : 64 ≡ 64 - s + s = omega arith in subst (λ (n : ℕ). v < 2 ^ n) s_is l) in
     let short : bits < 2 ^ (64 - s) = shr_below v (64 - s) s fits in
     let near : s + t < 64 = in_range bits s t z.1 short (omega arith) in
     record {
@@ -152,7 +152,7 @@ row_found r ws m c last i value e h l il cl n =
     hit : is_state (layered r ws) value (at c (c.z + (i - bit_index r c))) ≡ true
     hit =
         let z : ℕ = c.z + (i - bit_index r c) in
-        let same : bit_index r c + (z - c.z) ≡ i = (let f = n.first in omega arith) in
+        let same : bit_index r c + (z - c.z) ≡ i = (let first = n.first in omega arith) in
         is-state (layered r ws) value (at c z) (is_set ws i) (bit_of r ws c z h (omega arith) (omega arith) ∙ ap (is_set ws) same) n.here
 
     none : (y : ℕ) → c.z ≤ y → y < c.z + (i - bit_index r c) → is_state (layered r ws) value (at c y) ≡ false

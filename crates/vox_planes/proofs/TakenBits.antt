@@ -110,7 +110,7 @@ taken_more old mid new index done count bits part taken both h few was below lef
     unmoved j l = h.left j ∙ (ap (λ b. is_set old j && not (b && bit bits (j - index))) (after_these index done j l) ∙ kept (is_set old j) (bit bits (j - index)))
 
     here : (k : ℕ) → is_set mid (index + done + k) ≡ is_set old (index + (done + k))
-    here k = let s : index + done + k ≡ index + (done + k) = omega arith in ap (is_set mid) s ∙ unmoved (index + (done + k)) (omega arith)
+    here k = let same_index : index + done + k ≡ index + (done + k) = omega arith in ap (is_set mid) same_index ∙ unmoved (index + (done + k)) (omega arith)
 
     earlier : (j : ℕ) → j < index + done → is_from index done j ≡ is_from index (done + count) j
     earlier j l = grind (arith, nat_tests)
@@ -159,10 +159,10 @@ module _ (r : ℕ) (old new : List ℕ) (first : Coord) (count bits taken : ℕ)
           ≡ is_marked first count bits d
       by true t =
           let p = parts t in
-          let e : d ≡ at first (first.z + (d.z - first.z)) = (λ j. record { x = p.0 j; y = p.1 j; z = (let z : d.z ≡ first.z + (d.z - first.z) = omega arith in z) j }) in
-          let n : bit_index r d ≡ bit_index r first + (d.z - first.z) = ap (bit_index r) e ∙ on (d.z - first.z) in
-          let s : bit_index r d - bit_index r first ≡ d.z - first.z = omega arith in
-          (λ j. one_of_these (bit_index r first) count (bit_index r d) (omega arith) (omega arith) j && bit bits (s j))
+          let d_is : d ≡ at first (first.z + (d.z - first.z)) = (λ j. record { x = p.0 j; y = p.1 j; z = (let z_is : d.z ≡ first.z + (d.z - first.z) = omega arith in z_is) j }) in
+          let same_bit_index : bit_index r d ≡ bit_index r first + (d.z - first.z) = ap (bit_index r) d_is ∙ on (d.z - first.z) in
+          let bit_index_is : bit_index r d - bit_index r first ≡ d.z - first.z = omega arith in
+          (λ j. one_of_these (bit_index r first) count (bit_index r d) (omega arith) (omega arith) j && bit bits (bit_index_is j))
           ∙ sym (ap (λ b. b && bit bits (d.z - first.z)) t)
       by false f =
           ap (λ b. b && bit bits (bit_index r d - bit_index r first)) (none_of_these (bit_index r first) count (bit_index r d) (λ k l e. other k l (one_bit r d (at first (first.z + k)) i (in_row k l) (e ∙ sym (on k)))))

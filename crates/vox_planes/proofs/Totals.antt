@@ -33,20 +33,20 @@ total-zero (suc n) f h = omega (arith, total-zero n f (λ k l. h k (omega arith)
 
 pub total-add : (m n : ℕ) (f : ℕ → ℕ) → total (m + n) f ≡ total m f + total n (λ k. f (m + k))
 unfolding total
-total-add m zero f = let e : m + 0 ≡ m = omega arith in ap (λ v. total v f) e ∙ omega arith
-total-add m (suc n) f = let e : m + suc n ≡ suc (m + n) = omega arith in ap (λ v. total v f) e ∙ (ap (λ v. v + f (m + n)) (total-add m n f) ∙ omega arith)
+total-add m zero f = let m_is : m + 0 ≡ m = omega arith in ap (λ v. total v f) m_is ∙ omega arith
+total-add m (suc n) f = let same_m : m + suc n ≡ suc (m + n) = omega arith in ap (λ v. total v f) same_m ∙ (ap (λ v. v + f (m + n)) (total-add m n f) ∙ omega arith)
 
 pub total-front : (n : ℕ) (f : ℕ → ℕ) → total (suc n) f ≡ f 0 + total n (λ k. f (1 + k))
 unfolding total
-total-front n f = let e : suc n ≡ 1 + n = omega arith in ap (λ v. total v f) e ∙ (total-add 1 n f ∙ omega arith)
+total-front n f = let same_n : suc n ≡ 1 + n = omega arith in ap (λ v. total v f) same_n ∙ (total-add 1 n f ∙ omega arith)
 
 -- n digits before m digits
 total-mul : (n m : ℕ) (f : ℕ → ℕ) → total (n * m) f ≡ total n (λ a. total m (λ b. f (a * m + b)))
 unfolding total
-total-mul zero m f = let e : 0 * m ≡ 0 = omega arith in ap (λ v. total v f) e
+total-mul zero m f = let m_is : 0 * m ≡ 0 = omega arith in ap (λ v. total v f) m_is
 total-mul (suc n) m f =
-    let e : suc n * m ≡ n * m + m = omega arith in
-    ap (λ v. total v f) e ∙ (total-add (n * m) m f ∙ ap (λ v. v + total m (λ b. f (n * m + b))) (total-mul n m f))
+    let same_n : suc n * m ≡ n * m + m = omega arith in
+    ap (λ v. total v f) same_n ∙ (total-add (n * m) m f ∙ ap (λ v. v + total m (λ b. f (n * m + b))) (total-mul n m f))
 
 pub total-plus : (n : ℕ) (f g : ℕ → ℕ) → total n (λ k. f k + g k) ≡ total n f + total n g
 unfolding total
@@ -61,18 +61,18 @@ total-swap (suc n) m g = ap (λ v. v + total m (λ b. g n b)) (total-swap n m g)
 -- what is past the first m of n numbers counts for nothing
 total-front_only : (m n : ℕ) (f : ℕ → ℕ) → m ≤ n → ((k : ℕ) → m ≤ k → k < n → f k ≡ 0) → total n f ≡ total m f
 total-front_only m n f l none =
-    let e : n ≡ m + (n - m) = omega arith in
-    let z : total (n - m) (λ k. f (m + k)) ≡ 0 = total-zero (n - m) (λ k. f (m + k)) (λ k j. none (m + k) (omega arith) (omega arith)) in
-    ap (λ v. total v f) e ∙ (total-add m (n - m) f ∙ omega arith)
+    let n_is : n ≡ m + (n - m) = omega arith in
+    let total_is : total (n - m) (λ k. f (m + k)) ≡ 0 = total-zero (n - m) (λ k. f (m + k)) (λ k j. none (m + k) (omega arith) (omega arith)) in
+    ap (λ v. total v f) n_is ∙ (total-add m (n - m) f ∙ omega arith)
 
 pub counted : {A : Type 0} (test : A → Bool) (at : ℕ → A) (n a : ℕ)
     → count_by test (map at (numbers_from a n)) ≡ total n (λ k. cond (test (at (a + k))) 1 0)
 unfolding total
 counted test at zero a = refl
 counted test at (suc n) a =
-    let e : a + 0 ≡ a = omega arith in
+    let a_is : a + 0 ≡ a = omega arith in
     sum_by-cons (λ c. cond (test c) 1 0) (at a) (map at (numbers_from (a + 1) n))
-    ∙ ((λ i. cond (test (at (sym e i))) 1 0 + counted test at n (a + 1) i)
+    ∙ ((λ i. cond (test (at (sym a_is i))) 1 0 + counted test at n (a + 1) i)
     ∙ (ap (λ v. cond (test (at (a + 0))) 1 0 + v) (total-same n (λ k. cond (test (at (a + 1 + k))) 1 0) (λ k. cond (test (at (a + (1 + k)))) 1 0) (λ k l. ap (λ v. cond (test (at v)) 1 0) (omega arith)))
     ∙ sym (total-front n (λ k. cond (test (at (a + k))) 1 0))))
 
@@ -84,9 +84,9 @@ pub counted_from : (test : ℕ → Bool) (n a : ℕ) → count_by test (numbers_
 unfolding total
 counted_from test zero a = refl
 counted_from test (suc n) a =
-    let e : a ≡ a + 0 = omega arith in
+    let a_is : a ≡ a + 0 = omega arith in
     sum_by-cons (λ c. cond (test c) 1 0) a (numbers_from (a + 1) n)
-    ∙ ((λ i. one_if (test (e i)) + counted_from test n (a + 1) i)
+    ∙ ((λ i. one_if (test (a_is i)) + counted_from test n (a + 1) i)
     ∙ (ap (λ v. one_if (test (a + 0)) + v) (total-same n (λ k. one_if (test (a + 1 + k))) (λ k. one_if (test (a + (1 + k)))) (λ k l. ap (λ v. one_if (test v)) (omega arith)))
     ∙ sym (total-front n (λ k. one_if (test (a + k))))))
 
@@ -110,13 +110,13 @@ small_ones (suc (suc v)) l = absurd (omega arith)
 
 pub ones-total : (k w : ℕ) → w < 2 ^ k → count_ones w ≡ total k (λ i. bit_at w i)
 unfolding total ones ones_in
-ones-total zero w l = let e : w ≡ 0 = omega arith in ap count_ones e
+ones-total zero w l = let w_is : w ≡ 0 = omega arith in ap count_ones w_is
 ones-total (suc k) w l =
     let a : ℕ = w / 2 ^ k in
     let b : ℕ = w % 2 ^ k in
     let split : a * 2 ^ k + b ≡ w = shr_split w k in
     let low : b < 2 ^ k = mod_below w (2 ^ k) (pow_pos k) in
-    let high : a < 2 = shr_below w 1 k (let e : suc k ≡ 1 + k = omega arith in rw (← e) l) in
+    let high : a < 2 = shr_below w 1 k (let same_k : suc k ≡ 1 + k = omega arith in rw (← same_k) l) in
     let top : a ≡ bit_at w k = omega arith in
     let rest : total k (λ i. bit_at b i) ≡ total k (λ i. bit_at w i) = total-same k (λ i. bit_at b i) (λ i. bit_at w i) (λ i j. sym (bit_at_cat_low a k b i j) ∙ ap (λ v. bit_at v i) split) in
     ap count_ones (sym split) ∙ (ones_cat k a b low ∙ omega (arith, small_ones a high, ones-total k b low))
@@ -146,8 +146,8 @@ bits_more ws j w e l =
     here : (i : ℕ) → i < 64 → cond (bit (get_or ws ((64 * j + i) / 64) 0) ((64 * j + i) % 64)) 1 0 ≡ bit_at w i
     here i h =
         let d : (64 * j + i) / 64 ≡ j = omega arith in
-        let m : (64 * j + i) % 64 ≡ i = omega arith in
-        (λ t. cond (bit (get_or ws (d t) 0) (m t)) 1 0) ∙ (ap (λ v. cond (bit v i) 1 0) (sym e) ∙ as_number w i)
+        let j_is : (64 * j + i) % 64 ≡ i = omega arith in
+        (λ t. cond (bit (get_or ws (d t) 0) (j_is t)) 1 0) ∙ (ap (λ v. cond (bit v i) 1 0) (sym e) ∙ as_number w i)
 
 pub bits_none : (ws : List ℕ) → bits_below ws 0 ≡ 0
 unfolding bits_below total
@@ -169,7 +169,7 @@ bits_all r ws h =
     ∙ (total-swap r r (λ y x. total r (λ z. full ((x * r + y) * r + z)))
     ∙ (sym (total-mul r r (λ q. total r (λ z. full (q * r + z))))
     ∙ (sym (total-mul (r * r) r full)
-    ∙ (total-same (r * r * r) full (λ p. one_if (is_full (layered r ws) (coordinate_at r (0 + p)))) (λ p l. let e : p ≡ 0 + p = omega arith in ap full e)
+    ∙ (total-same (r * r * r) full (λ p. one_if (is_full (layered r ws) (coordinate_at r (0 + p)))) (λ p l. let p_is : p ≡ 0 + p = omega arith in ap full p_is)
     ∙ sym (counted (is_full (layered r ws)) (coordinate_at r) (r * r * r) 0)))))))
   where
     one_voxel : (y x z : ℕ) → y < r → x < r → z < r → one_if (is_set ws (y * (layer_words r * 64) + (x * r + z)))
@@ -177,15 +177,15 @@ bits_all r ws h =
     one_voxel y x z ly lx lz =
         let c : Coord = record { x = x; y = y; z = z } in
         let within : IsInSpace r c = record { x = lx; y = ly; z = lz } in
-        let i : y * (layer_words r * 64) + (x * r + z) ≡ bit_index r c = omega arith in
-        let p : (x * r + y) * r + z ≡ place r c = omega arith in
-        ap (λ v. one_if (is_set ws v)) i
+        let y_is : y * (layer_words r * 64) + (x * r + z) ≡ bit_index r c = omega arith in
+        let x_is : (x * r + y) * r + z ≡ place r c = omega arith in
+        ap (λ v. one_if (is_set ws v)) y_is
         ∙ (ap one_if (sym (is_full-layered r ws c within))
-        ∙ ap (λ d. one_if (is_full (layered r ws) d)) (sym (ap (coordinate_at r) p ∙ coordinate_at-place r c within)))
+        ∙ ap (λ d. one_if (is_full (layered r ws) d)) (sym (ap (coordinate_at r) x_is ∙ coordinate_at-place r c within)))
 
     unused : (y : ℕ) → y < r → (i : ℕ) → r * r ≤ i → i < layer_words r * 64
         → one_if (is_set ws (y * (layer_words r * 64) + i)) ≡ 0
-    unused y l i m n = let e : y * (layer_words r * 64) + i ≡ y * layer_words r * 64 + i = omega arith in ap one_if (ap (is_set ws) e ∙ h.unused y i l m n)
+    unused y l i m n = let same_y : y * (layer_words r * 64) + i ≡ y * layer_words r * 64 + i = omega arith in ap one_if (ap (is_set ws) same_y ∙ h.unused y i l m n)
 
     one_layer : (y : ℕ) → y < r → total (layer_words r * 64) (λ i. one_if (is_set ws (y * (layer_words r * 64) + i)))
         ≡ total r (λ x. total r (λ z. one_if (is_full (layered r ws) (coordinate_at r ((x * r + y) * r + z)))))
@@ -198,15 +198,15 @@ bits_all r ws h =
 -- a layer takes no more words than it has voxels
 pub words_most : (r n : ℕ) → 1 ≤ r → n ≡ r * layer_words r → n ≤ r * r * r
 words_most r n h e =
-    let one : r ≤ r * r = (let m : 1 * r ≤ r * r = mul-le-mul h (omega arith) in omega arith) in
+    let one : r ≤ r * r = (let at_most_r : 1 * r ≤ r * r = mul-le-mul h (omega arith) in omega arith) in
     let l : layer_words r ≤ r * r = omega arith in
-    let m : r * layer_words r ≤ r * (r * r) = mul-le-mul (omega arith) l in
+    let at_most_r : r * layer_words r ≤ r * (r * r) = mul-le-mul (omega arith) l in
     omega arith
 
 -- and there are at most a million words
 pub words_bound : (r n : ℕ) → r ≤ 400 → n ≡ r * layer_words r → n ≤ 1000000
 words_bound r n h e =
     let square : r * r ≤ 400 * 400 = mul-le-mul h h in
-    let l : layer_words r ≤ 2500 = omega arith in
-    let m : r * layer_words r ≤ 400 * 2500 = mul-le-mul h l in
+    let layer_words_to_2500 : layer_words r ≤ 2500 = omega arith in
+    let r_to_2500 : r * layer_words r ≤ 400 * 2500 = mul-le-mul h layer_words_to_2500 in
     omega arith

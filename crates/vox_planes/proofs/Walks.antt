@@ -24,30 +24,30 @@ use Rattle.vox_planes.specs.Walk.{at, coordinates_from, passes_in, row, row_star
 pub row-more : (c : Coord) (last : ℕ) → c.z ≤ last → row c last ≡ c ∷ row (at c (c.z + 1)) last
 unfolding row
 row-more c last h =
-    let e : last + 1 - c.z ≡ suc (last + 1 - (c.z + 1)) = omega arith in
-    ap (λ n. map (at c) (numbers_from c.z n)) e
+    let same_last : last + 1 - c.z ≡ suc (last + 1 - (c.z + 1)) = omega arith in
+    ap (λ n. map (at c) (numbers_from c.z n)) same_last
 
 pub row-end : (c : Coord) (last : ℕ) → last + 1 ≤ c.z → row c last ≡ []
 unfolding row
-row-end c last h = let e : last + 1 - c.z ≡ 0 = omega arith in ap (λ n. map (at c) (numbers_from c.z n)) e
+row-end c last h = let last_is : last + 1 - c.z ≡ 0 = omega arith in ap (λ n. map (at c) (numbers_from c.z n)) last_is
 
 -- ---- all coordinates
 
 pub from-all : (r : ℕ) → coordinates_from r 0 ≡ coordinates r
 unfolding coordinates_from
-from-all r = let e : r * r * r - 0 ≡ r * r * r = omega arith in ap (λ n. map (coordinate_at r) (numbers_from 0 n)) e
+from-all r = let same_r : r * r * r - 0 ≡ r * r * r = omega arith in ap (λ n. map (coordinate_at r) (numbers_from 0 n)) same_r
 
 pub from-more : (r p : ℕ) → p < r * r * r → coordinates_from r p ≡ coordinate_at r p ∷ coordinates_from r (p + 1)
 unfolding coordinates_from
 from-more r p h =
-    let e : r * r * r - p ≡ suc (r * r * r - (p + 1)) = omega arith in
-    ap (λ n. map (coordinate_at r) (numbers_from p n)) e
+    let same_r : r * r * r - p ≡ suc (r * r * r - (p + 1)) = omega arith in
+    ap (λ n. map (coordinate_at r) (numbers_from p n)) same_r
 
 pub from-end : (r p : ℕ) → r * r * r ≤ p → coordinates_from r p ≡ []
 unfolding coordinates_from
 from-end r p h =
-    let e : r * r * r - p ≡ 0 = omega arith in
-    ap (λ n. map (coordinate_at r) (numbers_from p n)) e
+    let r_is : r * r * r - p ≡ 0 = omega arith in
+    ap (λ n. map (coordinate_at r) (numbers_from p n)) r_is
 
 -- the coordinates from one on are those of its row, and then those from the end of that row on
 rows : (r n : ℕ) (c : Coord) (last : ℕ) → n ≡ last + 1 - c.z → c.z ≤ last + 1 → c.x < r → c.y < r → last < r
@@ -134,18 +134,18 @@ gap : {A : Type 0} (r : ℕ) (k : Corners) (walk : ℕ → A) → IsWalk r k wal
     → ((q : ℕ) → p ≤ q → q < p + n → IsFalse (is_within (span k) (point (coordinate_at r q)))) → walk p ≡ walk (p + n)
 gap r k walk w zero p none = ap walk (omega arith)
 gap r k walk w (suc n) p none =
-    let e : p + 1 + n ≡ p + suc n = omega arith in
-    w.passes p (λ l. none p (omega arith) (omega arith)) ∙ (gap r k walk w n (p + 1) (λ q i j. none q (omega arith) (omega arith)) ∙ ap walk e)
+    let same_p : p + 1 + n ≡ p + suc n = omega arith in
+    w.passes p (λ l. none p (omega arith) (omega arith)) ∙ (gap r k walk w n (p + 1) (λ q i j. none q (omega arith) (omega arith)) ∙ ap walk same_p)
 
 -- from one place to a later one, with no coordinate of the region between them
 over : {A : Type 0} (r : ℕ) (k : Corners) (walk : ℕ → A) → IsWalk r k walk → IsOrdered k → (p q : ℕ) → p ≤ q
     → ((c : Coord) → IsOf k c → p ≤ place r c → place r c < q → ⊥) → walk p ≡ walk q
 over r k walk w o p q l none =
-    let e : p + (q - p) ≡ q = omega arith in
+    let p_is : p + (q - p) ≡ q = omega arith in
     gap r k walk w (q - p) p (λ t i j. false_by (is_within (span k) (point (coordinate_at r t))) (λ h.
-    let s : place r (coordinate_at r t) ≡ t = place-coordinate_at r t in
-    none (coordinate_at r t) (is_of k (coordinate_at r t) o h) (omega (arith, s)) (omega (arith, s))))
-    ∙ ap walk e
+    let place_is : place r (coordinate_at r t) ≡ t = place-coordinate_at r t in
+    none (coordinate_at r t) (is_of k (coordinate_at r t) o h) (omega (arith, place_is)) (omega (arith, place_is))))
+    ∙ ap walk p_is
 
 ≤_refl : (n : ℕ) → n ≤ n
 ≤_refl n = omega arith
@@ -155,7 +155,7 @@ less a b m lt = by (cases_lt a b)
   where
     by : ((a < b) ⊎ (b ≤ a)) → a < b
     by (inl h) = h
-    by (inr h) = let f : b * m ≤ a * m = mul-le-mul h (≤_refl m) in absurd (omega arith)
+    by (inr h) = let at_most_a : b * m ≤ a * m = mul-le-mul h (≤_refl m) in absurd (omega arith)
 
 pub to_start : {A : Type 0} (r : ℕ) (k : Corners) (walk : ℕ → A) → IsWalk r k walk → IsOrdered k
     → walk 0 ≡ walk (place r k.low)
@@ -163,8 +163,8 @@ to_start r k walk w o = over r k walk w o 0 (place r k.low) (omega arith) none
   where
     none : (c : Coord) → IsOf k c → 0 ≤ place r c → place r c < place r k.low → ⊥
     none c h i j =
-        let x : k.low.x * (r * r) ≤ c.x * (r * r) = mul-le-mul h.x_low (≤_refl (r * r)) in
-        let y : k.low.y * r ≤ c.y * r = mul-le-mul h.y_low (≤_refl r) in
+        let at_most_x : k.low.x * (r * r) ≤ c.x * (r * r) = mul-le-mul h.x_low (≤_refl (r * r)) in
+        let at_most_y : k.low.y * r ≤ c.y * r = mul-le-mul h.y_low (≤_refl r) in
         omega (arith, h.z_low)
 
 pub next_row : {A : Type 0} (r : ℕ) (k : Corners) (walk : ℕ → A) → IsWalk r k walk → IsOrdered k → IsInSpace r k.high
@@ -183,7 +183,7 @@ pub next_wall : {A : Type 0} (r : ℕ) (k : Corners) (walk : ℕ → A) → IsWa
 next_wall r k walk w o s x = over r k walk w o (place r (row_start k x (k.high.y + 1))) (place r (row_start k (x + 1) k.low.y)) ordered none
   where
     ordered : place r (row_start k x (k.high.y + 1)) ≤ place r (row_start k (x + 1) k.low.y)
-    ordered = let y : (k.high.y + 1) * r ≤ r * r = mul-le-mul (let l = s.y in omega arith) (≤_refl r) in omega arith
+    ordered = let at_most_r : (k.high.y + 1) * r ≤ r * r = mul-le-mul (let l = s.y in omega arith) (≤_refl r) in omega arith
 
     none : (c : Coord) → IsOf k c → place r (row_start k x (k.high.y + 1)) ≤ place r c
         → place r c < place r (row_start k (x + 1) k.low.y) → ⊥
@@ -202,8 +202,8 @@ to_end r k walk w o s = over r k walk w o (place r (row_start k (k.high.x + 1) k
     none : (c : Coord) → IsOf k c → place r (row_start k (k.high.x + 1) k.low.y) ≤ place r c
         → place r c < place r (row_start k (k.high.x + 1) k.low.y) + r * r * r → ⊥
     none c h i j =
-        let small : c.y * r + c.z < r * r = digits_lt (let l = s.y in let m = h.y_high in omega arith) (let l = s.z in let m = h.z_high in omega arith) in
-        let x : c.x * (r * r) ≤ k.high.x * (r * r) = mul-le-mul h.x_high (≤_refl (r * r)) in
+        let small : c.y * r + c.z < r * r = digits_lt (let l = s.y in let y_high = h.y_high in omega arith) (let l = s.z in let z_high = h.z_high in omega arith) in
+        let at_most_x : c.x * (r * r) ≤ k.high.x * (r * r) = mul-le-mul h.x_high (≤_refl (r * r)) in
         omega arith
 
 -- ---- what is found and what is listed from a place on
@@ -288,7 +288,7 @@ module _ (r : ℕ) (k : Corners) (test : Coord → Bool) (o : IsOrdered k) (s : 
 
 -- one row or wall less is left after each
 pub left-more : (high y n : ℕ) → y ≤ high → (high + 1 - y) * n ≡ n + (high + 1 - (y + 1)) * n
-left-more high y n h = let e : high + 1 - y ≡ suc (high + 1 - (y + 1)) = omega arith in ap (λ v. v * n) e ∙ omega arith
+left-more high y n h = let same_high : high + 1 - y ≡ suc (high + 1 - (y + 1)) = omega arith in ap (λ v. v * n) same_high ∙ omega arith
 
 -- a region has as many walls as its extent on the axis x
 pub size-walls : (k : Corners) → IsOrdered k → size (span k) ≡ (k.high.x + 1 - k.low.x) * wall_size k

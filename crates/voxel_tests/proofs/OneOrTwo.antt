@@ -10,7 +10,7 @@ use Rattle.support_forest.specs.Standing.{Says, MayAdd, MayRemove}
 pub void_word : (m : Matrix) (c : Coord) (word : ℕ) → Says m c word → word ≡ 0 → IsFalse (is_full m c)
 void_word m c word (inl s) e = s.1
 void_word m c word (inr (inl s)) e = let f = s.0 in absurd (omega arith)
-void_word m c word (inr (inr s)) e = let f = s.word_is in absurd (omega arith)
+void_word m c word (inr (inr s)) e = let word_is = s.word_is in absurd (omega arith)
 
 pub full_word : (m : Matrix) (c : Coord) (word : ℕ) → Says m c word → (word ≡ 0 → ⊥) → IsTrue (is_full m c)
 full_word m c word (inl s) n = absurd (n s.0)
