@@ -49,7 +49,7 @@ pub(crate) fn reach(planes: &Planes, from: Coord, d: Diff) -> Option<Coord>
     ensures none { IfNone result (IsFalse (in_space planes.now.resolution (plus (point from) d))) }
     ensures within { IfSome result (λ to. IsInSpace planes.now.resolution to) }
 {
-    from.plus(d, planes.resolution())
+    from.plus_in_matrix(d, planes.resolution())
 }
 
 /// Where a bot with `SMove` gets to, or the first rule that it breaks.

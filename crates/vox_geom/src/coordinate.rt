@@ -46,6 +46,23 @@ impl Coord {
         }
     }
 
+    /// [`Coord::plus`] at a resolution of at most [`MOST_R`], by sums of 16 bits: one that goes round is not below it.
+    #[inline(always)]
+    pub fn plus_in_matrix(self, d: Diff, r: u16) -> Option<Coord>
+        requires within { IsInSpace r self }
+        requires most { r ≤ MOST_R }
+        ensures within { IsSome result ↔ IsTrue (in_space r (point_plus (point self) d)) }
+        ensures sum { IfSome result (λ c. point c ≡ point_plus (point self) d) }
+    {
+        let x = self.x.wrapping_add_signed(d.dx);
+        let y = self.y.wrapping_add_signed(d.dy);
+        let z = self.z.wrapping_add_signed(d.dz);
+        if x < r && y < r && z < r {
+            return Some(Coord { x, y, z });
+        }
+        None
+    }
+
     /// The coordinate at a place of a matrix of resolution r.
     #[tactic(auto, using(crate::proofs::Places::places))]
     pub fn of_place(p: u32, r: u16) -> Coord

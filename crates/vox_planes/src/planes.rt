@@ -131,6 +131,9 @@ fn end_after(words: &[u64], end: usize, at: usize, full: bool) -> usize
     if words[at] != 0 {
         return end;
     }
+    if end != 0 && words[end - 1] != 0 {
+        return end;
+    }
     trim(words, end)
 }
 
