@@ -83,8 +83,8 @@ first (part ∷ more) = part
 apart : (v : List ℕ) (ps : List (List ℕ)) (f : DebugLine) → bytes_eq v v ≡ true
     → bytes_eq v (first (parts_of f)) ≡ false → v ∷ ps ≡ parts_of f → ⊥
 apart v ps f same other e =
-    let same_bytes_eq : bytes_eq v v ≡ bytes_eq v (first (parts_of f)) = ap (λ (xs : List (List ℕ)). bytes_eq v (first xs)) e in
-    let clash : true ≡ false = sym same ∙ (same_bytes_eq ∙ other) in
+    let g : bytes_eq v v ≡ bytes_eq v (first (parts_of f)) = ap (λ (xs : List (List ℕ)). bytes_eq v (first xs)) e in
+    let clash : true ≡ false = sym same ∙ (g ∙ other) in
     cc
 
 behind : (v : List ℕ) (ps qs : List (List ℕ)) → v ∷ ps ≡ v ∷ qs → ps ≡ qs

@@ -34,7 +34,7 @@ pub record Story (from : State) (k : Kept) : Type 0 where
 -- ---- lists
 
 front : {X : Type 0} (xs ys : List X) (n : ℕ) → n ≡ length xs → (take n (xs ++ ys) ≡ xs) × (drop n (xs ++ ys) ≡ ys)
-front [] ys n e = let n_is : n ≡ zero = omega (arith, e) in (ap (λ m. take m ys) n_is, ap (λ m. drop m ys) n_is)
+front [] ys n e = let z : n ≡ zero = omega (arith, e) in (ap (λ m. take m ys) z, ap (λ m. drop m ys) z)
 front {X} (x ∷ xs) ys n e =
     let f = front xs ys (length xs) refl in
     (ap (λ m. take m (x ∷ xs ++ ys)) e ∙ ap (λ (zs : List X). x ∷ zs) f.0, ap (λ m. drop m (x ∷ xs ++ ys)) e ∙ f.1)

@@ -57,7 +57,7 @@ back_last p k notes h = back_drop p (length notes - k) notes h
 pub last_split : {X : Type 0} (xs : List X) (x : X) → slice_get xs (length xs - 1) ≡ Some x
     → xs ≡ take (length xs - 1) xs ++ x ∷ []
 last_split [] x h = cc
-last_split (y ∷ []) x h = let y_is : y ≡ x = cc in ap (λ z. z ∷ []) y_is
+last_split (y ∷ []) x h = let e : y ≡ x = cc in ap (λ z. z ∷ []) e
 last_split {X} (y ∷ z ∷ xs) x h =
     let less : length (y ∷ z ∷ xs) - 1 ≡ suc (length (z ∷ xs) - 1) = omega arith in
     ap (λ (ys : List X). y ∷ ys) (last_split (z ∷ xs) x (subst (λ (n : ℕ). slice_get (y ∷ z ∷ xs) n ≡ Some x) less h)) ∙ ap (λ n. take n (y ∷ z ∷ xs) ++ x ∷ []) (sym less)

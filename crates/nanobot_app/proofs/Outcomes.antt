@@ -169,7 +169,7 @@ outcome_of_row words row old new result written o = record {
   answer = λ a. weaker old.files (λ files s. (s.0, inr (row, written, s.1), s.2, s.3)) (o.answer a);
   depot = λ e. cause (o.depot e);
   sink = o.sink;
-  after_depot = λ e. let after_depot = o.after_depot e in (after_depot.0, spared after_depot.1);
+  after_depot = λ e. let s = o.after_depot e in (s.0, spared s.1);
   after_sink = λ e. weaker old.files (λ files s. (s.0, inr (row, written, s.1), s.2, s.3)) (o.after_sink e);
   after_memory = o.after_memory;
 }

@@ -107,11 +107,11 @@ goes_on : (given commands : List Command) (tail rest : List ℕ) → AreCommands
     → (more : List Command) × (commands ≡ given ++ more)
 goes_on [] commands tail rest g h e l = (commands, refl)
 goes_on (c ∷ given) [] tail rest g h e l =
-    let same_length : length rest ≡ length ((spelling c ++ spellings given) ++ tail) = ap length e in
+    let k : length rest ≡ length ((spelling c ++ spellings given) ++ tail) = ap length e in
     let a = length-append (spelling c ++ spellings given) tail in
     let b = length-append (spelling c) (spellings given) in
     let n = spelling_some c in
-    absurd (omega (arith, same_length, a, b, n, l))
+    absurd (omega (arith, k, a, b, n, l))
 goes_on (c ∷ given) (d ∷ commands) tail rest g h e l =
     let o = one_spelling d c (spellings commands ++ rest) (spellings given ++ tail) h.0 g.0 (sym (append_assoc (spelling d) (spellings commands) rest) ∙ (e ∙ append_assoc (spelling c) (spellings given) tail)) in
     let r = goes_on given commands tail rest g.1 h.1 o.1 l in
@@ -149,10 +149,10 @@ module _ (told : Option Files) (name : List ℕ) (source : Matrix) (profile : Pr
       → IsPaying told name source profile (at + n) next start later
   paying_next n buf next later piece fits fed = record {
     front = λ files file t c.
-        let piece : IsPiece file at n buf = from_told told name _ piece files file t c in
+        let p : IsPiece file at n buf = from_told told name _ piece files file t c in
         let old = so_far.front files file t c in
-        let joined : take at file ++ take n buf ≡ take (at + n) file = ap (λ b. take at file ++ b) piece.same ∙ sym (take-add at n file) in
-        (piece_has file buf at n fits piece old.0, subst (λ (b : List ℕ). HasPaid source profile b next start later) joined (fed (take at file) old.1));
+        let joined : take at file ++ take n buf ≡ take (at + n) file = ap (λ b. take at file ++ b) p.same ∙ sym (take-add at n file) in
+        (piece_has file buf at n fits p old.0, subst (λ (b : List ℕ). HasPaid source profile b next start later) joined (fed (take at file) old.1));
   }
 
   -- the run ends here, after few touches more
@@ -161,17 +161,17 @@ module _ (told : Option Files) (name : List ℕ) (source : Matrix) (profile : Pr
       → IsWithinFile profile source told name first last
   paying_within law works first last few more = λ files file t c.
       let old = so_far.front files file t c in
-      let begin_with : BeginWith file old.1.commands = subst (λ (b : List ℕ). BeginWith b old.1.commands) (take-append-drop at file) (begins_more (take at file) (drop at file) old.1.commands (begins (take at file) old.1.commands run.decoder old.1.given)) in
+      let b : BeginWith file old.1.commands = subst (λ (b : List ℕ). BeginWith b old.1.commands) (take-append-drop at file) (begins_more (take at file) (drop at file) old.1.commands (begins (take at file) old.1.commands run.decoder old.1.given)) in
       record {
         longest = λ commands front.
             let n = works source commands profile in
-            let w = within law source profile file old.1.commands run.run.progress start now begin_with old.1.paid commands n.0 front n.1 in
+            let w = within law source profile file old.1.commands run.run.progress start now b old.1.paid commands n.0 front n.1 in
             (n.0, n.1, omega (arith, w, few, more));
         given =
             let n = works source (old.1.commands ++ []) profile in
             let same : old.1.commands ++ [] ≡ old.1.commands = append-nil old.1.commands in
             let w = law source profile old.1.commands [] run.run.progress start now n.0 old.1.paid n.1 in
-            (old.1.commands, begin_with, (n.0, subst (λ (xs : List Command). Work source xs profile n.0) same n.1, omega (arith, w, few, more)));
+            (old.1.commands, b, (n.0, subst (λ (xs : List Command). Work source xs profile n.0) same n.1, omega (arith, w, few, more)));
       }
 
 -- ---- the files of a run

@@ -44,10 +44,10 @@ module _ (told : Option Files) (name : List ℕ) (source : Matrix) (profile : Pr
       → IsUnderway told name source profile (at + n) next
   underway_next next fed = record {
     front = λ files file t c.
-        let piece : IsPiece file at n buf = from_told told name _ piece files file t c in
+        let p : IsPiece file at n buf = from_told told name _ piece files file t c in
         let old = so_far.front files file t c in
-        let joined : take at file ++ take n buf ≡ take (at + n) file = ap (λ b. take at file ++ b) piece.same ∙ sym (take-add at n file) in
-        (piece_has file buf at n room_is piece old.0, subst (λ (b : List ℕ). HasRun source profile b next) joined (fed (take at file) old.1));
+        let joined : take at file ++ take n buf ≡ take (at + n) file = ap (λ b. take at file ++ b) p.same ∙ sym (take-add at n file) in
+        (piece_has file buf at n room_is p old.0, subst (λ (b : List ℕ). HasRun source profile b next) joined (fed (take at file) old.1));
   }
 
   -- no byte came: the trace is whole

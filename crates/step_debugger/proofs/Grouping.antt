@@ -87,8 +87,8 @@ counted : (xs : List ℕ) (bid : ℕ) → list_any (λ k. k == bid) xs ≡ true 
 counted [] bid h = cc
 counted (x ∷ xs) bid h =
     let e : count_by (λ k. k == bid) (x ∷ xs) ≡ cond (x == bid) 1 0 + count_by (λ k. k == bid) xs = sum_by-cons (λ k. cond {A = ℕ} (k == bid) 1 0) x xs in
-    let some_choice : 1 ≤ cond (x == bid) 1 0 + count_by (λ k. k == bid) xs = by (x == bid) refl (λ f. counted xs bid f) h in
-    omega (arith, e, some_choice)
+    let l : 1 ≤ cond (x == bid) 1 0 + count_by (λ k. k == bid) xs = by (x == bid) refl (λ f. counted xs bid f) h in
+    omega (arith, e, l)
   where
     by : (b : Bool) → (x == bid) ≡ b → (list_any (λ k. k == bid) xs ≡ true → 1 ≤ count_by (λ k. k == bid) xs)
         → (b || list_any (λ k. k == bid) xs) ≡ true → 1 ≤ cond b 1 0 + count_by (λ k. k == bid) xs

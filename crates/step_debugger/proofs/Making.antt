@@ -30,7 +30,7 @@ take_long n xs e = let l = length-take n xs in omega (arith, l)
 halted_is : (b : Bool) (bots : List Bot) → (b ≡ true ↔ bots ≡ []) → b ≡ none_left bots
 halted_is b [] h = h.1 refl
 halted_is false (x ∷ bots) h = refl
-halted_is true (x ∷ bots) h = let x_is : x ∷ bots ≡ [] = h.0 refl in cc
+halted_is true (x ∷ bots) h = let e : x ∷ bots ≡ [] = h.0 refl in cc
 
 pub refused_other : (rule : Rule) (s : Session) → (rule ≡ Ungrounded → ⊥) → refused rule s ≡ s
 refused_other Ungrounded s h = absurd (h refl)
@@ -112,7 +112,7 @@ module _ (v : Situation) (notes : Buffer Undo) (commands : List Command) (taken 
           capacity = ap (λ (b : Buffer Undo). b.capacity) pushed ∙ kept.capacity;
           fit = λ _. record {
             well_formed = stepped.well_formed formed;
-            counted = let c = stepped.counted in let counted = here.counted in let k = count in let s = some in omega (arith, c, counted, k, s);
+            counted = let c = stepped.counted in let h = here.counted in let k = count in let s = some in omega (arith, c, h, k, s);
             taken = taken_most;
             notes_lead = leads_all;
             begin = begins now f standing g;

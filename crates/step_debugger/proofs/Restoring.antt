@@ -107,7 +107,7 @@ restored_begun : (begun : List ℕ) (s t u : Session) (r : DebugReport) → begu
     → GoesBack begun t u r
     → (u ≡ record { point = s.point; past = latest 4095 s.past; begun = [] }) × (r ≡ is_returned s.point)
 restored_begun [] s t u r b v e h = restored_past t.past s t u r refl v e h
-restored_begun (x ∷ begun) s t u r b v e h = absurd (let x_is : x ∷ begun ≡ [] = b ∙ ap (λ (y : Session). y.begun) e in cc)
+restored_begun (x ∷ begun) s t u r b v e h = absurd (let f : x ∷ begun ≡ [] = b ∙ ap (λ (y : Session). y.begun) e in cc)
 
 restored : (commands : List Command) (line : DebugLine) (s t u : Session) (n : ℕ) (energy : ℤ) (ended : Bool)
     (r : DebugReport) → AnswersLine commands line s t (Made n energy ended) → AnswersLine commands Back t u r

@@ -21,7 +21,7 @@ use Rattle.step_debugger.specs.Touches.{IsTouchedBack, common}
 
 apart_of : {X : Type 0} (xs : List X) → AllPairs ◌≢◌ xs → Apart xs
 apart_of [] h = tt
-apart_of {X} (x ∷ xs) h = ((λ i. let p = in_place x x xs i in h zero (suc p.0) x (omega arith) (let below_length : p.0 < length xs = p.1 in omega arith) (sym p.2)), apart_of xs (λ i j d l k e. h (suc i) (suc j) d (omega arith) (omega arith) e))
+apart_of {X} (x ∷ xs) h = ((λ i. let p = in_place x x xs i in h zero (suc p.0) x (omega arith) (let l : p.0 < length xs = p.1 in omega arith) (sym p.2)), apart_of xs (λ i j d l k e. h (suc i) (suc j) d (omega arith) (omega arith) e))
 
 module _ (old : Matrix) (undo : Undo) (h : HaveChanged old undo) where
   filled_is : (c : Coord) → In c undo.filled.items → IsInSpace old.resolution c × (is_full old c ≡ true)
@@ -65,8 +65,8 @@ module _ (old : Matrix) (undo : Undo) (h : HaveChanged old undo) where
       let w = filled_is c i in
       let a = among undo.filled.items c i in
       let v = not_among undo.voided.items c (λ j. not_both w.1 (voided_is c j).1) in
-      let not_full : is_full (matrix_before old undo.filled.items undo.voided.items) c ≡ false = new_at c w.0 ∙ (λ k. cond (v k) true (cond (a k) false (is_full old c))) in
-      or_by_first (is_full old c && not (is_full (matrix_before old undo.filled.items undo.voided.items) c)) (is_full (matrix_before old undo.filled.items undo.voided.items) c && not (is_full old c)) (both w.1 (ap not not_full))
+      let e : is_full (matrix_before old undo.filled.items undo.voided.items) c ≡ false = new_at c w.0 ∙ (λ k. cond (v k) true (cond (a k) false (is_full old c))) in
+      or_by_first (is_full old c && not (is_full (matrix_before old undo.filled.items undo.voided.items) c)) (is_full (matrix_before old undo.filled.items undo.voided.items) c && not (is_full old c)) (both w.1 (ap not e))
 
   voided_differs : (c : Coord) → In c undo.voided.items
       → differ_at old (matrix_before old undo.filled.items undo.voided.items) c ≡ true

@@ -95,9 +95,9 @@ module _ (p q : Progress) (command : Command) (rest : List Command) (v start bef
     made (Goes u) k e more w l =
         let r = pay w (Goes u) some (subst (λ (xs : List Command). Next p.state xs (p.steps + 1) (Goes u)) (sym front) k) in
         let h = within_each p.state (p.pending ++ command ∷ []) (p.steps + 1) (before + searched_by q.mark p.state.matrix) after r.0 t.paid (subst (λ (xs : List Command). WorkOfStep p.state xs (p.steps + 1) r.0) front r.2) in
-        let searched_is : searched_by q.mark p.state.matrix ≡ 0 = ap (λ (x : Progress). searched_by x.mark p.state.matrix) e ∙ searched_not u.bots p.state.matrix in
+        let s : searched_by q.mark p.state.matrix ≡ 0 = ap (λ (x : Progress). searched_by x.mark p.state.matrix) e ∙ searched_not u.bots p.state.matrix in
         let sum = r.4 in
-        subst (λ (x : Progress). Left x rest v start after n) (sym e) (on u u.bots refl r.1 (subst (λ (xs : List Command). WorkFrom u xs (p.steps + 1) r.1) back r.3) (omega (arith, h, searched_is, sum, l)))
+        subst (λ (x : Progress). Left x rest v start after n) (sym e) (on u u.bots refl r.1 (subst (λ (xs : List Command). WorkFrom u xs (p.steps + 1) r.1) back r.3) (omega (arith, h, s, sum, l)))
     made (Breaks b) k e more w l =
         let r = pay w (Breaks b) some (subst (λ (xs : List Command). Next p.state xs (p.steps + 1) (Breaks b)) (sym front) k) in
         let h = within_each p.state (p.pending ++ command ∷ []) (p.steps + 1) (before + searched_by q.mark p.state.matrix) after more t.paid (subst (λ (xs : List Command). WorkOfStep p.state xs (p.steps + 1) more) front r) in
