@@ -148,8 +148,8 @@ pub less_is : (n j : ℕ) (ks : List ℕ) → n < 2 ^ 64 → seed_list n ≡ j �
 less_is n j ks h e =
     let s : n ≡ 2 ^ j + seed_set ks = fewer n j ks h e in
     let p = parts n j ks e in
-    let n_is : n - 2 ^ j ≡ seed_set ks = omega arith in
-    (omega arith, ap seed_list n_is ∙ list_of_set ks (weaker (j + 1) 0 ks (omega arith) p.0.1) (λ k f. p.1 k (or_by_second (k == j) (contains ks k) f)))
+    let difference_is : n - 2 ^ j ≡ seed_set ks = omega arith in
+    (omega arith, ap seed_list difference_is ∙ list_of_set ks (weaker (j + 1) 0 ks (omega arith) p.0.1) (λ k f. p.1 k (or_by_second (k == j) (contains ks k) f)))
 
 -- the lowest bit is the least seed
 pub least_is : (n j : ℕ) (ks : List ℕ) → n < 2 ^ 64 → seed_list n ≡ j ∷ ks → trailing_zeros w64 n ≡ j

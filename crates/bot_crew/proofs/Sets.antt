@@ -54,13 +54,13 @@ between_is later kept m ks h g e f =
 
 -- seeds that follow one another
 row_is : (a n : ℕ) → seed_set (numbers_from a n) + 2 ^ a ≡ 2 ^ (a + n)
-row_is a zero = let a_is : a + zero ≡ a = omega arith in omega (arith, ap (λ v. 2 ^ v) a_is)
+row_is a zero = let sum_is : a + zero ≡ a = omega arith in omega (arith, ap (λ v. 2 ^ v) sum_is)
 row_is a (suc n) =
     let seed_set_is : seed_set (a ∷ numbers_from (a + 1) n) ≡ 2 ^ a + seed_set (numbers_from (a + 1) n) = seed_more a (numbers_from (a + 1) n) in
     let t : 2 ^ (a + 1) ≡ 2 ^ a * 2 = pow-add 2 a 1 in
     let r = row_is (a + 1) n in
-    let same_a : a + 1 + n ≡ a + suc n = omega arith in
-    omega (arith, r, ap (λ v. 2 ^ v) same_a)
+    let sum_is : a + 1 + n ≡ a + suc n = omega arith in
+    omega (arith, r, ap (λ v. 2 ^ v) sum_is)
 
 pub first_row : (n : ℕ) → n ≤ 39 → (1 * 2 ^ n % 2 ^ 64 - 1) * 4 % 2 ^ 64 ≡ seed_set (drop 2 (numbers_below (n + 2)))
 first_row n h =

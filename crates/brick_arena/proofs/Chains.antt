@@ -37,4 +37,4 @@ chain-opens m s (suc n) lt = let n_is : n ≡ suc n - 1 = omega arith in ap (λ 
 
 pub chain-adds : (m : ℕ → ℕ) (s n : ℕ) → chain m s (n + 1) ≡ s ∷ chain m (m (512 * s)) n
 unfolding chain
-chain-adds m s n = let same_n : n + 1 ≡ suc n = omega arith in ap (λ k. chain m s k) same_n
+chain-adds m s n = let sum_is : n + 1 ≡ suc n = omega arith in ap (λ k. chain m s k) sum_is

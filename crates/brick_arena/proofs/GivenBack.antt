@@ -27,8 +27,8 @@ module _ (cs ds : List (List ℕ)) (free vacant reached s p : ℕ) (old : IsAren
 
   longer : chain m' s (vacant + 1) ≡ s ∷ fs
   longer =
-      let s_is : 512 * s ≡ p = omega (arith, first) in
-      chain-adds m' s vacant ∙ ap (λ k. s ∷ chain m' k vacant) (ap m' s_is ∙ stored.here)
+      let product_is : 512 * s ≡ p = omega (arith, first) in
+      chain-adds m' s vacant ∙ ap (λ k. s ∷ chain m' k vacant) (ap m' product_is ∙ stored.here)
       ∙ ap (λ l. s ∷ l) (links cs ds free vacant reached s 0 free p old stored first small lt live)
 
   pub view_given : view_of ds s (vacant + 1) reached ≡ remove v s

@@ -98,8 +98,8 @@ lined-range n w cs i lt =
           ∙ get_or-replicate n (k - i) (Some w) None (omega (arith, from, to));
       below = λ k to. get_or_append_left (take i cs) (zs ++ rest) None k (omega (arith, front, to)) ∙ get_or-take i cs k None to;
       above = λ k from.
-          let i_is : i + (n + (k - i - n)) ≡ k = omega (arith, from) in
+          let sum_is : i + (n + (k - i - n)) ≡ k = omega (arith, from) in
           get_or-append_right (take i cs) (zs ++ rest) i k None front (omega (arith, from))
           ∙ get_or-append_right zs rest n (k - i) None (length-replicate n (Some w)) (omega (arith, from))
-          ∙ get_or-drop n (drop i cs) (k - i - n) None ∙ get_or-drop i cs (n + (k - i - n)) None ∙ ap (λ j. get_or cs j None) i_is;
+          ∙ get_or-drop n (drop i cs) (k - i - n) None ∙ get_or-drop i cs (n + (k - i - n)) None ∙ ap (λ j. get_or cs j None) sum_is;
     }

@@ -67,10 +67,10 @@ module _ (cs : List (List ℕ)) (free vacant reached : ℕ) (arena : IsArena cs 
         full = ap (λ ws. length ws) e ∙ (arena.chunks (s / 64) below_length).full;
         each = λ i lt.
             let q : s / 64 ≡ (512 * s + i) / 32768 = omega arith in
-            let same_s : s % 64 * 512 + i ≡ (512 * s + i) % 32768 = omega arith in
+            let sum_is : s % 64 * 512 + i ≡ (512 * s + i) % 32768 = omega arith in
             ap (λ ws. get_or ws (s % 64 * 512 + i) 0) e
             ∙ ap (λ k. get_or (get_or cs k []) (s % 64 * 512 + i) 0) q
-            ∙ ap (λ k. get_or (get_or cs ((512 * s + i) / 32768) []) k 0) same_s
+            ∙ ap (λ k. get_or (get_or cs ((512 * s + i) / 32768) []) k 0) sum_is
             ∙ sym (get-row m (512 * s) 512 i 0 lt)
             ∙ sym (ap (λ words. get_or words i 0) (words-live s at.0 at.1))
             ∙ ap (λ w. get_or (words_of w s) i 0) is;

@@ -41,7 +41,7 @@ module _ (cs : List (List ℕ)) (free vacant reached : ℕ) (old : IsArena cs fr
     m' = chunk_word ds
 
     first_stays : (t : ℕ) → (t ≡ free → ⊥) → m' (512 * t) ≡ m (512 * t)
-    first_stays t ne = let same_t : 512 * t ≡ 512 * t + 0 = omega arith in ap m' same_t ∙ cleared.others t 0 ne (omega arith) ∙ ap m (sym same_t)
+    first_stays t ne = let product_is : 512 * t ≡ 512 * t + 0 = omega arith in ap m' product_is ∙ cleared.others t 0 ne (omega arith) ∙ ap m (sym product_is)
 
     words_stay : (t : ℕ) → (t ≡ free → ⊥) → slot_words m' t ≡ slot_words m t
     words_stay t ne = row-same m m' (512 * t) 512 (λ k lt. cleared.others t k ne lt)

@@ -39,7 +39,7 @@ module _ (cs ds : List (List ℕ)) (free vacant reached s : ℕ) (ws : List ℕ)
   kept_words t ne = row-same m m' (512 * t) 512 (λ k lk. others (512 * t + k) (elsewhere s t k ne lk))
 
   first_stays : (t : ℕ) → (t ≡ s → ⊥) → m' (512 * t) ≡ m (512 * t)
-  first_stays t ne = let same_t : 512 * t ≡ 512 * t + 0 = omega arith in ap m' same_t ∙ (others (512 * t + 0) (elsewhere s t 0 ne (omega arith)) ∙ ap m (sym same_t))
+  first_stays t ne = let product_is : 512 * t ≡ 512 * t + 0 = omega arith in ap m' product_is ∙ (others (512 * t + 0) (elsewhere s t 0 ne (omega arith)) ∙ ap m (sym product_is))
 
   kept_links : chain m' free vacant ≡ fs
   kept_links = chain-stays m m' s free vacant first_stays live
@@ -72,7 +72,7 @@ module _ (cs ds : List (List ℕ)) (free vacant reached s i w p : ℕ) (old : Is
   others q ne = stored.others q (λ e. ne (omega (arith, e, at)))
 
   word_here : chunk_word ds (512 * s + i) ≡ w
-  word_here = let s_is : 512 * s + i ≡ p = omega (arith, at) in ap (chunk_word ds) s_is ∙ stored.here
+  word_here = let sum_is : 512 * s + i ≡ p = omega (arith, at) in ap (chunk_word ds) sum_is ∙ stored.here
 
   words_set : slot_words (chunk_word ds) s ≡ set (words_of (view_of cs free vacant reached) s) i w
   words_set =
@@ -154,7 +154,7 @@ row_last v s i k w live long l =
 module _ (cs ds : List (List ℕ)) (free vacant reached s i w p : ℕ) (old : IsArena cs free vacant reached) (stored : IsRowStored cs ds p w) (at : p ≡ s * 512 + i) (li : i + 8 ≤ 512)
     (lt : s < reached) (live : is_listed s (chain (chunk_word cs) free vacant) ≡ false) where
   row_here : (k : ℕ) → k < 8 → chunk_word ds (512 * s + (i + k)) ≡ w
-  row_here k l = let s_is : 512 * s + (i + k) ≡ p + k = omega (arith, at) in ap (chunk_word ds) s_is ∙ stored.here k l
+  row_here k l = let sum_is : 512 * s + (i + k) ≡ p + k = omega (arith, at) in ap (chunk_word ds) sum_is ∙ stored.here k l
 
   row_others : (q : ℕ) → ((k : ℕ) → k < 8 → q ≡ 512 * s + (i + k) → ⊥) → chunk_word ds q ≡ chunk_word cs q
   row_others q ne = stored.others q (λ k l e. ne k l (omega (arith, e, at)))
@@ -172,8 +172,8 @@ module _ (cs ds : List (List ℕ)) (free vacant reached s i w p : ℕ) (old : Is
       each k b (inl f) o = row_others (512 * s + k) (λ j l e. absurd (omega arith)) ∙ sym (outside (slot_words (chunk_word cs) s) i 8 w k (λ j l e. absurd (omega arith)) ∙ get-row (chunk_word cs) (512 * s) 512 k 0 b)
       each k b (inr f) (inr o) = row_others (512 * s + k) (λ j l e. absurd (omega arith)) ∙ sym (outside (slot_words (chunk_word cs) s) i 8 w k (λ j l e. absurd (omega arith)) ∙ get-row (chunk_word cs) (512 * s) 512 k 0 b)
       each k b (inr f) (inl o) =
-          let same_s : 512 * s + k ≡ 512 * s + (i + (k - i)) = omega arith in
-          ap (chunk_word ds) same_s ∙ (row_here (k - i) (omega arith) ∙ sym (inside (slot_words (chunk_word cs) s) i 8 w k f o (let long : length (slot_words (chunk_word cs) s) ≡ 512 = length-row (chunk_word cs) (512 * s) 512 in omega arith)))
+          let sum_is : 512 * s + k ≡ 512 * s + (i + (k - i)) = omega arith in
+          ap (chunk_word ds) sum_is ∙ (row_here (k - i) (omega arith) ∙ sym (inside (slot_words (chunk_word cs) s) i 8 w k f o (let long : length (slot_words (chunk_word cs) s) ≡ 512 = length-row (chunk_word cs) (512 * s) 512 in omega arith)))
 
   row_apart : (q : ℕ) → IsElsewhere s q → chunk_word ds q ≡ chunk_word cs q
   row_apart q (inl b) = row_others q (λ k l e. absurd (omega arith))

@@ -22,15 +22,15 @@ cut_at_start m x y = λ t. refl
 
 -- directly after a void voxel no full one stands before
 before_void : (m : Matrix) (x y z : ℕ) → is_full_at m x y z ≡ false → full_before m x y (z + 1) ≡ 0
-before_void m x y z e = (let same_z : z + 1 ≡ suc z = omega arith in ap (full_before m x y) same_z) ∙ (before-suc m x y z ∙ ap (λ b. cond b (full_before m x y z + 1) 0) e)
+before_void m x y z e = (let sum_is : z + 1 ≡ suc z = omega arith in ap (full_before m x y) sum_is) ∙ (before-suc m x y z ∙ ap (λ b. cond b (full_before m x y z + 1) 0) e)
 
 -- n full voxels are n more
 before_full : (m : Matrix) (x y a n : ℕ) → ((k : ℕ) → a ≤ k → k < a + n → is_full_at m x y k ≡ true)
     → full_before m x y (a + n) ≡ full_before m x y a + n
-before_full m x y a zero h = (let a_is : a + 0 ≡ a = omega arith in ap (full_before m x y) a_is) ∙ (let same_full_before : full_before m x y a ≡ full_before m x y a + 0 = omega arith in same_full_before)
+before_full m x y a zero h = (let sum_is : a + 0 ≡ a = omega arith in ap (full_before m x y) sum_is) ∙ (let same_full_before : full_before m x y a ≡ full_before m x y a + 0 = omega arith in same_full_before)
 before_full m x y a (suc n) h =
     let rest = before_full m x y a n (λ k l p. h k l (omega arith)) in
-    (let same_a : a + suc n ≡ suc (a + n) = omega arith in ap (full_before m x y) same_a)
+    (let sum_is : a + suc n ≡ suc (a + n) = omega arith in ap (full_before m x y) sum_is)
     ∙ (before-suc m x y (a + n) ∙ (ap (λ b. cond b (full_before m x y (a + n) + 1) 0) (h (a + n) (omega arith) (omega arith)) ∙ omega (arith, rest)))
 
 not_multiple : (b : Bool) (n : ℕ) → 0 < n % 31 → (b && n % 31 == 0) ≡ false

@@ -8,7 +8,7 @@ use Rattle.vox_geom.proofs.Sums.{most_cube}
 -- both sweeps, the way up, the way home, two Flips and the Halt
 pub total : (r : ℕ) → 1 ≤ r → r + 3 + 2 * ((r - 1) * layer_bytes r) + 2 * r + 2 ≤ 8 * r * r * r + 200
 total zero h = omega arith
-total (suc s) h = let s_is : suc s - 1 ≡ s = omega arith in rw s_is (omega arith)
+total (suc s) h = let difference_is : suc s - 1 ≡ s = omega arith in rw difference_is (omega arith)
 
 pub total_fits : (r : ℕ) → 1 ≤ r → r ≤ 400 → r + 3 + 2 * ((r - 1) * layer_bytes r) + 2 * r + 2 < 1073741824
 total_fits r h l = omega (arith, total r h, most_cube r l)

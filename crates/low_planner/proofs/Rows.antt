@@ -158,7 +158,7 @@ reach_here r a = let distance_is : distance a a ≡ 0 = omega arith in omega ari
 pub reach_row : (r : ℕ) (a b : Coord) → b.x ≡ a.x → b.y ≡ a.y → a.z ≤ b.z → IsWithinReach r a b
 reach_row r a b x y z =
     let distance_is : distance a b ≡ b.z - a.z = omega arith in
-    let same_r : 3 * r * (b.y * r + b.x) ≡ 3 * r * (a.y * r + a.x) = (λ i. 3 * r * (y i * r + x i)) in
+    let product_is : 3 * r * (b.y * r + b.x) ≡ 3 * r * (a.y * r + a.x) = (λ i. 3 * r * (y i * r + x i)) in
     omega arith
 
 -- where the voxels of a row that rest were visited, those before a coordinate further on in it were too

@@ -54,11 +54,11 @@ byte_more old new bytes places from k count byte ef ec eb before set p l m = set
         → cond (is_from from count p) (bit byte (p - from)) (voxel_at old p) ≡ voxel_bit bytes p
     by (inl h) = ap (λ b. cond b (bit byte (p - from)) (voxel_at old p)) (before_these from count p h) ∙ before p (omega arith) m
     by (inr h) =
-        let p_is : p / 8 ≡ k = omega arith in
-        let same_p : p % 8 ≡ p - from = omega arith in
+        let quotient_is : p / 8 ≡ k = omega arith in
+        let remainder_is : p % 8 ≡ p - from = omega arith in
         ap (λ b. cond b (bit byte (p - from)) (voxel_at old p)) (one_of_these from count p h (omega (arith, ec)))
         ∙ ((λ i. bit (eb i) (p - from))
-        ∙ sym (λ i. bit (slice_index bytes (1 + p_is i)) (same_p i)))
+        ∙ sym (λ i. bit (slice_index bytes (1 + quotient_is i)) (remainder_is i)))
 
 -- ---- writing
 
@@ -68,7 +68,7 @@ numbers_more f n a = ap (λ k. map f (numbers_from a k)) (add-one n) ∙ by n a
   where
     by : (n a : ℕ) → map f (numbers_from a (suc n)) ≡ map f (numbers_from a n) ++ f (a + n) ∷ []
     by zero a = ap (λ v. f v ∷ []) (let a_is : a ≡ a + 0 = omega arith in a_is)
-    by (suc n) a = ap (λ xs. f a ∷ xs) (by n (a + 1) ∙ ap (λ v. map f (numbers_from (a + 1) n) ++ f v ∷ []) (let same_a : a + 1 + n ≡ a + suc n = omega arith in same_a))
+    by (suc n) a = ap (λ xs. f a ∷ xs) (by n (a + 1) ∙ ap (λ v. map f (numbers_from (a + 1) n) ++ f v ∷ []) (let sum_is : a + 1 + n ≡ a + suc n = omega arith in sum_is))
 
 -- a byte is the sum of its bits
 eight : (n : ℕ) → n < 256 → n ≡ n % 2 + n / 2 % 2 * 2 + n / 4 % 2 * 4 + n / 8 % 2 * 8 + n / 16 % 2 * 16
@@ -89,8 +89,8 @@ bits_sum n l =
     let e : n / 16 % 2 * 16 ≡ cond (bit n 4) 16 0 = worth (n / 16 % 2) 16 (omega arith) in
     let f : n / 32 % 2 * 32 ≡ cond (bit n 5) 32 0 = worth (n / 32 % 2) 32 (omega arith) in
     let g : n / 64 % 2 * 64 ≡ cond (bit n 6) 64 0 = worth (n / 64 % 2) 64 (omega arith) in
-    let n_is : n / 128 % 2 * 128 ≡ cond (bit n 7) 128 0 = worth (n / 128 % 2) 128 (omega arith) in
-    start ∙ (λ j. 0 + a j + b j + c j + d j + e j + f j + g j + n_is j)
+    let product_is : n / 128 % 2 * 128 ≡ cond (bit n 7) 128 0 = worth (n / 128 % 2) 128 (omega arith) in
+    start ∙ (λ j. 0 + a j + b j + c j + d j + e j + f j + g j + product_is j)
   where
     start : n ≡ 0 + n / 1 % 2 * 1 + n / 2 % 2 * 2 + n / 4 % 2 * 4 + n / 8 % 2 * 8 + n / 16 % 2 * 16 + n / 32 % 2 * 32
         + n / 64 % 2 * 64 + n / 128 % 2 * 128

@@ -36,7 +36,7 @@ bytes_of bytes at n small e = by (small at) (small (at + 1)) (small (at + 2)) (s
         → slice_index bytes (at + 3) < 256 → slice_index bytes (at + 4) < 256 → slice_index bytes (at + 5) < 256
         → slice_index bytes (at + 6) < 256 → slice_index bytes (at + 7) < 256 → (j : ℕ) → j < 8
         → n / 2 ^ (8 * j) % 256 ≡ slice_index bytes (at + j)
-    by a b c d f g h i zero l = let n_is : n / 1 % 256 ≡ slice_index bytes at = omega (arith, e) in n_is ∙ ap (slice_index bytes) (let at_is : at ≡ at + 0 = omega arith in at_is)
+    by a b c d f g h i zero l = let quotient_is : n / 1 % 256 ≡ slice_index bytes at = omega (arith, e) in quotient_is ∙ ap (slice_index bytes) (let at_is : at ≡ at + 0 = omega arith in at_is)
     by a b c d f g h i (suc zero) l = omega (arith, e)
     by a b c d f g h i (suc (suc zero)) l = omega (arith, e)
     by a b c d f g h i (suc (suc (suc zero))) l = omega (arith, e)
@@ -67,8 +67,8 @@ word_more old new bytes k word w before set p l = set p ∙ by (cases_lt p (64 *
         → cond (is_from (64 * k) 64 p) (bit word (p - 64 * k)) (voxel_at old p) ≡ voxel_bit bytes p
     by (inl h) = ap (λ b. cond b (bit word (p - 64 * k)) (voxel_at old p)) (before_these (64 * k) 64 p h) ∙ before p h
     by (inr h) =
-        let k_is : 1 + 8 * k + (p - 64 * k) / 8 ≡ 1 + p / 8 = omega arith in
-        let same_p : (p - 64 * k) % 8 ≡ p % 8 = omega arith in
+        let sum_is : 1 + 8 * k + (p - 64 * k) / 8 ≡ 1 + p / 8 = omega arith in
+        let remainder_is : (p - 64 * k) % 8 ≡ p % 8 = omega arith in
         ap (λ b. cond b (bit word (p - 64 * k)) (voxel_at old p)) (one_of_these (64 * k) 64 p h (omega arith))
         ∙ (w (p - 64 * k) (omega arith)
-        ∙ λ i. bit (slice_index bytes (k_is i)) (same_p i))
+        ∙ λ i. bit (slice_index bytes (sum_is i)) (remainder_is i))

@@ -104,17 +104,17 @@ said total (a ∷ b ∷ c ∷ d ∷ more) index sum ns bound h =
 same_voxels : (k n : ℕ) (value : Bool) (rest : List Bool)
     → run_lengths n value (replicate k value ++ rest) ≡ run_lengths (n + k) value rest
 same_voxels zero n value rest = ap (λ v. run_lengths v value rest) (let n_is : n ≡ n + 0 = omega arith in n_is)
-same_voxels (suc k) n true rest = same_voxels k (n + 1) true rest ∙ ap (λ v. run_lengths v true rest) (let same_n : n + 1 + k ≡ n + suc k = omega arith in same_n)
-same_voxels (suc k) n false rest = same_voxels k (n + 1) false rest ∙ ap (λ v. run_lengths v false rest) (let same_n : n + 1 + k ≡ n + suc k = omega arith in same_n)
+same_voxels (suc k) n true rest = same_voxels k (n + 1) true rest ∙ ap (λ v. run_lengths v true rest) (let sum_is : n + 1 + k ≡ n + suc k = omega arith in sum_is)
+same_voxels (suc k) n false rest = same_voxels k (n + 1) false rest ∙ ap (λ v. run_lengths v false rest) (let sum_is : n + 1 + k ≡ n + suc k = omega arith in sum_is)
 
 lengths_back : (ns : List ℕ) (index n : ℕ) (value : Bool) → 1 ≤ index → AreRuns index ns
     → run_lengths n value (voxels_of (not value) ns) ≡ n ∷ ns
 lengths_back [] index n value l h = refl
 lengths_back (zero ∷ ns) index n value l h = let index_is : index ≡ 0 = h.0 refl in absurd (omega arith)
 lengths_back (suc k ∷ ns) index n true l h =
-    ap (λ xs. n ∷ xs) (same_voxels k 1 false (voxels_of true ns) ∙ (ap (λ v. run_lengths v false (voxels_of true ns)) (let same_k : 1 + k ≡ suc k = omega arith in same_k) ∙ lengths_back ns (index + 1) (suc k) false (omega arith) h.1))
+    ap (λ xs. n ∷ xs) (same_voxels k 1 false (voxels_of true ns) ∙ (ap (λ v. run_lengths v false (voxels_of true ns)) (let sum_is : 1 + k ≡ suc k = omega arith in sum_is) ∙ lengths_back ns (index + 1) (suc k) false (omega arith) h.1))
 lengths_back (suc k ∷ ns) index n false l h =
-    ap (λ xs. n ∷ xs) (same_voxels k 1 true (voxels_of false ns) ∙ (ap (λ v. run_lengths v true (voxels_of false ns)) (let same_k : 1 + k ≡ suc k = omega arith in same_k) ∙ lengths_back ns (index + 1) (suc k) true (omega arith) h.1))
+    ap (λ xs. n ∷ xs) (same_voxels k 1 true (voxels_of false ns) ∙ (ap (λ v. run_lengths v true (voxels_of false ns)) (let sum_is : 1 + k ≡ suc k = omega arith in sum_is) ∙ lengths_back ns (index + 1) (suc k) true (omega arith) h.1))
 
 runs_again : (n : ℕ) (ns : List ℕ) → AreRuns 0 (n ∷ ns) → run_lengths 0 false (voxels_of false (n ∷ ns)) ≡ n ∷ ns
 runs_again n ns h = same_voxels n 0 false (voxels_of true ns) ∙ (ap (λ v. run_lengths v false (voxels_of true ns)) (zero-add n) ∙ lengths_back ns 1 n false (omega arith) h.1)
@@ -233,11 +233,11 @@ no_voxel r bytes p l = get_or_past (said_voxels r bytes) p false (let length_is 
 in_byte : (r : ℕ) (more : List ℕ) (k i : ℕ) → i < 8 → 8 * k + i < volume r → get_or (said_voxels r (r ∷ more)) (8 * k + i) false ≡ bit (get_or more k 0) i
 in_byte r more k i u l =
     let q : (8 * k + i) / 8 ≡ k = omega arith in
-    let k_is : (8 * k + i) % 8 ≡ i = omega arith in
-    voxel_said r (r ∷ more) (8 * k + i) l ∙ ((λ j. bit (slice_index (r ∷ more) (1 + q j)) (k_is j)) ∙ ap (λ v. bit v i) (next k))
+    let remainder_is : (8 * k + i) % 8 ≡ i = omega arith in
+    voxel_said r (r ∷ more) (8 * k + i) l ∙ ((λ j. bit (slice_index (r ∷ more) (1 + q j)) (remainder_is j)) ∙ ap (λ v. bit v i) (next k))
   where
     next : (k : ℕ) → get_or (r ∷ more) (1 + k) 0 ≡ get_or more k 0
-    next k = ap (λ n. get_or (r ∷ more) n 0) (let same_k : 1 + k ≡ suc k = omega arith in same_k)
+    next k = ap (λ n. get_or (r ∷ more) n 0) (let sum_is : 1 + k ≡ suc k = omega arith in sum_is)
 
 byte_again : (r : ℕ) (more : List ℕ) (k : ℕ) → All (λ b. b < 256) more → length more ≡ (volume r + 7) / 8
     → k < length more → get_or (cut_last (used_bits r) more) k 0 ≡ byte_at (said_voxels r (r ∷ more)) k

@@ -33,14 +33,14 @@ raised_bit : (n s j : ℕ) → s ≤ j → j < 64 → bit_at (n * 2 ^ s % 2 ^ 64
 raised_bit n s j l u =
     let split : n * 2 ^ s / 2 ^ 64 * 2 ^ 64 + n * 2 ^ s % 2 ^ 64 ≡ n * 2 ^ s = omega (arith, div-add-mod (n * 2 ^ s) (2 ^ 64)) in
     sym (bit_at_cat_low (n * 2 ^ s / 2 ^ 64) 64 (n * 2 ^ s % 2 ^ 64) j u)
-    ∙ (ap (λ v. bit_at v j) (split ∙ (let same_n : n * 2 ^ s ≡ n * 2 ^ s + 0 = omega arith in same_n))
+    ∙ (ap (λ v. bit_at v j) (split ∙ (let product_is : n * 2 ^ s ≡ n * 2 ^ s + 0 = omega arith in product_is))
     ∙ bit_at_cat_high n s 0 j (pow_pos s) l)
 
 low_zero : (n s j : ℕ) → j < s → s ≤ 64 → bit_at (n * 2 ^ s % 2 ^ 64) j ≡ 0
 low_zero n s j l u =
     let split : n * 2 ^ s / 2 ^ 64 * 2 ^ 64 + n * 2 ^ s % 2 ^ 64 ≡ n * 2 ^ s = omega (arith, div-add-mod (n * 2 ^ s) (2 ^ 64)) in
     sym (bit_at_cat_low (n * 2 ^ s / 2 ^ 64) 64 (n * 2 ^ s % 2 ^ 64) j (omega arith))
-    ∙ (ap (λ v. bit_at v j) (split ∙ (let same_n : n * 2 ^ s ≡ n * 2 ^ s + 0 = omega arith in same_n))
+    ∙ (ap (λ v. bit_at v j) (split ∙ (let product_is : n * 2 ^ s ≡ n * 2 ^ s + 0 = omega arith in product_is))
     ∙ (bit_at_cat_low n s 0 j l ∙ bit_at_above 0 0 j (omega arith) (omega arith)))
 
 pub one_of : (d : ℕ) → (d == 1) ≡ true → d ≡ 1
@@ -169,13 +169,13 @@ module _ (s : Stretch) (r : ℕ) (start : IsStart MOST_R s) (most : r ≤ MOST_R
           let from = a.from in
           let t = a.to in
           let l = h.0 in
-          let same_z : d.z - s.first.z - 1 ≡ d.z - 1 - s.first.z = omega arith in
-          along (d.z - 1) d a.x a.y (omega arith) (omega arith) (ap (bit s.bits) (sym same_z) ∙ h.1) (omega arith)
+          let difference_is : d.z - s.first.z - 1 ≡ d.z - 1 - s.first.z = omega arith in
+          along (d.z - 1) d a.x a.y (omega arith) (omega arith) (ap (bit s.bits) (sym difference_is) ∙ h.1) (omega arith)
       by (inr h) =
           let from = a.from in
           let l = h.0 in
-          let same_z : d.z - s.first.z + 1 ≡ d.z + 1 - s.first.z = omega arith in
-          along (d.z + 1) d a.x a.y (omega arith) (omega arith) (ap (bit s.bits) (sym same_z) ∙ h.1) (omega arith)
+          let sum_is : d.z - s.first.z + 1 ≡ d.z + 1 - s.first.z = omega arith in
+          along (d.z + 1) d a.x a.y (omega arith) (omega arith) (ap (bit s.bits) (sym sum_is) ∙ h.1) (omega arith)
 
   pub near_after : (d : Coord) → IsInSpace r d
       → IsAmong (record { first = record { x = s.first.x; y = s.first.y; z = s.first.z + 64 }; bits = s.bits / 2 ^ 63 }) d
@@ -185,8 +185,8 @@ module _ (s : Stretch) (r : ℕ) (start : IsStart MOST_R s) (most : r ≤ MOST_R
       let k : ℕ = d.z - (s.first.z + 64) in
       let b : bit s.bits (63 + (d.z - (s.first.z + 64))) ≡ true = is_one (bit_at s.bits (63 + (d.z - (s.first.z + 64)))) (sym (shifted_bit s.bits 63 (d.z - (s.first.z + 64))) ∙ one_of (bit_at (s.bits / 2 ^ 63) (d.z - (s.first.z + 64))) a.here) in
       let z_below_64 : 63 + (d.z - (s.first.z + 64)) < 64 = inside s.bits (63 + (d.z - (s.first.z + 64))) fits b in
-      let same_z : 63 + (d.z - (s.first.z + 64)) ≡ s.first.z + 63 - s.first.z = omega arith in
-      along (s.first.z + 63) d a.x a.y (omega arith) (omega arith) (ap (bit s.bits) (sym same_z) ∙ b) (omega arith)
+      let sum_is : 63 + (d.z - (s.first.z + 64)) ≡ s.first.z + 63 - s.first.z = omega arith in
+      along (s.first.z + 63) d a.x a.y (omega arith) (omega arith) (ap (bit s.bits) (sym sum_is) ∙ b) (omega arith)
 
   pub near_before : (d : Coord) → IsInSpace r d
       → IsAmong (record { first = record { x = s.first.x; y = s.first.y; z = word_less s.first.z }; bits = s.bits * 2 ^ 63 % 2 ^ 64 }) d
@@ -207,8 +207,8 @@ module _ (s : Stretch) (r : ℕ) (start : IsStart MOST_R s) (most : r ≤ MOST_R
           cc
       by (inr l) u w =
           let from = a.from in
-          let same_z : d.z - word_less s.first.z - 63 ≡ s.first.z - s.first.z = omega arith in
-          let b : bit s.bits (s.first.z - s.first.z) ≡ true = is_one (bit_at s.bits (s.first.z - s.first.z)) (ap (bit_at s.bits) (sym same_z) ∙ (sym (raised_bit s.bits 63 (d.z - word_less s.first.z) l u) ∙ one_of (bit_at (s.bits * 2 ^ 63 % 2 ^ 64) (d.z - word_less s.first.z)) a.here)) in
+          let difference_is : d.z - word_less s.first.z - 63 ≡ s.first.z - s.first.z = omega arith in
+          let b : bit s.bits (s.first.z - s.first.z) ≡ true = is_one (bit_at s.bits (s.first.z - s.first.z)) (ap (bit_at s.bits) (sym difference_is) ∙ (sym (raised_bit s.bits 63 (d.z - word_less s.first.z) l u) ∙ one_of (bit_at (s.bits * 2 ^ 63 % 2 ^ 64) (d.z - word_less s.first.z)) a.here)) in
           along s.first.z d a.x a.y (omega arith) (omega arith) b (omega arith)
 
   -- what holds of all seven stretches holds of each coordinate that is beside
@@ -241,20 +241,20 @@ module _ (s : Stretch) (r : ℕ) (start : IsStart MOST_R s) (most : r ≤ MOST_R
           next x y z (inl l) =
               let among = h.among in
               let f = among.from in
-              let same_z : d.z - s.first.z ≡ h.one.z - s.first.z + 1 = omega arith in
-              p5 d (record { x = x ∙ among.x; y = y ∙ among.y; from = omega arith; to = omega arith; here = ap (bit (moved s.bits)) same_z ∙ up s.bits (h.one.z - s.first.z) l among.here })
+              let difference_is : d.z - s.first.z ≡ h.one.z - s.first.z + 1 = omega arith in
+              p5 d (record { x = x ∙ among.x; y = y ∙ among.y; from = omega arith; to = omega arith; here = ap (bit (moved s.bits)) difference_is ∙ up s.bits (h.one.z - s.first.z) l among.here })
           next x y z (inr l) =
               let among = h.among in
               let f = among.from in
               let t = among.to in
               let k : h.one.z - s.first.z ≡ 63 + 0 = omega arith in
-              let z_is : d.z - (s.first.z + 64) ≡ 0 = omega arith in
+              let difference_is : d.z - (s.first.z + 64) ≡ 0 = omega arith in
               p6 d (record {
                 x = x ∙ among.x;
                 y = y ∙ among.y;
                 from = omega arith;
                 to = omega arith;
-                here = ap (bit (s.bits / 2 ^ 63)) z_is ∙ is_one (bit_at (s.bits / 2 ^ 63) 0) (shifted_bit s.bits 63 0 ∙ (ap (bit_at s.bits) (sym k) ∙ one_of (bit_at s.bits (h.one.z - s.first.z)) among.here));
+                here = ap (bit (s.bits / 2 ^ 63)) difference_is ∙ is_one (bit_at (s.bits / 2 ^ 63) 0) (shifted_bit s.bits 63 0 ∙ (ap (bit_at s.bits) (sym k) ∙ one_of (bit_at s.bits (h.one.z - s.first.z)) among.here));
               })
       by (behind x y z) = last x y z (cases_lt 0 (h.one.z - s.first.z))
         where
@@ -263,8 +263,8 @@ module _ (s : Stretch) (r : ℕ) (start : IsStart MOST_R s) (most : r ≤ MOST_R
           last x y z (inl l) =
               let among = h.among in
               let t = among.to in
-              let same_z : h.one.z - s.first.z ≡ d.z - s.first.z + 1 = omega arith in
-              p5 d (record { x = x ∙ among.x; y = y ∙ among.y; from = omega arith; to = omega arith; here = down s.bits (d.z - s.first.z) (ap (bit s.bits) (sym same_z) ∙ among.here) })
+              let difference_is : h.one.z - s.first.z ≡ d.z - s.first.z + 1 = omega arith in
+              p5 d (record { x = x ∙ among.x; y = y ∙ among.y; from = omega arith; to = omega arith; here = down s.bits (d.z - s.first.z) (ap (bit s.bits) (sym difference_is) ∙ among.here) })
           last x y z (inr l) =
               let among = h.among in
               let f = among.from in
@@ -272,11 +272,11 @@ module _ (s : Stretch) (r : ℕ) (start : IsStart MOST_R s) (most : r ≤ MOST_R
               let u = w.z in
               let k : h.one.z - s.first.z ≡ 63 - 63 = omega arith in
               let less : s.first.z ≡ word_less s.first.z + 64 = omega arith in
-              let z_is : d.z - word_less s.first.z ≡ 63 = omega arith in
+              let difference_is : d.z - word_less s.first.z ≡ 63 = omega arith in
               p7 d (record {
                 x = x ∙ among.x;
                 y = y ∙ among.y;
                 from = omega arith;
                 to = omega arith;
-                here = ap (bit (s.bits * 2 ^ 63 % 2 ^ 64)) z_is ∙ is_one (bit_at (s.bits * 2 ^ 63 % 2 ^ 64) 63) (raised_bit s.bits 63 63 (omega arith) (omega arith) ∙ (ap (bit_at s.bits) (sym k) ∙ one_of (bit_at s.bits (h.one.z - s.first.z)) among.here));
+                here = ap (bit (s.bits * 2 ^ 63 % 2 ^ 64)) difference_is ∙ is_one (bit_at (s.bits * 2 ^ 63 % 2 ^ 64) 63) (raised_bit s.bits 63 63 (omega arith) (omega arith) ∙ (ap (bit_at s.bits) (sym k) ∙ one_of (bit_at s.bits (h.one.z - s.first.z)) among.here));
               })

@@ -32,8 +32,8 @@ split_at [] commands i b k h e f g = absurd (omega arith)
 split_at (x ∷ bots) [] i b k h e f g = absurd (omega arith)
 split_at (x ∷ bots) (y ∷ commands) zero b k h e f g = λ n. act (sym f n) (sym g n) ∷ acts bots commands
 split_at (x ∷ bots) (y ∷ commands) (suc i) b k h e f g =
-    let same_i : suc (i + 1) ≡ suc i + 1 = omega arith in
-    ap (λ (more : List Act). act x y ∷ more) (split_at bots commands i b k (omega arith) (omega arith) f g ∙ ap (λ j. acts (take i bots) (take i commands) ++ act b k ∷ acts (drop j (x ∷ bots)) (drop j (y ∷ commands))) same_i)
+    let successor_is : suc (i + 1) ≡ suc i + 1 = omega arith in
+    ap (λ (more : List Act). act x y ∷ more) (split_at bots commands i b k (omega arith) (omega arith) f g ∙ ap (λ j. acts (take i bots) (take i commands) ++ act b k ∷ acts (drop j (x ∷ bots)) (drop j (y ∷ commands))) successor_is)
 
 pub take_more : (bots : List Bot) (commands : List Command) (i : ℕ) (b : Bot) (k : Command) → i < length bots
     → length commands ≡ length bots → b ≡ get_or bots i b → k ≡ get_or commands i k
@@ -42,8 +42,8 @@ take_more [] commands i b k h e f g = absurd (omega arith)
 take_more (x ∷ bots) [] i b k h e f g = absurd (omega arith)
 take_more (x ∷ bots) (y ∷ commands) zero b k h e f g = λ n. act (sym f n) (sym g n) ∷ []
 take_more (x ∷ bots) (y ∷ commands) (suc i) b k h e f g =
-    let same_i : suc i + 1 ≡ suc (i + 1) = omega arith in
-    ap (λ j. acts (take j (x ∷ bots)) (take j (y ∷ commands))) same_i
+    let sum_is : suc i + 1 ≡ suc (i + 1) = omega arith in
+    ap (λ j. acts (take j (x ∷ bots)) (take j (y ∷ commands))) sum_is
     ∙ ap (λ (more : List Act). act x y ∷ more) (take_more bots commands i b k (omega arith) (omega arith) f g)
 
 pub in_middle : {X : Type 0} (xs ys : List X) (a : X) → In a (xs ++ a ∷ ys)

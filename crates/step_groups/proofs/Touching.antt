@@ -136,6 +136,6 @@ sum_at T (x ∷ bots) [] i b k h e f g = absurd (omega arith)
 sum_at T (x ∷ bots) (y ∷ commands) zero b k h e f g =
     sum_by-cons T (act x y) (acts bots commands) ∙ (λ n. T (act (sym f n) (sym g n)) + sum_by T (acts bots commands))
 sum_at T (x ∷ bots) (y ∷ commands) (suc i) b k h e f g =
-    let same_i : suc (i + 1) ≡ suc i + 1 = omega arith in
+    let successor_is : suc (i + 1) ≡ suc i + 1 = omega arith in
     sum_at T bots commands i b k (omega arith) (omega arith) f g
-    ∙ ap (λ j. T (act b k) + sum_by T (acts (drop j (x ∷ bots)) (drop j (y ∷ commands)))) same_i
+    ∙ ap (λ j. T (act b k) + sum_by T (acts (drop j (x ∷ bots)) (drop j (y ∷ commands)))) successor_is

@@ -29,7 +29,7 @@ turn_at all [] [] i d h k = absurd (omega arith)
 turn_at all [] (t ∷ ts) i d h k = absurd h
 turn_at all (a ∷ ls) [] i d h k = absurd h
 turn_at all (a ∷ ls) (t ∷ ts) zero d h k = (a, h.0, refl, inl refl)
-turn_at all (a ∷ ls) (t ∷ ts) (suc i) d h k = let r = turn_at all ls ts i d h.1 (omega arith) in (r.0, r.1, r.2 ∙ ap (λ k. r.0 ∷ drop k (a ∷ ls)) (let same_i : suc (i + 1) ≡ suc i + 1 = omega arith in same_i), inr r.3)
+turn_at all (a ∷ ls) (t ∷ ts) (suc i) d h k = let r = turn_at all ls ts i d h.1 (omega arith) in (r.0, r.1, r.2 ∙ ap (λ k. r.0 ∷ drop k (a ∷ ls)) (let successor_is : suc (i + 1) ≡ suc i + 1 = omega arith in successor_is), inr r.3)
 
 -- the act of a turn: its bot and its command stand at the turn's place
 pub record IsHere (bots : List Bot) (commands : List Command) (ls : List Act) (i : ℕ) (t : Turn) : Type 0 where

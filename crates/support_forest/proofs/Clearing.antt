@@ -68,7 +68,7 @@ cleared_more old now new c k n before steps after f a l w r t s = record {
   exact = subst (λ (i : ℕ). AreExact i (word_at new)) (sym r) (exact_without now.resolution (word_at now) (word_at new) (further c k) a.exact (free_now old now c k n before steps f a l) w);
   gone = λ j b m. elim (cases_eq j k) [
     | inl e ↦ ap (λ (i : ℕ). word_at new (further c i)) e ∙ w.here
-    | inr e ↦ w.kept (further c j) (λ p. let same_z : c.z + j ≡ c.z + k = ap (λ (q : Coord). q.z) p in e (omega arith)) ∙ a.gone j (grind arith) m
+    | inr e ↦ w.kept (further c j) (λ p. let sum_is : c.z + j ≡ c.z + k = ap (λ (q : Coord). q.z) p in e (omega arith)) ∙ a.gone j (grind arith) m
   ];
   kept = λ d h. w.kept d (h k (omega arith) l) ∙ a.kept d (λ j b m. h j (omega arith) m);
   within = omega arith;

@@ -46,7 +46,7 @@ unfolding Toward word_index
 index_left c d index i n e h k = record {
   there = record { x = c.x - 1; y = c.y; z = c.z };
   toward = inl (n, omega arith, refl, refl);
-  same_brick = let same_x : (c.x - 1) / 8 ≡ c.x / 8 = omega arith in λ j. record { x = same_x j; y = c.y / 8; z = c.z / 8 };
+  same_brick = let quotient_is : (c.x - 1) / 8 ≡ c.x / 8 = omega arith in λ j. record { x = quotient_is j; y = c.y / 8; z = c.z / 8 };
   at_index = omega arith;
 }
 
@@ -56,7 +56,7 @@ unfolding Toward word_index
 index_right c d index i n e h k = record {
   there = record { x = c.x + 1; y = c.y; z = c.z };
   toward = inr (inl (n, omega arith, refl, refl));
-  same_brick = let same_x : (c.x + 1) / 8 ≡ c.x / 8 = omega arith in λ j. record { x = same_x j; y = c.y / 8; z = c.z / 8 };
+  same_brick = let quotient_is : (c.x + 1) / 8 ≡ c.x / 8 = omega arith in λ j. record { x = quotient_is j; y = c.y / 8; z = c.z / 8 };
   at_index = omega arith;
 }
 
@@ -66,7 +66,7 @@ unfolding Toward word_index
 index_under c d index i n e h k = record {
   there = record { x = c.x; y = c.y - 1; z = c.z };
   toward = inr (inr (inl (n, refl, omega arith, refl)));
-  same_brick = let same_y : (c.y - 1) / 8 ≡ c.y / 8 = omega arith in λ j. record { x = c.x / 8; y = same_y j; z = c.z / 8 };
+  same_brick = let quotient_is : (c.y - 1) / 8 ≡ c.y / 8 = omega arith in λ j. record { x = c.x / 8; y = quotient_is j; z = c.z / 8 };
   at_index = omega arith;
 }
 
@@ -76,7 +76,7 @@ unfolding Toward word_index
 index_over c d index i n e h k = record {
   there = record { x = c.x; y = c.y + 1; z = c.z };
   toward = inr (inr (inr (inl (n, refl, omega arith, refl))));
-  same_brick = let same_y : (c.y + 1) / 8 ≡ c.y / 8 = omega arith in λ j. record { x = c.x / 8; y = same_y j; z = c.z / 8 };
+  same_brick = let quotient_is : (c.y + 1) / 8 ≡ c.y / 8 = omega arith in λ j. record { x = c.x / 8; y = quotient_is j; z = c.z / 8 };
   at_index = omega arith;
 }
 
@@ -86,7 +86,7 @@ unfolding Toward word_index
 index_near c d index i n e h k = record {
   there = record { x = c.x; y = c.y; z = c.z - 1 };
   toward = inr (inr (inr (inr (inl (n, refl, refl, omega arith)))));
-  same_brick = let same_z : (c.z - 1) / 8 ≡ c.z / 8 = omega arith in λ j. record { x = c.x / 8; y = c.y / 8; z = same_z j };
+  same_brick = let quotient_is : (c.z - 1) / 8 ≡ c.z / 8 = omega arith in λ j. record { x = c.x / 8; y = c.y / 8; z = quotient_is j };
   at_index = omega arith;
 }
 
@@ -96,7 +96,7 @@ unfolding Toward word_index
 index_far c d index i n e h k = record {
   there = record { x = c.x; y = c.y; z = c.z + 1 };
   toward = inr (inr (inr (inr (inr (n, refl, refl, omega arith)))));
-  same_brick = let same_z : (c.z + 1) / 8 ≡ c.z / 8 = omega arith in λ j. record { x = c.x / 8; y = c.y / 8; z = same_z j };
+  same_brick = let quotient_is : (c.z + 1) / 8 ≡ c.z / 8 = omega arith in λ j. record { x = c.x / 8; y = c.y / 8; z = quotient_is j };
   at_index = omega arith;
 }
 

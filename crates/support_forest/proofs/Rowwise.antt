@@ -68,8 +68,8 @@ one_more g c slot index word k h s l =
     let in_space : IsInSpace g.resolution (further c k) = row_space g c 8 k h.row l in
     let e : Some slot ≡ slot_of now (further c k) = row_slot g c 8 k (Some slot) h.row l (sym h.own) in
     let index_is : index + k ≡ word_index (further c k) = sym (row_index c 8 k index h.row.row l h.at) in
-    let same_k : k + 1 ≡ suc k = omega arith in
-    let element_is : get_or (words_of (with_row g.bricks slot index (suc k) word) slot) (index + k) 0 ≡ word = subst (λ (j : ℕ). get_or (words_of (with_row g.bricks slot index j word) slot) (index + k) 0 ≡ word) same_k (h.written k l) in (
+    let sum_is : k + 1 ≡ suc k = omega arith in
+    let element_is : get_or (words_of (with_row g.bricks slot index (suc k) word) slot) (index + k) 0 ≡ word = subst (λ (j : ℕ). get_or (words_of (with_row g.bricks slot index j word) slot) (index + k) 0 ≡ word) sum_is (h.written k l) in (
       sets now (further c k) slot (index + k) word (with_row g.bricks slot index (suc k) word) s in_space e index_is refl element_is,
       keeps now (further c k) slot (index + k) word (with_row g.bricks slot index (suc k) word) s in_space e index_is refl element_is,
     )
@@ -90,7 +90,7 @@ is_rowed g c slot index word (suc k) h l =
     record {
       store = o.1;
       count = omega arith;
-      later = λ j m. o.0.kept (further c j) (λ e. let same_z : c.z + j ≡ c.z + k = ap (λ (x : Coord). x.z) e in omega arith) ∙ p.later j (omega arith);
+      later = λ j m. o.0.kept (further c j) (λ e. let sum_is : c.z + j ≡ c.z + k = ap (λ (x : Coord). x.z) e in omega arith) ∙ p.later j (omega arith);
     }
 
 -- what a row that is written leaves
@@ -114,8 +114,8 @@ wrote_row g v c slot index word h e =
         resolution = λ k. refl;
         table = λ k. refl;
         each = λ k l.
-            let same_k : suc k ≡ k + 1 = omega arith in
-            subst (λ (j : ℕ). IsWritten (word_at (rowed g slot index word k)) (word_at (rowed g slot index word j)) (further c k) word) same_k
+            let successor_is : suc k ≡ k + 1 = omega arith in
+            subst (λ (j : ℕ). IsWritten (word_at (rowed g slot index word k)) (word_at (rowed g slot index word j)) (further c k) word) successor_is
             (one_more g c slot index word k h (is_rowed g c slot index word k h (omega arith)).store l).0;
       };
     })
@@ -132,7 +132,7 @@ written_so_far old new c word (suc k) w l =
     let written : IsWritten (word_at (w.after k)) (word_at (w.after (suc k))) (further c k) word = subst (λ (j : ℕ). IsWritten (word_at (w.after k)) (word_at (w.after j)) (further c k) word) same_k (w.each k (omega arith)) in (
       (λ j m. elim (cases_eq j k) [
         | inl e ↦ ap (λ (i : ℕ). word_at (w.after (suc k)) (further c i)) e ∙ written.here
-        | inr e ↦ written.kept (further c j) (λ q. let same_z : c.z + j ≡ c.z + k = ap (λ (x : Coord). x.z) q in e (omega arith)) ∙ p.0 j (grind arith)
+        | inr e ↦ written.kept (further c j) (λ q. let sum_is : c.z + j ≡ c.z + k = ap (λ (x : Coord). x.z) q in e (omega arith)) ∙ p.0 j (grind arith)
       ]),
       (λ d h. written.kept d (h k (omega arith)) ∙ p.1 d (λ j m. h j (omega arith))),
     )

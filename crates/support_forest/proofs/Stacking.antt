@@ -120,7 +120,7 @@ still_stands w v c n k word (inl y) s = inl y
 still_stands w v c n k word (inr f) s = elim (cases_lt 0 c.y) [
   | inl y ↦ inr (λ j l.
       let o = f j l in
-      let kept = s.kept (under (further c j)) (λ p. let y_is : c.y - 1 ≡ c.y = ap (λ (x : Coord). x.y) p in omega arith) in
+      let kept = s.kept (under (further c j)) (λ p. let difference_is : c.y - 1 ≡ c.y = ap (λ (x : Coord). x.y) p in omega arith) in
       omega arith)
   | inr y ↦ inl (omega arith)
 ]
@@ -152,7 +152,7 @@ even_bit : (n : ℕ) → n % 2 ≡ 0 → (n % 2 == 1) ≡ false
 even_bit n h = grind (arith, nat_tests)
 
 odd_bit : (n : ℕ) → (n % 2 ≡ 0 → ⊥) → (n % 2 == 1) ≡ true
-odd_bit n h = let n_is : n % 2 ≡ 1 = elim (cases_lt 0 (n % 2)) [ inl l ↦ omega arith | inr l ↦ absurd (h (omega arith)) ] in grind (arith, nat_tests)
+odd_bit n h = let remainder_is : n % 2 ≡ 1 = elim (cases_lt 0 (n % 2)) [ inl l ↦ omega arith | inr l ↦ absurd (h (omega arith)) ] in grind (arith, nat_tests)
 
 pub void_bit : (m : Matrix) (from count bits k : ℕ) → AreBits m from count bits → k < count → bits / 2 ^ k % 2 ≡ 0
     → IsFalse (voxel_at m (from + k))
@@ -378,13 +378,13 @@ are_piled : (m : Matrix) (old new : Grid) (c : Coord) (word k : ℕ) → CanPile
 are_piled m old new c word zero h w l = subst (λ (g : Grid). ArePiled m old g c 0) (sym w.first) (record { heaped = λ rest i. heaped_at _ _ _ _ _ (omega arith) i; stands = h.stands })
 are_piled m old new c word (suc k) h w l =
     let p = are_piled m old new c word k h w (omega arith) in
-    let same_k : k + 1 ≡ suc k = omega arith in
+    let sum_is : k + 1 ≡ suc k = omega arith in
     let k_below_8 : k < 8 = omega arith in
     let below_resolution : c.z + k < m.resolution = omega (arith, h.row) in
     let some = h.heap in
     let can : CanStack (w.after k) (further c k) = can_stack_along m (w.after k) c k some.rest (p.heaped some.rest some.is) h.within below_resolution in
     let stacked = stacked_in_pile (w.after k) (w.after (k + 1)) c 8 k word 0 1 can p.stands k_below_8 h.floor h.above (w.each k k_below_8) (w.resolution (k + 1) ∙ sym (w.resolution k)) (w.table (k + 1) ∙ sym (w.table k)) (omega arith) in
-    subst (λ (j : ℕ). ArePiled m old (w.after j) c j) same_k (record {
+    subst (λ (j : ℕ). ArePiled m old (w.after j) c j) sum_is (record {
       heaped = λ rest i. stacked_along m (w.after k) c k rest (p.heaped rest i) h.within below_resolution (h.full k k_below_8) (w.after (k + 1)) 0 1 stacked;
       stands = still_stands (word_at (w.after k)) (word_at (w.after (k + 1))) c 8 k word p.stands (w.each k k_below_8);
     })

@@ -44,8 +44,8 @@ stretch_from gone end last most count c b l h =
       within = omega arith;
       row = omega arith;
       each = λ k d m.
-          let same_z : last.z - (count - 1 - k) ≡ c.z + k = omega arith in
-          let u : record { x = last.x; y = last.y; z = last.z - (count - 1 - k) } ≡ further c k = λ j. record { x = same_x j; y = same_y j; z = same_z j } in
+          let difference_is : last.z - (count - 1 - k) ≡ c.z + k = omega arith in
+          let u : record { x = last.x; y = last.y; z = last.z - (count - 1 - k) } ≡ further c k = λ j. record { x = same_x j; y = same_y j; z = difference_is j } in
           b.each (count - 1 - k) (end - count + k) d (omega arith) (omega arith) ∙ u;
     }
 
@@ -90,7 +90,7 @@ row_space g c n k h l = record { x = h.within.x; y = h.within.y; z = let last = 
 
 -- the voxels of a row lie in one brick
 row_brick : (c : Coord) (n k : ℕ) → c.z % 8 + n ≤ 8 → k < n → brick (further c k) ≡ brick c
-row_brick c n k r l = let same_z : (c.z + k) / 8 ≡ c.z / 8 = omega arith in λ j. record { x = c.x / 8; y = c.y / 8; z = same_z j }
+row_brick c n k r l = let quotient_is : (c.z + k) / 8 ≡ c.z / 8 = omega arith in λ j. record { x = c.x / 8; y = c.y / 8; z = quotient_is j }
 
 pub row_slot : (g : Grid) (c : Coord) (n k : ℕ) (own : Option ℕ) → LieInRow g c n → k < n → own ≡ slot_of g c
     → own ≡ slot_of g (further c k)
@@ -224,8 +224,8 @@ side_in_chunk g chunk slot index from n d c r b h t f =
 pub end_free : (w : Coord → ℕ) (c : Coord) (d toward word : ℕ) → IsWordToward w c d word → HangsNot word toward
     → SideHangsNot w c 1 d toward
 end_free w c d toward word t h k p l u =
-    let z_is : c.z + k ≡ c.z = omega arith in
-    let further_is : further c k ≡ c = λ j. record { x = c.x; y = c.y; z = z_is j } in
+    let sum_is : c.z + k ≡ c.z = omega arith in
+    let further_is : further c k ≡ c = λ j. record { x = c.x; y = c.y; z = sum_is j } in
     subst (λ (v : ℕ). HangsNot v toward) (sym (t.each p (subst (λ (x : Coord). Toward d x p) further_is u))) h
 
 pub far_free : (w : Coord → ℕ) (c : Coord) (n : ℕ) → 0 < n → SideHangsNot w (further c (n - 1)) 1 6 5 → (p : Coord)
@@ -263,7 +263,7 @@ first_of gone end from count d s b l e =
 -- ---- a part of a whole row
 
 pub row_has : (c : Coord) (k : ℕ) → further c k ≡ further (whole_row_start c) (c.z % 8 + k)
-row_has c k = let same_z : c.z + k ≡ c.z / 8 * 8 + (c.z % 8 + k) = omega arith in λ j. record { x = c.x; y = c.y; z = same_z j }
+row_has c k = let sum_is : c.z + k ≡ c.z / 8 * 8 + (c.z % 8 + k) = omega arith in λ j. record { x = c.x; y = c.y; z = sum_is j }
 
 part_side : (w : Coord → ℕ) (c : Coord) (n d toward : ℕ) → c.z % 8 + n ≤ 8
     → SideHangsNot w (whole_row_start c) 8 d toward → SideHangsNot w c n d toward
@@ -280,7 +280,7 @@ part_free w c n r s = record {
 }
 
 whole_row_brick : (c : Coord) → brick (whole_row_start c) ≡ brick c
-whole_row_brick c = let same_z : c.z / 8 * 8 / 8 ≡ c.z / 8 = omega arith in λ j. record { x = c.x / 8; y = c.y / 8; z = same_z j }
+whole_row_brick c = let product_is : c.z / 8 * 8 / 8 ≡ c.z / 8 = omega arith in λ j. record { x = c.x / 8; y = c.y / 8; z = product_is j }
 
 -- what holds of the words of the whole row in the chunk holds of those of its voxels, which may lie beyond space
 pub whole_row_in_slot : (g : Grid) (chunk : List ℕ) (slot index from : ℕ) (c : Coord) (P : ℕ → Type 0) → IsStore g

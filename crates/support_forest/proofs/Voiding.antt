@@ -275,10 +275,10 @@ pub part_at : (old now : Grid) (first : Coord) (left n : ℕ) (rest more : List 
     → AreVoided old now (IsInRow (further first left) (n - left)) (n - left) rest more
     → AreVoided old now (IsInRow first n) n rest more
 part_at old now first left n rest more e p =
-    let z_is : first.z + left ≡ first.z = omega arith in
-    let here : further first left ≡ first = λ j. record { x = first.x; y = first.y; z = z_is j } in
-    let n_is : n - left ≡ n = omega arith in
-    subst (λ (k : ℕ). AreVoided old now (IsInRow first k) k rest more) n_is (subst (λ (x : Coord). AreVoided old now (IsInRow x (n - left)) (n - left) rest more) here p)
+    let sum_is : first.z + left ≡ first.z = omega arith in
+    let here : further first left ≡ first = λ j. record { x = first.x; y = first.y; z = sum_is j } in
+    let difference_is : n - left ≡ n = omega arith in
+    subst (λ (k : ℕ). AreVoided old now (IsInRow first k) k rest more) difference_is (subst (λ (x : Coord). AreVoided old now (IsInRow x (n - left)) (n - left) rest more) here p)
 
 -- all of a row was looked at
 pub whole_row_at : (old now : Grid) (first : Coord) (left end : ℕ) (rest more : List Coord) → left ≡ first.z

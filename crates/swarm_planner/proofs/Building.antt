@@ -134,7 +134,7 @@ no_cell r x y z c h = no_second_of_three (in_line r x c.x) (c.y == y) (c.z == z)
 -- ---- the search for what is wanted
 
 row_more : (w l n i : ℕ) (c : Coord) → i < n → bot_row w l (n - i) c ≡ held l c ∷ bot_row w l (n - (i + 1)) (next w c)
-row_more w l n i c h = let same_n : n - i ≡ suc (n - (i + 1)) = omega arith in ap (λ k. bot_row w l k c) same_n
+row_more w l n i c h = let difference_is : n - i ≡ suc (n - (i + 1)) = omega arith in ap (λ k. bot_row w l k c) difference_is
 
 pub wanted_here : (m target : Matrix) (w l n i : ℕ) (c : Coord) → i < n → is_wanted m target (held l c) ≡ true
     → are_wanted m target (bot_row w l (n - i) c) ≡ true
@@ -151,7 +151,7 @@ wanted_by m n target t u v x r s y z h g e f k =
 
 pub none_left : (m target : Matrix) (w l n i : ℕ) (c : Coord) → n ≤ i
     → are_wanted m target (bot_row w l (n - i) c) ≡ false
-none_left m target w l n i c h = let n_is : n - i ≡ 0 = omega arith in ap (λ k. are_wanted m target (bot_row w l k c)) n_is
+none_left m target w l n i c h = let difference_is : n - i ≡ 0 = omega arith in ap (λ k. are_wanted m target (bot_row w l k c)) difference_is
 
 -- ---- one cell
 

@@ -15,8 +15,8 @@ use Rattle.plan_tape.proofs.LegalModels.{full_in_box}
 
 column_at : (w l n a i x : ℕ) → i < n → x ≡ a + w * i → x ≤ l → is_column w l n a x ≡ true
 column_at w l zero a i x h e k = absurd (omega arith)
-column_at w l (suc n) a zero x h e k = or_by_first (x == min a l) (is_column w l n (a + w) x) (test_equal x (min a l) (let w_is : w * zero ≡ 0 = omega arith in omega arith))
-column_at w l (suc n) a (suc i) x h e k = or_by_second (x == min a l) (is_column w l n (a + w) x) (column_at w l n (a + w) i x (omega arith) (let same_a : a + w * suc i ≡ a + w + w * i = omega arith in omega arith) k)
+column_at w l (suc n) a zero x h e k = or_by_first (x == min a l) (is_column w l n (a + w) x) (test_equal x (min a l) (let product_is : w * zero ≡ 0 = omega arith in omega arith))
+column_at w l (suc n) a (suc i) x h e k = or_by_second (x == min a l) (is_column w l n (a + w) x) (column_at w l n (a + w) i x (omega arith) (let sum_is : a + w * suc i ≡ a + w + w * i = omega arith in omega arith) k)
 
 equal_or_less : (j k : ℕ) → j ≤ suc k → (j ≡ suc k) ⊎ (j ≤ k)
 equal_or_less j k h = grind arith

@@ -102,7 +102,7 @@ sent_led r y z low x (c ∷ []) i j k h l near =
 sent_led r y z low x (c ∷ d ∷ more) i j k h l near =
     let height = k.0.height in
     let depth = k.0.depth in
-    (record { line = (refl, refl); near = omega arith; from = record { x = k.0.within; y = omega arith; z = omega arith }; to = record { x = k.0.within; y = omega arith; z = omega arith }; high_from = omega arith; high_to = omega arith; low_from = k.0.past; low_to = k.0.past }, subst (λ v. AreLed r y X v (d ∷ more) (sent (d ∷ more) x)) (let x_is : c.x + 1 ≡ max c.x c.x + 1 = omega arith in x_is) (sent_led r y z (c.x + 1) x (d ∷ more) i j k.1 h l near))
+    (record { line = (refl, refl); near = omega arith; from = record { x = k.0.within; y = omega arith; z = omega arith }; to = record { x = k.0.within; y = omega arith; z = omega arith }; high_from = omega arith; high_to = omega arith; low_from = k.0.past; low_to = k.0.past }, subst (λ v. AreLed r y X v (d ∷ more) (sent (d ∷ more) x)) (let sum_is : c.x + 1 ≡ max c.x c.x + 1 = omega arith in sum_is) (sent_led r y z (c.x + 1) x (d ∷ more) i j k.1 h l near))
 
 pub waits_then : (k : Command) (bots : List Bot) → 0 < length bots
     → replicate (length bots - 1) Wait ++ k ∷ [] ≡ ends k bots

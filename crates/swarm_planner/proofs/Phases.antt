@@ -35,8 +35,8 @@ sum_of s w = omega arith
 
 pub total : (r : ℕ) → 1 ≤ r → phase_steps r + 20 + r + 2 ≤ 4 * width r * r * r + 8 * r + 2000
 total r h =
-    let r_is : r - 1 + 1 ≡ r = omega arith in
-    subst (λ n. (r - 1) * (width r * (3 * n + 1) + width r + 1) + 823 + 20 + n + 2 ≤ 4 * width r * n * n + 8 * n + 2000) r_is (sum_of (r - 1) (width r))
+    let sum_is : r - 1 + 1 ≡ r = omega arith in
+    subst (λ n. (r - 1) * (width r * (3 * n + 1) + width r + 1) + 823 + 20 + n + 2 ≤ 4 * width r * n * n + 8 * n + 2000) sum_is (sum_of (r - 1) (width r))
 
 -- ---- the crew is spread
 

@@ -161,7 +161,7 @@ row_lined r w l (suc n) low start c k =
 -- where the last of n + 1 places is
 pub last-row : (w l n : ℕ) (c : Coord) → c.x + w * n ≤ l → last_column (bot_row w l (suc n) c) ≡ c.x + w * n
 last-row w l zero c h = omega arith
-last-row w l (suc n) c h = last-row w l n (next w c) (let same_x : c.x + w * suc n ≡ c.x + w + w * n = omega arith in omega arith) ∙ (let same_x : c.x + w * suc n ≡ c.x + w + w * n = omega arith in omega arith)
+last-row w l (suc n) c h = last-row w l n (next w c) (let sum_is : c.x + w * suc n ≡ c.x + w + w * n = omega arith in omega arith) ∙ (let sum_is : c.x + w * suc n ≡ c.x + w + w * n = omega arith in omega arith)
 
 split_more : (c : Coord) (cs : List Coord) → 0 < length cs → split (c ∷ cs) ≡ c ∷ split cs
 split_more c [] h = absurd (omega arith)
@@ -200,7 +200,7 @@ row_grows w l zero x c e h =
 row_grows w l (suc n) x c e h =
     ap (λ cs. sent cs x) (split_more (held l c) (bot_row w l (suc n) (next w c)) (omega arith))
     ∙ (sent_more (held l c) (split (bot_row w l (suc n) (next w c))) x (some_split (bot_row w l (suc n) (next w c)) (omega arith))
-    ∙ ap (λ cs. held l c ∷ cs) (row_grows w l n x (next w c) (let same_x : c.x + w * suc (suc n) ≡ c.x + w + w * suc n = omega arith in omega arith) h))
+    ∙ ap (λ cs. held l c ∷ cs) (row_grows w l n x (next w c) (let sum_is : c.x + w * suc (suc n) ≡ c.x + w + w * suc n = omega arith in omega arith) h))
 
 -- ---- one more strip
 

@@ -122,7 +122,7 @@ enough_seeds bid m h = let e = ap length (first_seed bid m h) in let n = numbers
 pub parent_is : (bid m : ℕ) (c : Coord) → m + bid ≡ 19
     → parent (record { bid = bid; pos = c; seeds = seeds_after bid }) m ≡ record { bid = bid; pos = c; seeds = 0 }
 parent_is bid m c h =
-    let whole : drop (m + 1) (seed_list (seeds_after bid)) ≡ [] = ap (drop (m + 1)) (first_seed bid m h) ∙ (ap (λ n. drop n ((bid + 1) ∷ numbers_from (bid + 1 + 1) m)) (let same_m : m + 1 ≡ suc m = omega arith in same_m) ∙ drop_numbers (bid + 1 + 1) m) in
+    let whole : drop (m + 1) (seed_list (seeds_after bid)) ≡ [] = ap (drop (m + 1)) (first_seed bid m h) ∙ (ap (λ n. drop n ((bid + 1) ∷ numbers_from (bid + 1 + 1) m)) (let sum_is : m + 1 ≡ suc m = omega arith in sum_is) ∙ drop_numbers (bid + 1 + 1) m) in
     λ i. record { bid = bid; pos = c; seeds = seed_set (whole i) }
 
 pub newborn_is : (bid m : ℕ) (c : Coord) → m + bid ≡ 19

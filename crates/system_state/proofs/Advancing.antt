@@ -46,8 +46,8 @@ turn_at all (a ∷ leaders) [] i d h lt = absurd h
 turn_at all (a ∷ leaders) (t ∷ turns) zero d h lt = (a, refl, h.0, refl)
 turn_at all (a ∷ leaders) (t ∷ turns) (suc i) d h lt =
     let w = turn_at all leaders turns i d h.1 (omega arith) in
-    let same_i : suc i + 1 ≡ suc (i + 1) = omega arith in
-    (w.0, ap (λ (xs : List Act). a ∷ xs) w.1 ∙ ap (λ n. a ∷ (take i leaders ++ w.0 ∷ drop n (a ∷ leaders))) (sym same_i), w.2, ap (λ n. take n (a ∷ leaders)) same_i ∙ ap (λ (xs : List Act). a ∷ xs) w.3)
+    let sum_is : suc i + 1 ≡ suc (i + 1) = omega arith in
+    (w.0, ap (λ (xs : List Act). a ∷ xs) w.1 ∙ ap (λ n. a ∷ (take i leaders ++ w.0 ∷ drop n (a ∷ leaders))) (sym sum_is), w.2, ap (λ n. take n (a ∷ leaders)) sum_is ∙ ap (λ (xs : List Act). a ∷ xs) w.3)
 
 pub turns_many : (all leaders : List Act) (turns : List Turn) → AreTurns all leaders turns
     → length turns ≡ length leaders

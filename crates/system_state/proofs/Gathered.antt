@@ -56,7 +56,7 @@ act_here (x ∷ bots) [] i b e l h = absurd (omega arith)
 act_here (x ∷ bots) (k ∷ commands) zero b e l h = (record { bot = x; command = k }, ap (λ (y : Bot). y.bid) (sym h), refl, inl refl, refl)
 act_here (x ∷ bots) (k ∷ commands) (suc i) b e l h =
     let w = act_here bots commands i b (omega arith) (omega arith) h in
-    (w.0, w.1, w.2, inr w.3, ap (λ n. take n (acts (x ∷ bots) (k ∷ commands))) (let same_i : suc i + 1 ≡ suc (i + 1) = omega arith in same_i) ∙ ap (λ (xs : List Act). record { bot = x; command = k } ∷ xs) w.4)
+    (w.0, w.1, w.2, inr w.3, ap (λ n. take n (acts (x ∷ bots) (k ∷ commands))) (let sum_is : suc i + 1 ≡ suc (i + 1) = omega arith in sum_is) ∙ ap (λ (xs : List Act). record { bot = x; command = k } ∷ xs) w.4)
 
 pub lone_turn_more : (bots : List Bot) (commands : List Command) (turns : List Turn) (i : ℕ) (b : Bot)
     → length commands ≡ length bots → i < length bots → b ≡ get_or bots i b

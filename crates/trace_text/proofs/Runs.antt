@@ -26,10 +26,10 @@ pub passes_on : (p : ℕ → Bool) (xs : List ℕ) (n : ℕ) → Pass p xs n →
 passes_on p xs n h l e =
     let k = at_place p xs n l in
     let same_prefix_len : prefix_len p (drop n xs) ≡ 1 + prefix_len p (drop (suc n) xs) = k ∙ ap (λ t. cond t (1 + prefix_len p (drop (suc n) xs)) 0) e in
-    let same_n : suc n ≡ n + 1 = omega arith in
+    let successor_is : suc n ≡ n + 1 = omega arith in
     let r = h.run in
     record {
-      run = subst (λ (m : ℕ). prefix_len p xs ≡ m + prefix_len p (drop m xs)) same_n (omega (arith, r, same_prefix_len));
+      run = subst (λ (m : ℕ). prefix_len p xs ≡ m + prefix_len p (drop m xs)) successor_is (omega (arith, r, same_prefix_len));
       within = omega arith;
     }
 

@@ -47,7 +47,7 @@ swept : (r m : ℕ) → 2 ≤ r → 34 + (r - 1) * (8 * m + 8) + 6 + 2 ≤ 8 * r
 swept r m some = let r_is : r ≡ (r - 1) + 1 = omega arith in by (r - 1) r r_is
   where
     by : (k s : ℕ) → s ≡ k + 1 → 34 + k * (8 * m + 8) + 6 + 2 ≤ 8 * s * m + 8 * s + 200
-    by k s e = let s_is : s * m ≡ k * m + m = ap (λ n. n * m) e ∙ (let same_k : (k + 1) * m ≡ k * m + m = omega arith in same_k) in omega (arith, s_is)
+    by k s e = let product_is : s * m ≡ k * m + m = ap (λ n. n * m) e ∙ (let product_is : (k + 1) * m ≡ k * m + m = omega arith in product_is) in omega (arith, product_is)
 
 -- no plan is longer than a tape may be
 pub steps_fit : (r : ℕ) → r ≤ 400 → most_void_steps r ≤ 1073741824

@@ -97,7 +97,7 @@ next_turned r n false k = next_forth r k
 
 -- each one is taken once
 twice : (n : ℕ) (back : Bool) (j : ℕ) → j < n → turned n back (turned n back j) ≡ j
-twice n true j h = let n_is : n - 1 - (n - 1 - j) ≡ j = omega arith in n_is
+twice n true j h = let difference_is : n - 1 - (n - 1 - j) ≡ j = omega arith in difference_is
 twice n false j h = refl
 
 turned_below : (n : ℕ) (back : Bool) (j : ℕ) → j < n → turned n back j < n
@@ -191,7 +191,7 @@ layer_limit a b r turn first now y k limit h p q =
   where
     within : (s b u t w n k m limit : ℕ) → b + u ≤ s + (4 * n + 3) * k → t ≤ u + w → w ≤ 3 → (4 * n + 3) * (k + 1) ≤ m
         → s + m < limit → b + t + 4 * n < limit
-    within s b u t w n k m limit e f g h q = let same_n : (4 * n + 3) * (k + 1) ≡ (4 * n + 3) * k + (4 * n + 3) = omega arith in omega arith
+    within s b u t w n k m limit e f g h q = let product_is : (4 * n + 3) * (k + 1) ≡ (4 * n + 3) * k + (4 * n + 3) = omega arith in omega arith
 
 -- one strip more, and the way to it
 pub layer_on : (a b c : TapeState) (r : ℕ) (turn first now : Bool) (y k : ℕ)
@@ -287,7 +287,7 @@ layers_all a b r y turn back some e p =
     let low = subst (λ v. Clears a b (coord 0 (r - 1) 0) (coord (edge r turn) v (edge r back)) ((r - 1 - v) * fro_steps r)) e p in
     let way : moves_to (coord (edge r turn) 0 (edge r back)) (coord 0 0 0) ≤ 6 * tiles_of r = let u = edge_near r turn in let v = edge_near r back in omega arith in
     clears_to a b (coord 0 (r - 1) 0) (coord (edge r turn) 0 (edge r back)) (coord 0 0 0) ((r - 1 - 0) * fro_steps r) (6 * tiles_of r) ((r - 1) * voiding_steps r) low way
-    (subst (λ v. v * fro_steps r + 6 * tiles_of r ≤ (r - 1) * voiding_steps r) (let same_r : r - 1 ≡ r - 1 - 0 = omega arith in same_r) (times (r - 1) (fro_steps r) (6 * tiles_of r) (voiding_steps r) (omega arith) (with_way (tiles_of r))))
+    (subst (λ v. v * fro_steps r + 6 * tiles_of r ≤ (r - 1) * voiding_steps r) (let difference_is : r - 1 ≡ r - 1 - 0 = omega arith in difference_is) (times (r - 1) (fro_steps r) (6 * tiles_of r) (voiding_steps r) (omega arith) (with_way (tiles_of r))))
 
 -- with the layer below all is void from there on
 pub void_more : (a b : Matrix) (y : ℕ) → 0 < y → AreFewer b a → IsVoidFrom a y → IsVoidBefore b b.resolution (y - 1)

@@ -43,17 +43,17 @@ all_tallied (suc n) a = ap (λ k. 1 + k) (all_tallied n (a + 1)) ∙ omega arith
 
 in_parts : (p : ℕ → Bool) (m n a : ℕ) → tally p (m + n) a ≡ tally p m a + tally p n (a + m)
 unfolding tally
-in_parts p zero n a = let n_is : 0 + n ≡ n = omega arith in let a_is : a + 0 ≡ a = omega arith in rw (n_is, a_is) (omega arith)
+in_parts p zero n a = let n_is : 0 + n ≡ n = omega arith in let sum_is : a + 0 ≡ a = omega arith in rw (n_is, sum_is) (omega arith)
 in_parts p (suc m) n a =
     let same_m : suc m + n ≡ suc (m + n) = omega arith in
-    let same_a : a + suc m ≡ a + 1 + m = omega arith in
-    ap (λ k. tally p k a) same_m ∙ (ap (λ k. cond (p a) 1 0 + k) (in_parts p m n (a + 1)) ∙ (omega arith ∙ ap (λ v. cond (p a) 1 0 + tally p m (a + 1) + tally p n v) (sym same_a)))
+    let sum_is : a + suc m ≡ a + 1 + m = omega arith in
+    ap (λ k. tally p k a) same_m ∙ (ap (λ k. cond (p a) 1 0 + k) (in_parts p m n (a + 1)) ∙ (omega arith ∙ ap (λ v. cond (p a) 1 0 + tally p m (a + 1) + tally p n v) (sym sum_is)))
 
 -- numbers moved up by a
 moved : (p : ℕ → Bool) (n a b : ℕ) → tally p n (a + b) ≡ tally (λ k. p (a + k)) n b
 unfolding tally
 moved p zero a b = refl
-moved p (suc n) a b = let same_a : a + b + 1 ≡ a + (b + 1) = omega arith in ap (λ v. cond (p (a + b)) 1 0 + tally p n v) same_a ∙ ap (λ k. cond (p (a + b)) 1 0 + k) (moved p n a (b + 1))
+moved p (suc n) a b = let sum_is : a + b + 1 ≡ a + (b + 1) = omega arith in ap (λ v. cond (p (a + b)) 1 0 + tally p n v) sum_is ∙ ap (λ k. cond (p (a + b)) 1 0 + k) (moved p n a (b + 1))
 
 with_test : (b : Bool) (g : ℕ → Bool) (n a : ℕ) → tally (λ k. b && g k) n a ≡ cond b 1 0 * tally g n a
 with_test true g n a = omega arith
@@ -62,19 +62,19 @@ with_test false g n a = none_tallied n a ∙ omega arith
 -- pairs of numbers, as n digits before m digits, are counted one by one
 pairs : (f g : ℕ → Bool) (m n : ℕ) → tally (λ p. f (p / m) && g (p % m)) (n * m) 0 ≡ tally f n 0 * tally g m 0
 unfolding tally
-pairs f g m zero = let m_is : 0 * m ≡ 0 = omega arith in rw m_is (omega arith)
+pairs f g m zero = let product_is : 0 * m ≡ 0 = omega arith in rw product_is (omega arith)
 pairs f g m (suc n) =
     let both : ℕ → Bool = λ p. f (p / m) && g (p % m) in
     let e : suc n * m ≡ n * m + m = omega arith in
     let split : tally both (n * m + m) 0 ≡ tally both (n * m) 0 + tally both m (0 + n * m) = in_parts both (n * m) m 0 in
-    let up : tally both m (0 + n * m) ≡ tally both m (n * m + 0) = (let same_n : 0 + n * m ≡ n * m + 0 = omega arith in ap (tally both m) same_n) in
+    let up : tally both m (0 + n * m) ≡ tally both m (n * m + 0) = (let sum_is : 0 + n * m ≡ n * m + 0 = omega arith in ap (tally both m) sum_is) in
     let at : tally both m (n * m + 0) ≡ tally (λ k. both (n * m + k)) m 0 = moved both m (n * m) 0 in
     let same : tally (λ k. both (n * m + k)) m 0 ≡ tally (λ k. f n && g k) m 0 = same_tally (λ k. both (n * m + k)) (λ k. f n && g k) m 0 (λ k i j. digits k j) in
     let last : tally (λ k. f n && g k) m 0 ≡ cond (f n) 1 0 * tally g m 0 = with_test (f n) g m 0 in
     let first : tally both (n * m) 0 ≡ tally f n 0 * tally g m 0 = pairs f g m n in
     let one : tally f (n + 1) 0 ≡ tally f n 0 + tally f 1 (0 + n) = in_parts f n 1 0 in
-    let here : tally f 1 (0 + n) ≡ cond (f n) 1 0 = (let n_is : 0 + n ≡ n = omega arith in ap (λ v. cond (f v) 1 0 + 0) n_is ∙ omega arith) in
-    let whole : tally f (suc n) 0 ≡ tally f n 0 + cond (f n) 1 0 = (let same_n : suc n ≡ n + 1 = omega arith in ap (λ v. tally f v 0) same_n) ∙ (one ∙ ap (λ v. tally f n 0 + v) here) in
+    let here : tally f 1 (0 + n) ≡ cond (f n) 1 0 = (let sum_is : 0 + n ≡ n = omega arith in ap (λ v. cond (f v) 1 0 + 0) sum_is ∙ omega arith) in
+    let whole : tally f (suc n) 0 ≡ tally f n 0 + cond (f n) 1 0 = (let successor_is : suc n ≡ n + 1 = omega arith in ap (λ v. tally f v 0) successor_is) ∙ (one ∙ ap (λ v. tally f n 0 + v) here) in
     ap (λ v. tally both v 0) e ∙ (split ∙ (ap (λ v. v + tally both m (0 + n * m)) first ∙ (ap (λ v. tally f n 0 * tally g m 0 + v) (up ∙ (at ∙ (same ∙ last))) ∙ (omega arith ∙ ap (λ v. v * tally g m 0) (sym whole)))))
   where
     digits : (k : ℕ) → k < 0 + m → (f ((n * m + k) / m) && g ((n * m + k) % m)) ≡ (f n && g k)

@@ -34,7 +34,7 @@ two_to_next n = pow-add 2 n 1
 
 -- what is left to do layer by layer falls by a layer's part
 pub one_layer_less : (r y n : ℕ) → 0 < y → y < r → (r - 1 - y) * n + n ≤ (r - 1 - (y - 1)) * n
-one_layer_less r y n h l = let same_r : r - 1 - (y - 1) ≡ r - 1 - y + 1 = omega arith in rw same_r (omega arith)
+one_layer_less r y n h l = let difference_is : r - 1 - (y - 1) ≡ r - 1 - y + 1 = omega arith in rw difference_is (omega arith)
 
 pub append_none : {A : Type 0} (xs : List A) → xs ++ [] ≡ xs
 append_none [] = refl

@@ -26,7 +26,7 @@ low_bit n count i l =
     sym (bit_at_cat_low (n / 2 ^ count) count (n % 2 ^ count) i l) ∙ ap (λ v. bit_at v i) split
 
 raised_bit : (n s j : ℕ) → s ≤ j → bit_at (n * 2 ^ s) j ≡ bit_at n (j - s)
-raised_bit n s j l = ap (λ v. bit_at v j) (let same_n : n * 2 ^ s ≡ n * 2 ^ s + 0 = omega arith in same_n) ∙ bit_at_cat_high n s 0 j (pow_pos s) l
+raised_bit n s j l = ap (λ v. bit_at v j) (let product_is : n * 2 ^ s ≡ n * 2 ^ s + 0 = omega arith in product_is) ∙ bit_at_cat_high n s 0 j (pow_pos s) l
 
 -- ---- reading
 
@@ -147,7 +147,7 @@ put_bits ws index count bits v within h ev = record {
 
 less_one : (x y : ℕ) → 0 < x → (x - 1) * y ≡ x * y - y
 less_one zero y l = absurd (omega arith)
-less_one (suc x) y l = let x_is : suc x - 1 ≡ x = omega arith in ap (λ v. v * y) x_is ∙ omega arith
+less_one (suc x) y l = let difference_is : suc x - 1 ≡ x = omega arith in ap (λ v. v * y) difference_is ∙ omega arith
 
 pub mask_is : (first count : ℕ) → 1 ≤ count → first + count ≤ 64
     → (2 ^ 64 - 1) / 2 ^ (64 - count) * 2 ^ first % 2 ^ 64 ≡ 2 ^ (first + count) - 2 ^ first

@@ -150,7 +150,7 @@ before-bits d r x y z ld lz e t = by (row d x y z e t)
       where
         digits_lt' : d.x < x → d.x * r + d.z < x * r + z
         digits_lt' l = let below_x : d.x * r + d.z < x * r = digits_lt l ld in omega arith
-    by (inr p) = let same_x : d.x * r ≡ x * r = ap (λ v. v * r) p.0 in omega (arith, p.1)
+    by (inr p) = let product_is : d.x * r ≡ x * r = ap (λ v. v * r) p.0 in omega (arith, p.1)
 
 pub layer_differs : (r : ℕ) (ws us : List ℕ) (y at : ℕ) → IsLayered r ws → IsLayered r us → y < r
     → at < 64 * layer_words r → IsFirst ws us (y * layer_words r) at → (at < r * r)

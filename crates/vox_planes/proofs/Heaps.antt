@@ -53,8 +53,8 @@ pub word_bit : (ws : List ℕ) (i k : ℕ) → k < 64 → is_set ws (i * 64 + k)
 unfolding is_set
 word_bit ws i k l =
     let d : (i * 64 + k) / 64 ≡ i = omega arith in
-    let i_is : (i * 64 + k) % 64 ≡ k = omega arith in
-    λ t. bit (get_or ws (d t) 0) (i_is t)
+    let remainder_is : (i * 64 + k) % 64 ≡ k = omega arith in
+    λ t. bit (get_or ws (d t) 0) (remainder_is t)
 
 -- a word above the lowest layer, and the word under it
 pub record AreStacked (ws : List ℕ) (layer i w u : ℕ) : Type 0 where

@@ -44,10 +44,10 @@ not_before : (test : Coord → Bool) (at : ℕ → Coord) (walk : ℕ → Option
     → (n : ℕ) → n ≤ count → ((k : ℕ) → k < n → test (at k) ≡ false) → walk 0 ≡ walk n
 not_before test at walk count w zero l free = refl
 not_before test at walk count w (suc n) l free =
-    let same_n : n + 1 ≡ suc n = omega arith in
+    let sum_is : n + 1 ≡ suc n = omega arith in
     not_before test at walk count w n (omega arith) (λ k m. free k (omega arith))
     ∙ (w.next n (omega arith)
-    ∙ (ap (λ b. cond b (Some (at n)) (walk (n + 1))) (free n (omega arith)) ∙ ap walk same_n))
+    ∙ (ap (λ b. cond b (Some (at n)) (walk (n + 1))) (free n (omega arith)) ∙ ap walk sum_is))
 
 first_of : (test : Coord → Bool) (at : ℕ → Coord) (walk : ℕ → Option Coord) (count : ℕ) → IsLine test at walk count
     → (n : ℕ) → n < count → ((k : ℕ) → k < n → test (at k) ≡ false) → test (at n) ≡ true → walk 0 ≡ Some (at n)
@@ -97,15 +97,15 @@ module _ (r : ℕ) (k : Corners) (test : Coord → Bool) (o : IsOrdered k) (s : 
       (k.high.x + 1 - k.low.x)
   is_line_x y z = record {
     next = λ n l.
-        let same_x : k.low.x + n + 1 ≡ k.low.x + (n + 1) = omega arith in
+        let sum_is : k.low.x + n + 1 ≡ k.low.x + (n + 1) = omega arith in
         one_more z (k.low.x + n) k.low.y (omega arith) (omega arith) (omega arith) (omega (arith, o.y))
         ∙ ap (λ f. cond (test (along_x k n)) (Some (along_x k n)) f)
         (ap (λ v. find (passes_in k test) (coordinates_from r (place r (row_start k (k.low.x + n) (v + 1))))) y
         ∙ (find-next_wall r k test o s (k.low.x + n)
-        ∙ ap (λ v. find (passes_in k test) (coordinates_from r (place r (row_start k v k.low.y)))) same_x));
+        ∙ ap (λ v. find (passes_in k test) (coordinates_from r (place r (row_start k v k.low.y)))) sum_is));
     ended =
-        let same_x : k.low.x + (k.high.x + 1 - k.low.x) ≡ k.high.x + 1 = omega (arith, o.x) in
-        ap (λ v. find (passes_in k test) (coordinates_from r (place r (row_start k v k.low.y)))) same_x ∙ find-end r k test o s;
+        let sum_is : k.low.x + (k.high.x + 1 - k.low.x) ≡ k.high.x + 1 = omega (arith, o.x) in
+        ap (λ v. find (passes_in k test) (coordinates_from r (place r (row_start k v k.low.y)))) sum_is ∙ find-end r k test o s;
   }
 
   is_line_y : k.low.x ≡ k.high.x → k.low.z ≡ k.high.z → IsLine test (along_y k)
@@ -113,13 +113,13 @@ module _ (r : ℕ) (k : Corners) (test : Coord → Bool) (o : IsOrdered k) (s : 
       (k.high.y + 1 - k.low.y)
   is_line_y x z = record {
     next = λ n l.
-        let same_y : k.low.y + n + 1 ≡ k.low.y + (n + 1) = omega arith in
+        let sum_is : k.low.y + n + 1 ≡ k.low.y + (n + 1) = omega arith in
         one_more z k.low.x (k.low.y + n) (omega arith) (omega (arith, o.x)) (omega arith) (omega arith)
         ∙ ap (λ f. cond (test (along_y k n)) (Some (along_y k n)) f)
-        (ap (λ v. find (passes_in k test) (coordinates_from r (place r (row_start k k.low.x v)))) same_y);
+        (ap (λ v. find (passes_in k test) (coordinates_from r (place r (row_start k k.low.x v)))) sum_is);
     ended =
-        let same_y : k.low.y + (k.high.y + 1 - k.low.y) ≡ k.high.y + 1 = omega (arith, o.y) in
-        ap (λ v. find (passes_in k test) (coordinates_from r (place r (row_start k k.low.x v)))) same_y
+        let sum_is : k.low.y + (k.high.y + 1 - k.low.y) ≡ k.high.y + 1 = omega (arith, o.y) in
+        ap (λ v. find (passes_in k test) (coordinates_from r (place r (row_start k k.low.x v)))) sum_is
         ∙ (find-next_wall r k test o s k.low.x
         ∙ (ap (λ v. find (passes_in k test) (coordinates_from r (place r (row_start k (v + 1) k.low.y)))) x ∙ find-end r k test o s));
   }

@@ -35,8 +35,8 @@ bit_from : (ws : List ℕ) (i k : ℕ) → i % 64 + k < 64 → is_set ws (i + k)
 unfolding is_set
 bit_from ws i k l =
     let d : (i + k) / 64 ≡ i / 64 = omega arith in
-    let same_i : (i + k) % 64 ≡ i % 64 + k = omega arith in
-    λ t. bit (get_or ws (d t) 0) (same_i t)
+    let remainder_is : (i + k) % 64 ≡ i % 64 + k = omega arith in
+    λ t. bit (get_or ws (d t) 0) (remainder_is t)
 
 -- a bit past the shift that is not marked has the other value
 unmarked : (ws : List ℕ) (i w v k : ℕ) (value : Bool) → w ≡ get_or ws (i / 64) 0 → IsMarked w v value → i % 64 + k < 64

@@ -85,12 +85,12 @@ dropped_more old now full layer i v some within bits h = record {
         → is_set (set now i v) j ≡ (is_set old j && not (goes full (set now i v) layer j))
     by j l (inl m) = set_other now i v j (λ e. omega arith) ∙ (h.done j m ∙ ap (λ b. is_set old j && not b) (sym (goes_on j l)))
     by j l (inr m) =
-        let i_is : i * 64 + (j - i * 64) ≡ j = omega arith in
+        let sum_is : i * 64 + (j - i * 64) ≡ j = omega arith in
         let few : j - i * 64 < 64 = omega arith in
-        ap (is_set (set now i v)) (sym i_is)
+        ap (is_set (set now i v)) (sym sum_is)
         ∙ (set_word now i v (j - i * 64) within few
         ∙ (bits (j - i * 64) few
-        ∙ ((λ t. (sym (word_bit now i (j - i * 64) few) ∙ (ap (is_set now) i_is ∙ h.rest j m)) t && not (goes full now layer (i_is t)))
+        ∙ ((λ t. (sym (word_bit now i (j - i * 64) few) ∙ (ap (is_set now) sum_is ∙ h.rest j m)) t && not (goes full now layer (sum_is t)))
         ∙ ap (λ b. is_set old j && not b) (sym (goes_on j l)))))
 
 -- ---- all words

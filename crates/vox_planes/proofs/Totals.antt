@@ -33,20 +33,20 @@ total-zero (suc n) f h = omega (arith, total-zero n f (λ k l. h k (omega arith)
 
 pub total-add : (m n : ℕ) (f : ℕ → ℕ) → total (m + n) f ≡ total m f + total n (λ k. f (m + k))
 unfolding total
-total-add m zero f = let m_is : m + 0 ≡ m = omega arith in ap (λ v. total v f) m_is ∙ omega arith
-total-add m (suc n) f = let same_m : m + suc n ≡ suc (m + n) = omega arith in ap (λ v. total v f) same_m ∙ (ap (λ v. v + f (m + n)) (total-add m n f) ∙ omega arith)
+total-add m zero f = let sum_is : m + 0 ≡ m = omega arith in ap (λ v. total v f) sum_is ∙ omega arith
+total-add m (suc n) f = let sum_is : m + suc n ≡ suc (m + n) = omega arith in ap (λ v. total v f) sum_is ∙ (ap (λ v. v + f (m + n)) (total-add m n f) ∙ omega arith)
 
 pub total-front : (n : ℕ) (f : ℕ → ℕ) → total (suc n) f ≡ f 0 + total n (λ k. f (1 + k))
 unfolding total
-total-front n f = let same_n : suc n ≡ 1 + n = omega arith in ap (λ v. total v f) same_n ∙ (total-add 1 n f ∙ omega arith)
+total-front n f = let successor_is : suc n ≡ 1 + n = omega arith in ap (λ v. total v f) successor_is ∙ (total-add 1 n f ∙ omega arith)
 
 -- n digits before m digits
 total-mul : (n m : ℕ) (f : ℕ → ℕ) → total (n * m) f ≡ total n (λ a. total m (λ b. f (a * m + b)))
 unfolding total
-total-mul zero m f = let m_is : 0 * m ≡ 0 = omega arith in ap (λ v. total v f) m_is
+total-mul zero m f = let product_is : 0 * m ≡ 0 = omega arith in ap (λ v. total v f) product_is
 total-mul (suc n) m f =
-    let same_n : suc n * m ≡ n * m + m = omega arith in
-    ap (λ v. total v f) same_n ∙ (total-add (n * m) m f ∙ ap (λ v. v + total m (λ b. f (n * m + b))) (total-mul n m f))
+    let product_is : suc n * m ≡ n * m + m = omega arith in
+    ap (λ v. total v f) product_is ∙ (total-add (n * m) m f ∙ ap (λ v. v + total m (λ b. f (n * m + b))) (total-mul n m f))
 
 pub total-plus : (n : ℕ) (f g : ℕ → ℕ) → total n (λ k. f k + g k) ≡ total n f + total n g
 unfolding total
@@ -70,9 +70,9 @@ pub counted : {A : Type 0} (test : A → Bool) (at : ℕ → A) (n a : ℕ)
 unfolding total
 counted test at zero a = refl
 counted test at (suc n) a =
-    let a_is : a + 0 ≡ a = omega arith in
+    let sum_is : a + 0 ≡ a = omega arith in
     sum_by-cons (λ c. cond (test c) 1 0) (at a) (map at (numbers_from (a + 1) n))
-    ∙ ((λ i. cond (test (at (sym a_is i))) 1 0 + counted test at n (a + 1) i)
+    ∙ ((λ i. cond (test (at (sym sum_is i))) 1 0 + counted test at n (a + 1) i)
     ∙ (ap (λ v. cond (test (at (a + 0))) 1 0 + v) (total-same n (λ k. cond (test (at (a + 1 + k))) 1 0) (λ k. cond (test (at (a + (1 + k)))) 1 0) (λ k l. ap (λ v. cond (test (at v)) 1 0) (omega arith)))
     ∙ sym (total-front n (λ k. cond (test (at (a + k))) 1 0))))
 
@@ -116,7 +116,7 @@ ones-total (suc k) w l =
     let b : ℕ = w % 2 ^ k in
     let split : a * 2 ^ k + b ≡ w = shr_split w k in
     let low : b < 2 ^ k = mod_below w (2 ^ k) (pow_pos k) in
-    let high : a < 2 = shr_below w 1 k (let same_k : suc k ≡ 1 + k = omega arith in rw (← same_k) l) in
+    let high : a < 2 = shr_below w 1 k (let successor_is : suc k ≡ 1 + k = omega arith in rw (← successor_is) l) in
     let top : a ≡ bit_at w k = omega arith in
     let rest : total k (λ i. bit_at b i) ≡ total k (λ i. bit_at w i) = total-same k (λ i. bit_at b i) (λ i. bit_at w i) (λ i j. sym (bit_at_cat_low a k b i j) ∙ ap (λ v. bit_at v i) split) in
     ap count_ones (sym split) ∙ (ones_cat k a b low ∙ omega (arith, small_ones a high, ones-total k b low))
@@ -146,8 +146,8 @@ bits_more ws j w e l =
     here : (i : ℕ) → i < 64 → cond (bit (get_or ws ((64 * j + i) / 64) 0) ((64 * j + i) % 64)) 1 0 ≡ bit_at w i
     here i h =
         let d : (64 * j + i) / 64 ≡ j = omega arith in
-        let j_is : (64 * j + i) % 64 ≡ i = omega arith in
-        (λ t. cond (bit (get_or ws (d t) 0) (j_is t)) 1 0) ∙ (ap (λ v. cond (bit v i) 1 0) (sym e) ∙ as_number w i)
+        let remainder_is : (64 * j + i) % 64 ≡ i = omega arith in
+        (λ t. cond (bit (get_or ws (d t) 0) (remainder_is t)) 1 0) ∙ (ap (λ v. cond (bit v i) 1 0) (sym e) ∙ as_number w i)
 
 pub bits_none : (ws : List ℕ) → bits_below ws 0 ≡ 0
 unfolding bits_below total
@@ -178,14 +178,14 @@ bits_all r ws h =
         let c : Coord = record { x = x; y = y; z = z } in
         let within : IsInSpace r c = record { x = lx; y = ly; z = lz } in
         let y_is : y * (layer_words r * 64) + (x * r + z) ≡ bit_index r c = omega arith in
-        let x_is : (x * r + y) * r + z ≡ place r c = omega arith in
+        let sum_is : (x * r + y) * r + z ≡ place r c = omega arith in
         ap (λ v. one_if (is_set ws v)) y_is
         ∙ (ap one_if (sym (is_full-layered r ws c within))
-        ∙ ap (λ d. one_if (is_full (layered r ws) d)) (sym (ap (coordinate_at r) x_is ∙ coordinate_at-place r c within)))
+        ∙ ap (λ d. one_if (is_full (layered r ws) d)) (sym (ap (coordinate_at r) sum_is ∙ coordinate_at-place r c within)))
 
     unused : (y : ℕ) → y < r → (i : ℕ) → r * r ≤ i → i < layer_words r * 64
         → one_if (is_set ws (y * (layer_words r * 64) + i)) ≡ 0
-    unused y l i m n = let same_y : y * (layer_words r * 64) + i ≡ y * layer_words r * 64 + i = omega arith in ap one_if (ap (is_set ws) same_y ∙ h.unused y i l m n)
+    unused y l i m n = let sum_is : y * (layer_words r * 64) + i ≡ y * layer_words r * 64 + i = omega arith in ap one_if (ap (is_set ws) sum_is ∙ h.unused y i l m n)
 
     one_layer : (y : ℕ) → y < r → total (layer_words r * 64) (λ i. one_if (is_set ws (y * (layer_words r * 64) + i)))
         ≡ total r (λ x. total r (λ z. one_if (is_full (layered r ws) (coordinate_at r ((x * r + y) * r + z)))))

@@ -35,19 +35,19 @@ row-end c last h = let last_is : last + 1 - c.z ≡ 0 = omega arith in ap (λ n.
 
 pub from-all : (r : ℕ) → coordinates_from r 0 ≡ coordinates r
 unfolding coordinates_from
-from-all r = let same_r : r * r * r - 0 ≡ r * r * r = omega arith in ap (λ n. map (coordinate_at r) (numbers_from 0 n)) same_r
+from-all r = let difference_is : r * r * r - 0 ≡ r * r * r = omega arith in ap (λ n. map (coordinate_at r) (numbers_from 0 n)) difference_is
 
 pub from-more : (r p : ℕ) → p < r * r * r → coordinates_from r p ≡ coordinate_at r p ∷ coordinates_from r (p + 1)
 unfolding coordinates_from
 from-more r p h =
-    let same_r : r * r * r - p ≡ suc (r * r * r - (p + 1)) = omega arith in
-    ap (λ n. map (coordinate_at r) (numbers_from p n)) same_r
+    let difference_is : r * r * r - p ≡ suc (r * r * r - (p + 1)) = omega arith in
+    ap (λ n. map (coordinate_at r) (numbers_from p n)) difference_is
 
 pub from-end : (r p : ℕ) → r * r * r ≤ p → coordinates_from r p ≡ []
 unfolding coordinates_from
 from-end r p h =
-    let r_is : r * r * r - p ≡ 0 = omega arith in
-    ap (λ n. map (coordinate_at r) (numbers_from p n)) r_is
+    let difference_is : r * r * r - p ≡ 0 = omega arith in
+    ap (λ n. map (coordinate_at r) (numbers_from p n)) difference_is
 
 -- the coordinates from one on are those of its row, and then those from the end of that row on
 rows : (r n : ℕ) (c : Coord) (last : ℕ) → n ≡ last + 1 - c.z → c.z ≤ last + 1 → c.x < r → c.y < r → last < r
@@ -134,18 +134,18 @@ gap : {A : Type 0} (r : ℕ) (k : Corners) (walk : ℕ → A) → IsWalk r k wal
     → ((q : ℕ) → p ≤ q → q < p + n → IsFalse (is_within (span k) (point (coordinate_at r q)))) → walk p ≡ walk (p + n)
 gap r k walk w zero p none = ap walk (omega arith)
 gap r k walk w (suc n) p none =
-    let same_p : p + 1 + n ≡ p + suc n = omega arith in
-    w.passes p (λ l. none p (omega arith) (omega arith)) ∙ (gap r k walk w n (p + 1) (λ q i j. none q (omega arith) (omega arith)) ∙ ap walk same_p)
+    let sum_is : p + 1 + n ≡ p + suc n = omega arith in
+    w.passes p (λ l. none p (omega arith) (omega arith)) ∙ (gap r k walk w n (p + 1) (λ q i j. none q (omega arith) (omega arith)) ∙ ap walk sum_is)
 
 -- from one place to a later one, with no coordinate of the region between them
 over : {A : Type 0} (r : ℕ) (k : Corners) (walk : ℕ → A) → IsWalk r k walk → IsOrdered k → (p q : ℕ) → p ≤ q
     → ((c : Coord) → IsOf k c → p ≤ place r c → place r c < q → ⊥) → walk p ≡ walk q
 over r k walk w o p q l none =
-    let p_is : p + (q - p) ≡ q = omega arith in
+    let sum_is : p + (q - p) ≡ q = omega arith in
     gap r k walk w (q - p) p (λ t i j. false_by (is_within (span k) (point (coordinate_at r t))) (λ h.
     let place_is : place r (coordinate_at r t) ≡ t = place-coordinate_at r t in
     none (coordinate_at r t) (is_of k (coordinate_at r t) o h) (omega (arith, place_is)) (omega (arith, place_is))))
-    ∙ ap walk p_is
+    ∙ ap walk sum_is
 
 ≤_refl : (n : ℕ) → n ≤ n
 ≤_refl n = omega arith
