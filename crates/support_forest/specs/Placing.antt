@@ -1,12 +1,12 @@
 -- A voxel that becomes full beside others whose levels stay as they are.
-use Rattle.std.specs.Prelude.{◌≡◌, true, ℕ, ◌+◌, ◌*◌, ◌/◌, ◌<◌, ◌≤◌, ◌⊎◌, Bool, List, MatchBool, length}
+use Rattle.std.specs.Prelude.{◌≡◌, true, ℕ, ◌+◌, ◌*◌, ◌/◌, ◌%◌, ◌<◌, ◌≤◌, ◌⊎◌, Bool, List, MatchBool, length}
 use Rattle.std.specs.List.{Contains}
 use Rattle.vox_geom.specs.declared.coordinate.Coord.{Coord}
 use Rattle.vox_geom.specs.Space.{IsInSpace}
 use Rattle.support_forest.specs.declared.beside.Beside.{Beside}
 use Rattle.support_forest.specs.declared.place.Around.{Around}
 use Rattle.support_forest.specs.Directions.{Toward, AreBeside}
-use Rattle.support_forest.specs.Grid.{Grid, brick, word_at, word_index}
+use Rattle.support_forest.specs.Grid.{Grid, StandsIn, brick, word_at, word_index}
 use Rattle.support_forest.specs.Waiting.{CanAdd}
 use Rattle.support_forest.specs.Words.{height, AreExact, IsSound}
 
@@ -39,6 +39,25 @@ pub record IsIndexToward (c : Coord) (d index : ℕ) : Type 0 where
   pub toward : Toward d c there
   pub same_brick : brick there ≡ brick c
   pub at_index : word_index there ≡ index
+
+-- the voxel is the last of its brick in the direction
+pub record EndsBrick (c : Coord) (d : ℕ) : Type 0 where
+  pub left : d ≡ 1 → c.x % 8 ≡ 0
+  pub right : d ≡ 2 → c.x % 8 ≡ 7
+  pub under : d ≡ 3 → c.y % 8 ≡ 0
+  pub over : d ≡ 4 → c.y % 8 ≡ 7
+  pub near : d ≡ 5 → c.z % 8 ≡ 0
+  pub far : d ≡ 6 → c.z % 8 ≡ 7
+
+-- the neighbour in the direction stands at that index of the brick of that number
+pub record IsSpotToward (r : ℕ) (c : Coord) (d number index : ℕ) : Type 0 where
+  pub there : Coord
+  pub toward : Toward d c there
+  pub stands : StandsIn r number index there
+
+-- no neighbour in the direction is in space
+abbrev pub NoneToward : ℕ → Coord → ℕ → Type 0
+NoneToward r c d = (q : Coord) → Toward d c q → IsInSpace r q → ⊥
 
 -- the words are those of the voxel's neighbours
 pub record AreBesideWords (w : Coord → ℕ) (c : Coord) (b : Beside) : Type 0 where

@@ -1,10 +1,10 @@
 //! The words beside a voxel.
-ghost use Rattle.std.specs.Prelude.{◌≡◌, ℕ, ◌+◌, ◌%◌, ◌<◌, ◌≤◌, IfSome, Some};
+ghost use Rattle.std.specs.Prelude.{◌≡◌, ℕ, ◌+◌, ◌%◌, ◌<◌, ◌≤◌, MatchOption, Some};
 ghost use Rattle.brick_arena.specs.Slots.{HasSlot, start_in_chunk as start_in_chunk_of};
 ghost use Rattle.vox_geom.specs.Space.{IsInSpace};
 ghost use Rattle.vox_geom.specs.declared.coordinate.Coord.{Coord};
 ghost use Rattle.support_forest.specs.Grid.{slot_of, word_at, word_index as word_index_of};
-ghost use Rattle.support_forest.specs.Placing.{AreBesideWords, IsIndexToward, IsWordToward};
+ghost use Rattle.support_forest.specs.Placing.{AreBesideWords, EndsBrick, IsIndexToward, IsWordToward};
 
 use crate::cells::{BRICK_SIDE, Cells, word_index};
 use crate::directions::neighbor;
@@ -27,7 +27,7 @@ pub struct Beside {
 #[inline(always)]
 fn lower(at: u16, index: usize, step: usize) -> Option<usize>
     requires { 0 < at % 8 → step ≤ index }
-    ensures { IfSome result (λ i. (0 < at % 8) × (i + step ≡ index)) }
+    ensures { MatchOption result (at % 8 ≡ 0) (λ i. (0 < at % 8) × (i + step ≡ index)) }
 {
     if at % BRICK_SIDE == 0 {
         return None;
@@ -39,7 +39,7 @@ fn lower(at: u16, index: usize, step: usize) -> Option<usize>
 #[inline(always)]
 fn upper(at: u16, index: usize, step: usize) -> Option<usize>
     requires { at % 8 < 7 → index + step < 512 }
-    ensures { IfSome result (λ i. (at % 8 < 7) × (i ≡ index + step)) }
+    ensures { MatchOption result (at % 8 ≡ 7) (λ i. (at % 8 < 7) × (i ≡ index + step)) }
 {
     if at % BRICK_SIDE == BRICK_SIDE - 1 {
         return None;
@@ -54,7 +54,7 @@ fn upper(at: u16, index: usize, step: usize) -> Option<usize>
 pub fn index_toward(c: Coord, index: usize, d: u8) -> Option<usize>
     requires direction { (0 < d) × (d ≤ 6) }
     requires index { index ≡ word_index_of c }
-    ensures { IfSome result (IsIndexToward c d) }
+    ensures { MatchOption result (EndsBrick c d) (IsIndexToward c d) }
 {
     match d {
         1 => lower(c.x, index, 64),

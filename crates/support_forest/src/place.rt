@@ -4,7 +4,8 @@ ghost use Rattle.vox_geom.specs.declared.coordinate.Coord.{Coord};
 ghost use Rattle.support_forest.specs.Grid.{slot_of, word_at};
 ghost use Rattle.support_forest.specs.Placing.{AreBesideWords, CanPlace, IsAround, IsWordToward, LeavesRoom, MayLieUnder, MayStand, PlacesOrStays};
 
-use crate::beside::{Beside, word_near, word_toward, words_beyond, words_in};
+use crate::across::word_next;
+use crate::beside::{Beside, word_toward, words_beyond, words_in};
 use crate::cells::{Cells, word_index};
 use brick_arena::start_in_chunk;
 use std::alloc::AllocError;
@@ -214,28 +215,29 @@ fn stand_in<L: Ledger>(cells: &mut Cells, c: Coord, slot: u32, steps: &mut Steps
     cells.recall();
     let chunk = cells.chunk(slot);
     let start = start_in_chunk(slot);
-    let under = word_near(cells, c, slot, chunk, start, 3, steps);
+    let number = cells.brick_number(c);
+    let under = word_next::<3, L>(cells, c, number, slot, chunk, start, steps);
     let height = under / 8;
     if height == 0 {
         return false;
     }
-    let left = word_near(cells, c, slot, chunk, start, 1, steps);
+    let left = word_next::<1, L>(cells, c, number, slot, chunk, start, steps);
     if !leaves_room(left, height) {
         return false;
     }
-    let right = word_near(cells, c, slot, chunk, start, 2, steps);
+    let right = word_next::<2, L>(cells, c, number, slot, chunk, start, steps);
     if !leaves_room(right, height) {
         return false;
     }
-    let over = word_near(cells, c, slot, chunk, start, 4, steps);
+    let over = word_next::<4, L>(cells, c, number, slot, chunk, start, steps);
     if !leaves_room(over, height) {
         return false;
     }
-    let near = word_near(cells, c, slot, chunk, start, 5, steps);
+    let near = word_next::<5, L>(cells, c, number, slot, chunk, start, steps);
     if !leaves_room(near, height) {
         return false;
     }
-    let far = word_near(cells, c, slot, chunk, start, 6, steps);
+    let far = word_next::<6, L>(cells, c, number, slot, chunk, start, steps);
     if !leaves_room(far, height) {
         return false;
     }

@@ -5,7 +5,8 @@ ghost use Rattle.vox_geom.specs.declared.coordinate.Coord.{Coord};
 ghost use Rattle.support_forest.specs.Grid.{slot_of, word_at};
 ghost use Rattle.support_forest.specs.Taking.{CanTake, HangsNot, IsNoParent, TakesOrStays};
 
-use crate::beside::{word_near, word_toward};
+use crate::across::word_next;
+use crate::beside::word_toward;
 use crate::cells::{Cells, word_index};
 use brick_arena::start_in_chunk;
 use std::sync::ledger::Ledger;
@@ -32,27 +33,28 @@ fn is_parent<L: Ledger>(cells: &Cells, c: Coord, slot: u32, steps: &mut Steps<L>
     cells.recall();
     let chunk = cells.chunk(slot);
     let start = start_in_chunk(slot);
-    let over = word_near(cells, c, slot, chunk, start, 4, steps);
+    let number = cells.brick_number(c);
+    let over = word_next::<4, L>(cells, c, number, slot, chunk, start, steps);
     if hangs(over, 3) {
         return true;
     }
-    let left = word_near(cells, c, slot, chunk, start, 1, steps);
+    let left = word_next::<1, L>(cells, c, number, slot, chunk, start, steps);
     if hangs(left, 2) {
         return true;
     }
-    let right = word_near(cells, c, slot, chunk, start, 2, steps);
+    let right = word_next::<2, L>(cells, c, number, slot, chunk, start, steps);
     if hangs(right, 1) {
         return true;
     }
-    let under = word_near(cells, c, slot, chunk, start, 3, steps);
+    let under = word_next::<3, L>(cells, c, number, slot, chunk, start, steps);
     if hangs(under, 4) {
         return true;
     }
-    let near = word_near(cells, c, slot, chunk, start, 5, steps);
+    let near = word_next::<5, L>(cells, c, number, slot, chunk, start, steps);
     if hangs(near, 6) {
         return true;
     }
-    let far = word_near(cells, c, slot, chunk, start, 6, steps);
+    let far = word_next::<6, L>(cells, c, number, slot, chunk, start, steps);
     hangs(far, 5)
 }
 

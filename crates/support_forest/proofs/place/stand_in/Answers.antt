@@ -12,14 +12,14 @@ chunk-chunk-requires g c = c.recall.ensures.store.live _ c.args.slot c.requires.
 pub overflow_add-height : goal.overflow_add-height
 overflow_add-height g c =
     let cube = most_cube c.args.cells.now.resolution c.recall.ensures.few in
-    let beside : Beside = record { left = c.word_near-left.result; right = c.word_near-right.result; under = c.word_near-under.result; over = c.word_near-over.result; near = c.word_near-near.result; far = c.word_near-far.result } in
+    let beside : Beside = record { left = c.word_next-left.result; right = c.word_next-right.result; under = c.word_next-under.result; over = c.word_next-over.result; near = c.word_next-near.result; far = c.word_next-far.result } in
     let words : AreBesideWords (word_at c.args.cells.now) c.args.c beside = record {
-      left = c.word_near-left.ensures.word;
-      right = c.word_near-right.ensures.word;
-      under = c.word_near-under.ensures.word;
-      over = c.word_near-over.ensures.word;
-      near = c.word_near-near.ensures.word;
-      far = c.word_near-far.ensures.word;
+      left = c.word_next-left.ensures.word;
+      right = c.word_next-right.ensures.word;
+      under = c.word_next-under.ensures.word;
+      over = c.word_next-over.ensures.word;
+      near = c.word_next-near.ensures.word;
+      far = c.word_next-far.ensures.word;
     } in
     let stands : MayStand beside = record {
       under = omega (arith, c.if-height-eq0.false);
@@ -34,14 +34,14 @@ overflow_add-height g c =
 
 pub returns-clause-placed : goal.returns-clause-placed
 returns-clause-placed g c =
-    let beside : Beside = record { left = c.word_near-left.result; right = c.word_near-right.result; under = c.word_near-under.result; over = c.word_near-over.result; near = c.word_near-near.result; far = c.word_near-far.result } in
+    let beside : Beside = record { left = c.word_next-left.result; right = c.word_next-right.result; under = c.word_next-under.result; over = c.word_next-over.result; near = c.word_next-near.result; far = c.word_next-far.result } in
     let words : AreBesideWords (word_at c.args.cells.now) c.args.c beside = record {
-      left = c.word_near-left.ensures.word;
-      right = c.word_near-right.ensures.word;
-      under = c.word_near-under.ensures.word;
-      over = c.word_near-over.ensures.word;
-      near = c.word_near-near.ensures.word;
-      far = c.word_near-far.ensures.word;
+      left = c.word_next-left.ensures.word;
+      right = c.word_next-right.ensures.word;
+      under = c.word_next-under.ensures.word;
+      over = c.word_next-over.ensures.word;
+      near = c.word_next-near.ensures.word;
+      far = c.word_next-far.ensures.word;
     } in
     let stands : MayStand beside = record {
       under = omega (arith, c.if-height-eq0.false);
@@ -51,6 +51,6 @@ returns-clause-placed g c =
       near = c.if-not-leaves_room-4.ensures refl;
       far = c.if-not-leaves_room-5.ensures refl;
     } in
-    let touches : c.word_near-far.new.steps ≤ c.args.steps.now + 6 = omega (arith, c.word_near-under.ensures.touch, c.word_near-left.ensures.touch, c.word_near-right.ensures.touch, c.word_near-over.ensures.touch, c.word_near-near.ensures.touch, c.word_near-far.ensures.touch) in
-    placed_over c.args.cells.now c.write.new.self c.args.c beside c.args.steps.now c.word_near-far.new.steps c.write.new.steps
+    let touches : c.word_next-far.new.steps ≤ c.args.steps.now + 6 = omega (arith, c.word_next-under.ensures.touch, c.word_next-left.ensures.touch, c.word_next-right.ensures.touch, c.word_next-over.ensures.touch, c.word_next-near.ensures.touch, c.word_next-far.ensures.touch) in
+    placed_over c.args.cells.now c.write.new.self c.args.c beside c.args.steps.now c.word_next-far.new.steps c.write.new.steps
     c.requires.can.exact c.requires.can.within c.requires.can.void words stands c.write.ensures.written c.write.ensures.resolution touches c.write.ensures.touch

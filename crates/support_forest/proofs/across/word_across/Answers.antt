@@ -1,0 +1,40 @@
+use Rattle.std.proofs.Common.{◌≡◌, ℕ, ◌+◌, ◌*◌, ◌<◌, ◌∙◌, ap, arith, inl, inr, length, subst, sym}
+use Rattle.std.proofs.lemmas.Bool.{cases_lt}
+use Rattle.vox_geom.specs.Space.{IsInSpace}
+use Rattle.support_forest.specs.Grid.{StandsIn, word_at}
+use Rattle.support_forest.proofs.Sides.{one_toward}
+use Rattle.support_forest.proofs.Spots.{stands_below}
+use Rattle.support_forest.proofs.Store.{index_below}
+use Rattle.support_forest.proofs.across.word_across.Goals as goal
+
+pub overflow_cast-spot : goal.overflow_cast-spot
+overflow_cast-spot g c = let t = c.in-Some.ensures in let below = index_below t.there in let at_index = t.stands.at_index in omega arith
+
+pub word_in_brick-requires-clause-number : goal.word_in_brick-requires-clause-number
+word_in_brick-requires-clause-number g c =
+    let t = c.in-Some.ensures in
+    let stands : StandsIn c.args.cells.now.resolution c.in-Some.spot.number c.in-Some.spot.index t.there = subst (λ (r : ℕ). StandsIn r c.in-Some.spot.number c.in-Some.spot.index t.there) c.resolution.ensures.value t.stands in
+    let below = stands_below _ _ _ t.there stands in
+    let bricks = c.recall.ensures.store.bricks in
+    omega arith
+
+pub word_in_brick-requires-clause-index : goal.word_in_brick-requires-clause-index
+word_in_brick-requires-clause-index g c = let t = c.in-Some.ensures in let below = index_below t.there in let at_index = t.stands.at_index in omega arith
+
+pub returns-in-Some-clause-word : goal.returns-in-Some-clause-word
+returns-in-Some-clause-word g c =
+    let t = c.in-Some.ensures in
+    let stands : StandsIn c.args.cells.now.resolution c.in-Some.spot.number c.in-Some.spot.index t.there = subst (λ (r : ℕ). StandsIn r c.in-Some.spot.number c.in-Some.spot.index t.there) c.resolution.ensures.value t.stands in
+    record {
+      each = λ q k. ap (word_at c.args.cells.now) (one_toward g.row.D c.args.c q t.there k t.toward) ∙ c.word_in_brick.ensures.value t.there stands;
+      some = λ f. (t.there, t.toward);
+    }
+
+pub returns-in-None-clause-word : goal.returns-in-None-clause-word
+returns-in-None-clause-word g c = record {
+  each = λ q t. elim (cases_lt 0 (word_at c.args.cells.now q)) [
+    | inl f ↦ absurd (c.in-None.ensures q t (subst (λ (r : ℕ). IsInSpace r q) (sym c.resolution.ensures.value) (c.requires.space q f)))
+    | inr f ↦ omega arith
+  ];
+  some = λ f. absurd (omega arith);
+}
