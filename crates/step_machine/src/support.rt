@@ -9,6 +9,7 @@ ghost use Rattle.nano_spec.specs.Matrix.{is_full};
 ghost use Rattle.nano_spec.specs.Rules.{broken as broken_of};
 ghost use Rattle.nano_spec.specs.Step.{after};
 ghost use Rattle.nano_spec.specs.Work.{volatile_total};
+ghost use Rattle.vox_planes.specs.Layers.{bit_index};
 ghost use Rattle.support_forest.specs.Standing.{AreAdded, AreRemoved, IsCheap, MayAdd, MayRemove};
 ghost use Rattle.step_machine.specs.Edits.{edits_of, is_edit};
 ghost use Rattle.step_machine.specs.Settling.{IsOneEdit, IsPaidBy, IsPrepared, IsRefitted, IsSettled, IsUnsettled};
@@ -254,12 +255,14 @@ fn change_at_once<L: Ledger>(
 }
 
 /// [`settle_one`] where no other level changes, and each voxel is held up as before, `None` where others do: then all stays.
+/// `bit` is the index of the voxel's bit.
 #[inline(always)]
 pub(crate) fn settle_at_once<L: Ledger>(
     system: &System,
     commands: &[Command],
     d: Near,
     at: Coord,
+    bit: usize,
     full: bool,
     step: u32,
     forest: &mut Forest,
@@ -267,6 +270,7 @@ pub(crate) fn settle_at_once<L: Ledger>(
 ) -> Option<bool>
     requires judged { broken_of system.now commands.now step ≡ None }
     requires edit { IsOneEdit system.now commands.now d at full }
+    requires bit { bit ≡ bit_index system.now.matrix.resolution at }
     requires stands { forest.old.spent ≡ false }
     requires tied { forest.old.matrix ≡ system.now.matrix }
     requires held { system.now.harmonics ≡ Low → FirstUngrounded system.now.matrix None }
@@ -276,7 +280,7 @@ pub(crate) fn settle_at_once<L: Ledger>(
     ensures touches { IfNone result (steps.new ≤ steps.old + 9) }
 {
     system.recall();
-    let was = system.matrix().full_at(at, steps);
+    let was = system.matrix().full_at_bit(at, bit, steps);
     if was == full {
         return Some(was);
     }

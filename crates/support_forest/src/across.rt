@@ -105,13 +105,12 @@ fn word_across<const D: u8, L: Ledger>(
     }
 }
 
-/// The word of the neighbour in a direction, 0 where there is none. `number` is that of the voxel's brick, and `chunk` has the
-/// words of the slot of that brick, from `start` on.
+/// The word of the neighbour in a direction, 0 where there is none. `chunk` has the words of the slot of the voxel's brick, from
+/// `start` on. The number of the brick is asked for where it is needed: handed in it would take a register of the other way.
 #[inline(always)]
 pub fn word_next<const D: u8, L: Ledger>(
     cells: &Cells,
     c: Coord,
-    number: usize,
     slot: u32,
     chunk: &Chunk,
     start: usize,
@@ -119,7 +118,6 @@ pub fn word_next<const D: u8, L: Ledger>(
 ) -> u32
     requires direction { (0 < D) × (D ≤ 6) }
     requires within { IsInSpace cells.now.resolution c }
-    requires number { number ≡ number_of cells.now.resolution c }
     requires slot { slot_of cells.now c ≡ Some slot }
     requires chunk { HasSlot cells.now.bricks slot chunk.now }
     requires start { start ≡ start_in_chunk_of slot }
@@ -132,5 +130,5 @@ pub fn word_next<const D: u8, L: Ledger>(
     if let Some(i) = index_toward(c, index, D) {
         return chunk.word(start + i, steps);
     }
-    word_across::<D, L>(cells, c, number, index, steps)
+    word_across::<D, L>(cells, c, cells.brick_number(c), index, steps)
 }

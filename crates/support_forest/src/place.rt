@@ -215,29 +215,28 @@ fn stand_in<L: Ledger>(cells: &mut Cells, c: Coord, slot: u32, steps: &mut Steps
     cells.recall();
     let chunk = cells.chunk(slot);
     let start = start_in_chunk(slot);
-    let number = cells.brick_number(c);
-    let under = word_next::<3, L>(cells, c, number, slot, chunk, start, steps);
+    let under = word_next::<3, L>(cells, c, slot, chunk, start, steps);
     let height = under / 8;
     if height == 0 {
         return false;
     }
-    let left = word_next::<1, L>(cells, c, number, slot, chunk, start, steps);
+    let left = word_next::<1, L>(cells, c, slot, chunk, start, steps);
     if !leaves_room(left, height) {
         return false;
     }
-    let right = word_next::<2, L>(cells, c, number, slot, chunk, start, steps);
+    let right = word_next::<2, L>(cells, c, slot, chunk, start, steps);
     if !leaves_room(right, height) {
         return false;
     }
-    let over = word_next::<4, L>(cells, c, number, slot, chunk, start, steps);
+    let over = word_next::<4, L>(cells, c, slot, chunk, start, steps);
     if !leaves_room(over, height) {
         return false;
     }
-    let near = word_next::<5, L>(cells, c, number, slot, chunk, start, steps);
+    let near = word_next::<5, L>(cells, c, slot, chunk, start, steps);
     if !leaves_room(near, height) {
         return false;
     }
-    let far = word_next::<6, L>(cells, c, number, slot, chunk, start, steps);
+    let far = word_next::<6, L>(cells, c, slot, chunk, start, steps);
     if !leaves_room(far, height) {
         return false;
     }

@@ -33,28 +33,27 @@ fn is_parent<L: Ledger>(cells: &Cells, c: Coord, slot: u32, steps: &mut Steps<L>
     cells.recall();
     let chunk = cells.chunk(slot);
     let start = start_in_chunk(slot);
-    let number = cells.brick_number(c);
-    let over = word_next::<4, L>(cells, c, number, slot, chunk, start, steps);
+    let over = word_next::<4, L>(cells, c, slot, chunk, start, steps);
     if hangs(over, 3) {
         return true;
     }
-    let left = word_next::<1, L>(cells, c, number, slot, chunk, start, steps);
+    let left = word_next::<1, L>(cells, c, slot, chunk, start, steps);
     if hangs(left, 2) {
         return true;
     }
-    let right = word_next::<2, L>(cells, c, number, slot, chunk, start, steps);
+    let right = word_next::<2, L>(cells, c, slot, chunk, start, steps);
     if hangs(right, 1) {
         return true;
     }
-    let under = word_next::<3, L>(cells, c, number, slot, chunk, start, steps);
+    let under = word_next::<3, L>(cells, c, slot, chunk, start, steps);
     if hangs(under, 4) {
         return true;
     }
-    let near = word_next::<5, L>(cells, c, number, slot, chunk, start, steps);
+    let near = word_next::<5, L>(cells, c, slot, chunk, start, steps);
     if hangs(near, 6) {
         return true;
     }
-    let far = word_next::<6, L>(cells, c, number, slot, chunk, start, steps);
+    let far = word_next::<6, L>(cells, c, slot, chunk, start, steps);
     hangs(far, 5)
 }
 

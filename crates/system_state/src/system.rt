@@ -14,6 +14,7 @@ ghost use Rattle.nano_spec.specs.Step.{after, harmonics_after};
 ghost use Rattle.nano_spec.specs.Work.{volatile_total};
 ghost use Rattle.bot_crew.specs.Crew.{IsCrew, bot_of};
 ghost use Rattle.step_groups.specs.Judging.{act, edit_of};
+ghost use Rattle.vox_planes.specs.Layers.{bit_index};
 ghost use Rattle.vox_planes.specs.Voxel.{IsWhole, with_voxel};
 ghost use Rattle.system_state.specs.Bounds.{IsAfterTurn, IsPayable, IsTurnCost, IsTurnPayable, IsWithin};
 ghost use Rattle.system_state.specs.Edited.{edit_cost};
@@ -333,20 +334,22 @@ impl System {
         let resolution = self.matrix.resolution();
         let at = target(resolution, bot.pos, d.diff());
         let was_full = self.matrix.full_at(at, steps);
-        self.edit_voxel(at, full, was_full);
+        let bit = self.matrix.bit_of(at);
+        self.edit_voxel(at, bit, full, was_full);
     }
 
-    /// A voxel is made full or void, and what that costs beside the upkeep is paid.
+    /// A voxel, whose bit has this index, is made full or void, and what that costs beside the upkeep is paid.
     #[inline(always)]
-    fn edit_voxel(&mut self, at: Coord, full: bool, was_full: bool)
+    fn edit_voxel(&mut self, at: Coord, bit: usize, full: bool, was_full: bool)
         requires at { IsInSpace self.old.matrix.resolution at }
+        requires bit { bit ≡ bit_index self.old.matrix.resolution at }
         requires payable { IsTurnPayable self.old.energy }
         ensures value { self.new
             ≡ record self.old
             { matrix = with_voxel self.old.matrix at full; energy = self.old.energy +ℤ edit_cost full was_full } }
         ensures within { IsAfterTurn self.old.energy self.new.energy }
     {
-        self.set_voxel(at, full);
+        self.set_voxel_at(at, bit, full);
         self.pay(cost_of_edit(full, was_full));
     }
 

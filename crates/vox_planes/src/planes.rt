@@ -201,6 +201,28 @@ impl Planes {
         true
     }
 
+    /// The index of the bit of the voxel at the coordinate, for a caller that reads it and writes it later: [`Planes::full_at_bit`],
+    /// [`Planes::set_at_bit`].
+    #[inline(always)]
+    pub fn bit_of(&self, c: Coord) -> usize
+        requires { IsInSpace self.now.resolution c }
+        ensures { result ≡ bit_index_of self.now.resolution c }
+    {
+        bit_index(c, self.resolution, self.layer)
+    }
+
+    /// [`Planes::full_at`], by the index of the voxel's bit.
+    #[inline(always)]
+    pub fn full_at_bit<L: Ledger>(&self, c: Coord, bit: usize, steps: &mut Steps<L>) -> bool
+        requires within { IsInSpace self.now.resolution c }
+        requires bit { bit ≡ bit_index_of self.now.resolution c }
+        ensures value { result ≡ is_full self.now c }
+        ensures touches { steps.new ≡ steps.old + 1 }
+    {
+        steps.tick();
+        is_set(&self.words, bit)
+    }
+
     /// Whether the voxel at the coordinate is full: one touch.
     #[inline(always)]
     pub fn full_at<L: Ledger>(&self, c: Coord, steps: &mut Steps<L>) -> bool
@@ -208,8 +230,22 @@ impl Planes {
         ensures value { result ≡ is_full self.now c }
         ensures touches { steps.new ≡ steps.old + 1 }
     {
-        steps.tick();
-        is_set(&self.words, bit_index(c, self.resolution, self.layer))
+        self.full_at_bit(c, self.bit_of(c), steps)
+    }
+
+    /// [`Planes::set`], by the index of the voxel's bit.
+    #[inline(always)]
+    pub fn set_at_bit(&mut self, c: Coord, bit: usize, full: bool)
+        requires within { IsInSpace self.old.resolution c }
+        requires bit { bit ≡ bit_index_of self.old.resolution c }
+        ensures value { self.new ≡ with_voxel self.old c full }
+        ensures resolution { self.new.resolution ≡ self.old.resolution }
+        ensures here { is_full self.new c ≡ full }
+        ensures others { (d : Coordinate) → d ≢ c → is_full self.new d ≡ is_full self.old d }
+        ensures whole { IsWhole self.new }
+    {
+        set_bit(&mut self.words, bit, full);
+        self.end = end_after(&self.words, self.end, bit / WORD_BITS, full);
     }
 
     /// Makes the voxel at the coordinate full or void. All other voxels stay.
@@ -222,8 +258,7 @@ impl Planes {
         ensures others { (d : Coordinate) → d ≢ c → is_full self.new d ≡ is_full self.old d }
         ensures whole { IsWhole self.new }
     {
-        let i = bit_index(c, self.resolution, self.layer);
-        set_bit(&mut self.words, i, full);
-        self.end = end_after(&self.words, self.end, i / WORD_BITS, full);
+        let bit = self.bit_of(c);
+        self.set_at_bit(c, bit, full);
     }
 }

@@ -128,9 +128,10 @@ impl Machine {
         let Ok(at) = self.system.judge_edit(d, FULL, step) else {
             return false;
         };
+        let bit = self.system.matrix().bit_of(at);
         let forest = &mut self.forest;
-        match settle_at_once(&self.system, &commands, d, at, FULL, step, forest, steps) {
-            Some(was) => self.system.edit_alone(at, FULL, was),
+        match settle_at_once(&self.system, &commands, d, at, bit, FULL, step, forest, steps) {
+            Some(was) => self.system.edit_alone(at, bit, FULL, was),
             None => return false,
         }
         self.steps = step;
@@ -165,7 +166,10 @@ impl Machine {
         };
         let forest = &mut self.forest;
         match settle_one(&self.system, &commands, d, at, FULL, step, forest, steps) {
-            Ok(was) => self.system.edit_alone(at, FULL, was),
+            Ok(was) => {
+                let bit = self.system.matrix().bit_of(at);
+                self.system.edit_alone(at, bit, FULL, was)
+            }
             Err(unsettled) => {
                 self.spent = true;
                 *fault = unsettled;

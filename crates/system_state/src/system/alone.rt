@@ -11,6 +11,7 @@ ghost use Rattle.nano_spec.specs.Matrix.{is_full};
 ghost use Rattle.nano_spec.specs.Rules.{broken as broken_of};
 ghost use Rattle.nano_spec.specs.Step.{after};
 ghost use Rattle.nano_spec.specs.Work.{volatile_total};
+ghost use Rattle.vox_planes.specs.Layers.{bit_index};
 ghost use Rattle.step_groups.specs.Judging.{edit_of, rule_broken};
 ghost use Rattle.system_state.specs.Bounds.{IsPayable, IsTurnCost};
 ghost use Rattle.system_state.specs.Edited.{edit_cost};
@@ -99,19 +100,21 @@ impl System {
         judge_edit(&self.matrix, self.profile, bot, d, full, step)
     }
 
-    /// All effects and costs of a step in which the only bot fills the voxel at the coordinate, or else voids it.
+    /// All effects and costs of a step in which the only bot fills the voxel at the coordinate, or else voids it. `bit` is the index
+    /// of the voxel's bit: a caller that has read it knows it, and asked for again it would be computed anew.
     #[inline(always)]
-    pub fn edit_alone(&mut self, at: Coord, full: bool, was_full: bool)
+    pub fn edit_alone(&mut self, at: Coord, bit: usize, full: bool, was_full: bool)
         requires one { length self.old.bots ≡ 1 }
         requires payable { IsPayable self.old.energy }
         requires within { IsInSpace self.old.matrix.resolution at }
+        requires bit { bit ≡ bit_index self.old.matrix.resolution at }
         requires was { was_full ≡ is_full self.old.matrix at }
         ensures value { (b : ActiveBot) (d : Difference) → self.old.bots ≡ b ∷ [] → point at ≡ plus (point b.pos) d
             → self.new ≡ after self.old (edit_of full d ∷ []) }
         ensures bots { self.new.bots ≡ self.old.bots }
     {
         self.pay_upkeep();
-        self.edit_voxel(at, full, was_full);
+        self.edit_voxel(at, bit, full, was_full);
     }
 }
 

@@ -4,6 +4,7 @@ ghost use Rattle.vox_geom.specs.Point.{point};
 ghost use Rattle.vox_geom.specs.Space.{IsInSpace};
 ghost use Rattle.nano_spec.specs.declared.system.Bot.{Bot as ActiveBot};
 ghost use Rattle.nano_spec.specs.Bots.{moved};
+ghost use Rattle.vox_planes.specs.Layers.{bit_index};
 ghost use Rattle.vox_planes.specs.Voxel.{IsWhole, with_voxel};
 ghost use Rattle.bot_crew.specs.Crew.{IsActive, bot_at, bot_of, replaced};
 ghost use Rattle.system_state.specs.Painting.{with_cells};
@@ -23,7 +24,19 @@ impl System {
         ensures value { self.new ≡ record self.old { matrix = with_voxel self.old.matrix c full } }
         ensures whole { IsWhole self.new.matrix }
     {
-        self.matrix.set(c, full);
+        let bit = self.matrix.bit_of(c);
+        self.set_voxel_at(c, bit, full);
+    }
+
+    /// [`System::set_voxel`], by the index of the voxel's bit.
+    #[inline(always)]
+    pub(super) fn set_voxel_at(&mut self, c: Coord, bit: usize, full: bool)
+        requires within { IsInSpace self.old.matrix.resolution c }
+        requires bit { bit ≡ bit_index self.old.matrix.resolution c }
+        ensures value { self.new ≡ record self.old { matrix = with_voxel self.old.matrix c full } }
+        ensures whole { IsWhole self.new.matrix }
+    {
+        self.matrix.set_at_bit(c, bit, full);
     }
 
     /// Makes the voxels at the coordinates full or void.

@@ -1,4 +1,4 @@
-use Rattle.std.proofs.Common.{ℕ, ◌/◌, List, sym, ◌∙◌, ap, subst, length}
+use Rattle.std.proofs.Common.{◌≡◌, ℕ, ◌/◌, List, sym, ◌∙◌, ap, subst, length}
 use Rattle.std.proofs.lemmas.List.{with_items_is}
 use Rattle.vox_geom.specs.Space.{IsInSpace}
 use Rattle.nano_spec.specs.Matrix.{Matrix, is_full}
@@ -6,16 +6,19 @@ use Rattle.vox_planes.specs.Layers.{AreZeroFrom, bit_index}
 use Rattle.vox_planes.specs.Voxel.{with_voxel}
 use Rattle.vox_planes.proofs.Ends.{end_with, zero_beside_voxel}
 use Rattle.vox_planes.proofs.Voxels.{IsChanged, IsLayered-changed, changed_by, full_here, full_others, layered-changed, layered_whole}
-use Rattle.vox_planes.proofs.planes.Planes.set.Goals as goal
+use Rattle.vox_planes.proofs.planes.Planes.set_at_bit.Goals as goal
 
 within : (c : goal.After-self-2-1) → IsInSpace c.self.inside.resolution c.args.c
-within c = subst (λ (n : ℕ). IsInSpace n c.args.c) (ap (λ (m : Matrix). m.resolution) (sym c.self.view_is)) c.requires
+within c = subst (λ (n : ℕ). IsInSpace n c.args.c) (ap (λ (m : Matrix). m.resolution) (sym c.self.view_is)) c.requires.within
+
+at_bit : (c : goal.After-self-2-1) → c.args.bit ≡ bit_index c.self.inside.resolution c.args.c
+at_bit c = c.requires.bit ∙ ap (λ (m : Matrix). bit_index m.resolution c.args.c) (sym c.self.view_is)
 
 changed : (c : goal.After-self-2-1)
     → IsChanged c.self.inside.words.items (Rattle.std.specs.Vec.with_items c.self.inside.words c.set_bit.new.words).items (bit_index c.self.inside.resolution c.args.c) c.args.full
 changed c =
     let length_is = c.set_bit.auto.words ∙ c.deref_mut.ensures.len in
-    changed_by c.self.inside.resolution c.args.c c.self.inside.words.items c.deref_mut.result.now c.set_bit.new.words _ c.bit_index-i.result c.args.full c.deref_mut.ensures.value (sym (with_items_is c.self.inside.words c.set_bit.new.words length_is)) (c.set_bit.auto.words ∙ ap length c.deref_mut.ensures.value) c.bit_index-i.ensures.value c.set_bit.ensures.here c.set_bit.ensures.others
+    changed_by c.self.inside.resolution c.args.c c.self.inside.words.items c.deref_mut.result.now c.set_bit.new.words _ c.args.bit c.args.full c.deref_mut.ensures.value (sym (with_items_is c.self.inside.words c.set_bit.new.words length_is)) (c.set_bit.auto.words ∙ ap length c.deref_mut.ensures.value) (at_bit c) c.set_bit.ensures.here c.set_bit.ensures.others
 
 pub invariant_of-self : goal.invariant_of-self
 invariant_of-self c = (
@@ -27,10 +30,11 @@ invariant_of-self c = (
 pub end_after-self-inside-requires-clause-zero : goal.end_after-self-inside-requires-clause-zero
 end_after-self-inside-requires-clause-zero c =
     let length_is = c.set_bit.auto.words ∙ c.deref_mut.ensures.len in
-    let inside = subst (λ (n : ℕ). IsInSpace n c.args.c) (ap (λ (m : Matrix). m.resolution) (sym c.self.view_is)) c.requires in
-    let one = changed_by c.self.inside.resolution c.args.c c.self.inside.words.items c.deref_mut.result.now c.set_bit.new.words _ c.bit_index-i.result c.args.full c.deref_mut.ensures.value (sym (with_items_is c.self.inside.words c.set_bit.new.words length_is)) (c.set_bit.auto.words ∙ ap length c.deref_mut.ensures.value) c.bit_index-i.ensures.value c.set_bit.ensures.here c.set_bit.ensures.others in
-    subst (λ (ws : List ℕ). AreZeroFrom ws (end_with c.self.inside.end (c.bit_index-i.result / 64) c.args.full)) (sym c.deref.ensures.value)
-    (zero_beside_voxel c.self.inside.resolution c.self.inside.words.items _ c.args.c c.args.full c.self.inside.end (c.bit_index-i.result / 64) inside c.self.invariant.0 c.self.invariant.2 one (ap (λ n. n / 64) c.bit_index-i.ensures.value))
+    let inside = subst (λ (n : ℕ). IsInSpace n c.args.c) (ap (λ (m : Matrix). m.resolution) (sym c.self.view_is)) c.requires.within in
+    let at_bit : c.args.bit ≡ bit_index c.self.inside.resolution c.args.c = c.requires.bit ∙ ap (λ (m : Matrix). bit_index m.resolution c.args.c) (sym c.self.view_is) in
+    let one = changed_by c.self.inside.resolution c.args.c c.self.inside.words.items c.deref_mut.result.now c.set_bit.new.words _ c.args.bit c.args.full c.deref_mut.ensures.value (sym (with_items_is c.self.inside.words c.set_bit.new.words length_is)) (c.set_bit.auto.words ∙ ap length c.deref_mut.ensures.value) at_bit c.set_bit.ensures.here c.set_bit.ensures.others in
+    subst (λ (ws : List ℕ). AreZeroFrom ws (end_with c.self.inside.end (c.args.bit / 64) c.args.full)) (sym c.deref.ensures.value)
+    (zero_beside_voxel c.self.inside.resolution c.self.inside.words.items _ c.args.c c.args.full c.self.inside.end (c.args.bit / 64) inside c.self.invariant.0 c.self.invariant.2 one (ap (λ n. n / 64) at_bit))
 
 pub returns-clause-value : goal.returns-clause-value
 returns-clause-value c =
