@@ -245,8 +245,21 @@ impl System {
         ensures value { self.new ≡ record self.old { energy = self.old.energy +ℤ upkeep_of self.old } }
         ensures within { IsWithin 4611686020427387904 self.new.energy }
     {
+        let bots = self.crew.count();
+        self.pay_upkeep_of(bots);
+    }
+
+    /// [`System::pay_upkeep`], by the number of bots. A caller that knows it keeps it out of memory.
+    #[inline(always)]
+    fn pay_upkeep_of(&mut self, bots: u8)
+        requires payable { IsPayable self.old.energy }
+        requires bots { bots ≡ length self.old.bots }
+        requires few { bots ≤ 40 }
+        ensures value { self.new ≡ record self.old { energy = self.old.energy +ℤ upkeep_of self.old } }
+        ensures within { IsWithin 4611686020427387904 self.new.energy }
+    {
         self.matrix.recall();
-        let upkeep = upkeep_at(self.space, self.crew.count());
+        let upkeep = upkeep_at(self.space, bots);
         self.energy = add_cost(self.energy, upkeep);
     }
 

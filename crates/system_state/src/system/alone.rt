@@ -51,7 +51,7 @@ impl System {
         let Some(to) = moves_at_once(&self.matrix, self.profile, bot, d, steps) else {
             return false;
         };
-        self.pay_upkeep();
+        self.pay_upkeep_of(1);
         self.pay(cost_of_move(d));
         self.move_only(to);
         true
@@ -79,7 +79,7 @@ impl System {
         let bot = self.only_bot();
         match judge_move(&self.matrix, self.profile, bot, d, step, steps) {
             Ok(to) => {
-                self.pay_upkeep();
+                self.pay_upkeep_of(1);
                 self.pay(cost_of_move(d));
                 self.move_only(to);
                 None
@@ -113,7 +113,7 @@ impl System {
             → self.new ≡ after self.old (edit_of full d ∷ []) }
         ensures bots { self.new.bots ≡ self.old.bots }
     {
-        self.pay_upkeep();
+        self.pay_upkeep_of(1);
         self.edit_voxel(at, bit, full, was_full);
     }
 }

@@ -17,7 +17,7 @@ returns-clause-moved g c = λ _.
     let same : to_z w64 (of_z w64 c.cost_of_move.result) ≡ c.cost_of_move.result = search rules in
     let payment : c.pay.new.self ≡ record s { energy = (s.energy +ℤ upkeep s) +ℤ pos (2 * mlen c.args.d) } =
     c.pay.ensures.value
-    ∙ (ap (λ (t : State). record t { energy = t.energy +ℤ to_z w64 (of_z w64 c.cost_of_move.result) }) c.pay_upkeep.ensures.value
+    ∙ (ap (λ (t : State). record t { energy = t.energy +ℤ to_z w64 (of_z w64 c.cost_of_move.result) }) c.pay_upkeep_of.ensures.value
     ∙ ap (λ z. record s { energy = (s.energy +ℤ upkeep s) +ℤ z }) (same ∙ c.cost_of_move.ensures.value)) in
     let gone : c.move_only.new.self ≡ record c.pay.new.self { bots = there } =
     c.move_only.ensures b (ap (λ (t : State). t.bots) payment ∙ c.only_bot-bot.ensures.only) in
@@ -31,7 +31,7 @@ returns-clause-one g c = λ _.
     let same : to_z w64 (of_z w64 c.cost_of_move.result) ≡ c.cost_of_move.result = search rules in
     let payment : c.pay.new.self ≡ record s { energy = (s.energy +ℤ upkeep s) +ℤ pos (2 * mlen c.args.d) } =
     c.pay.ensures.value
-    ∙ (ap (λ (t : State). record t { energy = t.energy +ℤ to_z w64 (of_z w64 c.cost_of_move.result) }) c.pay_upkeep.ensures.value
+    ∙ (ap (λ (t : State). record t { energy = t.energy +ℤ to_z w64 (of_z w64 c.cost_of_move.result) }) c.pay_upkeep_of.ensures.value
     ∙ ap (λ z. record s { energy = (s.energy +ℤ upkeep s) +ℤ z }) (same ∙ c.cost_of_move.ensures.value)) in
     let gone : c.move_only.new.self ≡ record c.pay.new.self { bots = there } =
     c.move_only.ensures b (ap (λ (t : State). t.bots) payment ∙ c.only_bot-bot.ensures.only) in
