@@ -351,7 +351,8 @@ impl System {
         self.edit_voxel(at, bit, full, was_full);
     }
 
-    /// A voxel, whose bit has this index, is made full or void, and what that costs beside the upkeep is paid.
+    /// A voxel, whose bit has this index, is made full or void, and what that costs beside the upkeep is paid: first, so that both
+    /// payments of an only bot are one.
     #[inline(always)]
     fn edit_voxel(&mut self, at: Coord, bit: usize, full: bool, was_full: bool)
         requires at { IsInSpace self.old.matrix.resolution at }
@@ -362,8 +363,8 @@ impl System {
             { matrix = with_voxel self.old.matrix at full; energy = self.old.energy +ℤ edit_cost full was_full } }
         ensures within { IsAfterTurn self.old.energy self.new.energy }
     {
-        self.set_voxel_at(at, bit, full);
         self.pay(cost_of_edit(full, was_full));
+        self.set_voxel_at(at, bit, full);
     }
 
     /// The turn of a group by any command of its leader.

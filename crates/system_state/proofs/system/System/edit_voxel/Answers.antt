@@ -2,11 +2,8 @@ use Rattle.std.proofs.Common.{rules, ◌≡◌, ◌∙◌, sym, ap, subst, w64, 
 use Rattle.std.specs.Prelude.{◌+ℤ◌, ℤ}
 use Rattle.nano_spec.specs.State.{State}
 use Rattle.vox_planes.specs.Voxel.{with_voxel}
-use Rattle.system_state.specs.Bounds.{IsWithin}
+use Rattle.system_state.specs.Bounds.{IsAfterTurn, IsWithin}
 use Rattle.system_state.proofs.system.System.edit_voxel.Goals as goal
-
-pub pay-requires-clause-payable : goal.pay-requires-clause-payable
-pay-requires-clause-payable c = subst (λ (t : State). IsWithin 9000000000000000000 t.energy) (sym c.set_voxel_at.ensures.value) c.requires.payable
 
 pub pay-requires-clause-small : goal.pay-requires-clause-small
 pay-requires-clause-small c =
@@ -17,9 +14,9 @@ pub returns-clause-value : goal.returns-clause-value
 returns-clause-value c =
     let s : State = c.args.self.now in
     let same : to_z w64 (of_z w64 c.cost_of_edit.result) ≡ c.cost_of_edit.result = search rules in
-    c.pay.ensures.value
-    ∙ (ap (λ (t : State). record t { energy = t.energy +ℤ to_z w64 (of_z w64 c.cost_of_edit.result) }) c.set_voxel_at.ensures.value
+    c.set_voxel_at.ensures.value
+    ∙ (ap (λ (t : State). record t { matrix = with_voxel t.matrix c.args.at c.args.full }) c.pay.ensures.value
     ∙ ap (λ z. record s { matrix = with_voxel s.matrix c.args.at c.args.full; energy = s.energy +ℤ z }) (same ∙ c.cost_of_edit.ensures.value))
 
 pub returns-clause-within : goal.returns-clause-within
-returns-clause-within c = λ k h. c.pay.ensures.within k (subst (λ (t : State). IsWithin k t.energy) (sym c.set_voxel_at.ensures.value) h)
+returns-clause-within c = subst (λ (t : State). IsAfterTurn c.args.self.now.energy t.energy) (sym c.set_voxel_at.ensures.value) c.pay.ensures.within
