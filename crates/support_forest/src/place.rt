@@ -6,7 +6,7 @@ ghost use Rattle.support_forest.specs.Placing.{AreBesideWords, CanPlace, IsAroun
 
 use crate::across::word_next;
 use crate::beside::{Beside, word_toward, words_beyond, words_in};
-use crate::cells::{Cells, word_index};
+use crate::cells::{BRICK_SIDE, Cells, word_index};
 use brick_arena::start_in_chunk;
 use std::alloc::AllocError;
 use std::sync::ledger::Ledger;
@@ -206,7 +206,7 @@ pub fn place<L: Ledger>(
 /// [`stand`] above the floor, where the voxel's brick has this slot. Each word beside the voxel is judged as it is read, so that none is
 /// kept.
 #[inline(always)]
-fn stand_in<L: Ledger>(cells: &mut Cells, c: Coord, slot: u32, steps: &mut Steps<L>) -> bool
+fn stand_by<L: Ledger>(cells: &mut Cells, c: Coord, slot: u32, steps: &mut Steps<L>) -> bool
     requires can { CanPlace cells.old c }
     requires slot { slot_of cells.old c ≡ Some slot }
     ensures placed { PlacesOrStays result cells.old cells.new c steps.old steps.new }
@@ -242,6 +242,32 @@ fn stand_in<L: Ledger>(cells: &mut Cells, c: Coord, slot: u32, steps: &mut Steps
     }
     cells.write(slot, c, 0, 8 * height + 11, steps);
     true
+}
+
+/// [`stand_in`] of a voxel that is the lowest of its brick.
+#[inline(never)]
+fn stand_lowest<L: Ledger>(cells: &mut Cells, c: Coord, slot: u32, steps: &mut Steps<L>) -> bool
+    requires can { CanPlace cells.old c }
+    requires slot { slot_of cells.old c ≡ Some slot }
+    ensures placed { PlacesOrStays result cells.old cells.new c steps.old steps.new }
+    ensures held { result ≡ true → 8 ≤ word_at cells.new c }
+{
+    stand_by(cells, c, slot, steps)
+}
+
+/// [`stand_by`], in two ways: where the first word that is read lies in the voxel's own brick, the compiler keeps the place of its
+/// chunk for those that follow.
+#[inline(always)]
+fn stand_in<L: Ledger>(cells: &mut Cells, c: Coord, slot: u32, steps: &mut Steps<L>) -> bool
+    requires can { CanPlace cells.old c }
+    requires slot { slot_of cells.old c ≡ Some slot }
+    ensures placed { PlacesOrStays result cells.old cells.new c steps.old steps.new }
+    ensures held { result ≡ true → 8 ≤ word_at cells.new c }
+{
+    if c.y % BRICK_SIDE == 0 {
+        return stand_lowest(cells, c, slot, steps);
+    }
+    stand_by(cells, c, slot, steps)
 }
 
 /// Makes a void voxel full that stands on the floor or on the one under it, where no other level changes by it, and tells whether it

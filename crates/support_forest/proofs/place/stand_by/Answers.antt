@@ -4,7 +4,7 @@ use Rattle.support_forest.specs.declared.beside.Beside.{Beside}
 use Rattle.support_forest.specs.Grid.{word_at}
 use Rattle.support_forest.specs.Placing.{AreBesideWords, MayStand}
 use Rattle.support_forest.proofs.Placing.{placed_over, under_small}
-use Rattle.support_forest.proofs.place.stand_in.Goals as goal
+use Rattle.support_forest.proofs.place.stand_by.Goals as goal
 
 pub chunk-chunk-requires : goal.chunk-chunk-requires
 chunk-chunk-requires g c = c.recall.ensures.store.live _ c.args.slot c.requires.slot

@@ -1,7 +1,7 @@
 use Rattle.support_forest.specs.Grid.{word_at}
 use Rattle.support_forest.proofs.Taking.{none_hangs}
 use Rattle.std.proofs.Common.{refl}
-use Rattle.support_forest.proofs.take.is_parent.Goals as goal
+use Rattle.support_forest.proofs.take.is_parent_by.Goals as goal
 
 pub chunk-chunk-requires : goal.chunk-chunk-requires
 chunk-chunk-requires g c = c.recall.ensures.store.live _ c.args.slot c.requires.slot
