@@ -15,11 +15,11 @@ pay-requires-clause-small c =
 
 pub returns-clause-value : goal.returns-clause-value
 returns-clause-value c =
-    let s : State = c.args.self.now in
+    let state : State = c.args.self.now in
     let same : to_z w64 (of_z w64 c.cost_of_edit.result) ≡ c.cost_of_edit.result = search rules in
     c.pay.ensures.value
     ∙ (ap (λ (t : State). record t { energy = t.energy +ℤ to_z w64 (of_z w64 c.cost_of_edit.result) }) c.set_voxel.ensures.value
-    ∙ ap (λ z. record s { matrix = with_voxel s.matrix c.args.at c.args.full; energy = s.energy +ℤ z }) (same ∙ c.cost_of_edit.ensures.value))
+    ∙ ap (λ z. record state { matrix = with_voxel state.matrix c.args.at c.args.full; energy = state.energy +ℤ z }) (same ∙ c.cost_of_edit.ensures.value))
 
 pub returns-clause-within : goal.returns-clause-within
 returns-clause-within c = λ k h. c.pay.ensures.within k (subst (λ (t : State). IsWithin k t.energy) (sym c.set_voxel.ensures.value) h)
