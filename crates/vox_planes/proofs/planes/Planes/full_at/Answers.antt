@@ -7,10 +7,10 @@ use Rattle.vox_planes.proofs.planes.Planes.full_at.Goals as goal
 
 pub returns-clause-value : goal.returns-clause-value
 returns-clause-value g c =
-    let r = c.self.inside.resolution in
+    let resolution = c.self.inside.resolution in
     let ws = c.self.inside.words.items in
     let within = subst (λ (n : ℕ). IsInSpace n c.args.c) (ap (λ (m : Matrix). m.resolution) (sym c.self.view_is)) c.requires in
     c.is_set.ensures
     ∙ ((λ i. is_set (c.deref.ensures.value i) (c.bit_index.ensures.value i))
-    ∙ (sym (is_full-layered r ws c.args.c within)
+    ∙ (sym (is_full-layered resolution ws c.args.c within)
     ∙ ap (λ (m : Matrix). is_full m c.args.c) c.self.view_is))
