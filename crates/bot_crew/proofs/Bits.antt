@@ -71,9 +71,9 @@ number_in a (suc n) k l m = by (cases_order k a) (λ e. number_in (a + 1) n k (o
   where
     by : (k ≡ a) ⊎ ((k < a) ⊎ (a < k)) → (a < k → contains (numbers_from (a + 1) n) k ≡ true)
         → (k == a || contains (numbers_from (a + 1) n) k) ≡ true
-    by (inl e) later = let f : (k == a) ≡ true = test_equal k a e in rw f refl
+    by (inl e) later = let k_is_a : (k == a) ≡ true = test_equal k a e in rw k_is_a refl
     by (inr (inl e)) later = absurd (omega arith)
-    by (inr (inr e)) later = let f : (k == a) ≡ false = test_unequal k a (λ g. omega arith) in rw f (later e)
+    by (inr (inr e)) later = let k_is_not_a : (k == a) ≡ false = test_unequal k a (λ g. omega arith) in rw k_is_not_a (later e)
 
 all_at : (w n : ℕ) → n < 2 ^ w → seed_set (filter (is_seed n) (numbers_from 0 w)) ≡ n
 all_at w n h = same_seeds (seed_set (filter (is_seed n) (numbers_from 0 w))) n (λ k. seed_is 0 (filter (is_seed n) (numbers_from 0 w)) (filter_rises (is_seed n) 0 (numbers_from 0 w) (numbers_rise 0 w)) k ∙ (filtered (is_seed n) (numbers_from 0 w) k ∙ by k (within k)))
@@ -97,7 +97,7 @@ same_list a b h = same_filter (is_seed a) (is_seed b) 0 64 (λ k l m. h k)
 back : (a n : ℕ) (ks : List ℕ) → Rising a ks → ((k : ℕ) → contains ks k ≡ true → k < a + n)
     → filter (contains ks) (numbers_from a n) ≡ ks
 back a zero [] h w = refl
-back a zero (j ∷ ks) h w = let below_a : j < a + 0 = w j (let e : (j == j) ≡ true = test_equal j j refl in rw e refl) in absurd (omega (arith, h.0))
+back a zero (j ∷ ks) h w = let below_a : j < a + 0 = w j (let same_j : (j == j) ≡ true = test_equal j j refl in rw same_j refl) in absurd (omega (arith, h.0))
 back a (suc n) [] h w = nothing_left (λ k. false) a (suc n) (λ k l m. refl)
 back a (suc n) (j ∷ ks) h w =
     by (cases_order a j)
@@ -110,7 +110,7 @@ back a (suc n) (j ∷ ks) h w =
     by (inl e) at above =
         let here : (a == j) ≡ true = test_equal a j e in
         let one : contains (j ∷ ks) a ≡ true = rw here refl in
-        let more : filter (contains (j ∷ ks)) (numbers_from (a + 1) n) ≡ ks = same_filter (contains (j ∷ ks)) (contains ks) (a + 1) n (λ k l m. let f : (k == j) ≡ false = test_unequal k j (λ g. omega arith) in rw f refl) ∙ at e in
+        let more : filter (contains (j ∷ ks)) (numbers_from (a + 1) n) ≡ ks = same_filter (contains (j ∷ ks)) (contains ks) (a + 1) n (λ k l m. let k_is_not_j : (k == j) ≡ false = test_unequal k j (λ g. omega arith) in rw k_is_not_j refl) ∙ at e in
         rw one (λ i. e i ∷ more i)
     by (inr (inl l)) at above =
         let none : contains (j ∷ ks) a ≡ false = none_below (a + 1) (j ∷ ks) (omega arith, h.1) a (omega arith) in
@@ -146,10 +146,10 @@ parts n j ks e = (subst (λ v. Rising 0 v) e (list_rises n), λ k f. list_below 
 -- the set without its least seed
 pub less_is : (n j : ℕ) (ks : List ℕ) → n < 2 ^ 64 → seed_list n ≡ j ∷ ks → (2 ^ j ≤ n) × (seed_list (n - 2 ^ j) ≡ ks)
 less_is n j ks h e =
-    let s : n ≡ 2 ^ j + seed_set ks = fewer n j ks h e in
-    let p = parts n j ks e in
+    let n_is : n ≡ 2 ^ j + seed_set ks = fewer n j ks h e in
+    let parts_here = parts n j ks e in
     let difference_is : n - 2 ^ j ≡ seed_set ks = omega arith in
-    (omega arith, ap seed_list difference_is ∙ list_of_set ks (weaker (j + 1) 0 ks (omega arith) p.0.1) (λ k f. p.1 k (or_by_second (k == j) (contains ks k) f)))
+    (omega arith, ap seed_list difference_is ∙ list_of_set ks (weaker (j + 1) 0 ks (omega arith) parts_here.0.1) (λ k f. parts_here.1 k (or_by_second (k == j) (contains ks k) f)))
 
 -- the lowest bit is the least seed
 pub least_is : (n j : ℕ) (ks : List ℕ) → n < 2 ^ 64 → seed_list n ≡ j ∷ ks → trailing_zeros w64 n ≡ j
@@ -166,4 +166,4 @@ least_is n j ks h e = by (cases_order (trailing_zeros w64 n) j) (bit_at-trailing
         × ((i : ℕ) → i < trailing_zeros w64 n → bit_at n i ≡ 0) → trailing_zeros w64 n ≡ j
     by (inl f) t = f
     by (inr (inl l)) t = absurd (not_both (ap (λ v. v == 1) t.1) (seed (trailing_zeros w64 n) ∙ none_below j (j ∷ ks) (omega arith, (parts n j ks e).0.1) (trailing_zeros w64 n) l))
-    by (inr (inr l)) t = absurd (not_both (seed j ∙ (let f : (j == j) ≡ true = test_equal j j refl in rw f refl)) (ap (λ v. v == 1) (t.2 j l)))
+    by (inr (inr l)) t = absurd (not_both (seed j ∙ (let same_j : (j == j) ≡ true = test_equal j j refl in rw same_j refl)) (ap (λ v. v == 1) (t.2 j l)))

@@ -26,26 +26,26 @@ use Rattle.bot_crew.proofs.Kin.{IsHeir, IsKin, Own, crew_of}
 
 pub stands : (c : Coord) (b : Bot) → b.pos ≡ c → stands_at c b ≡ true
 stands c b e =
-    let x : (b.pos.x == c.x) ≡ true = test_equal b.pos.x c.x (ap (λ (v : Coord). v.x) e) in
-    let y : (b.pos.y == c.y) ≡ true = test_equal b.pos.y c.y (ap (λ (v : Coord). v.y) e) in
-    let z : (b.pos.z == c.z) ≡ true = test_equal b.pos.z c.z (ap (λ (v : Coord). v.z) e) in
-    rw (x, y, z) refl
+    let same_x : (b.pos.x == c.x) ≡ true = test_equal b.pos.x c.x (ap (λ (v : Coord). v.x) e) in
+    let same_y : (b.pos.y == c.y) ≡ true = test_equal b.pos.y c.y (ap (λ (v : Coord). v.y) e) in
+    let same_z : (b.pos.z == c.z) ≡ true = test_equal b.pos.z c.z (ap (λ (v : Coord). v.z) e) in
+    rw (same_x, same_y, same_z) refl
 
 pub stood : (c : Coord) (b : Bot) → stands_at c b ≡ true → b.pos ≡ c
 stood c b h =
     let rest = second_of_two (b.pos.x == c.x) ((b.pos.y == c.y) && (b.pos.z == c.z)) h in
-    let x = (Decides-eqb b.pos.x c.x).0 (first_of_two (b.pos.x == c.x) ((b.pos.y == c.y) && (b.pos.z == c.z)) h) in
-    let y = (Decides-eqb b.pos.y c.y).0 (first_of_two (b.pos.y == c.y) (b.pos.z == c.z) rest) in
-    let z = (Decides-eqb b.pos.z c.z).0 (second_of_two (b.pos.y == c.y) (b.pos.z == c.z) rest) in
-    λ i. record { x = x i; y = y i; z = z i }
+    let same_x = (Decides-eqb b.pos.x c.x).0 (first_of_two (b.pos.x == c.x) ((b.pos.y == c.y) && (b.pos.z == c.z)) h) in
+    let same_y = (Decides-eqb b.pos.y c.y).0 (first_of_two (b.pos.y == c.y) (b.pos.z == c.z) rest) in
+    let same_z = (Decides-eqb b.pos.z c.z).0 (second_of_two (b.pos.y == c.y) (b.pos.z == c.z) rest) in
+    λ i. record { x = same_x i; y = same_y i; z = same_z i }
 
 pub found_in : (p : Bot → Bool) (bots : List Bot) (b : Bot) → find p bots ≡ Some b → In b bots × (p b ≡ true)
 found_in p [] b e = cc
 found_in p (x ∷ xs) b e = by (p x) refl (found_in p xs b)
   where
     by : (t : Bool) → p x ≡ t → (find p xs ≡ Some b → In b xs × (p b ≡ true)) → In b (x ∷ xs) × (p b ≡ true)
-    by true f later = let g : Some x ≡ Some b = rw f at e in let b_is : b ≡ x = cc in (inl b_is, ap p b_is ∙ f)
-    by false f later = let r = later (rw f at e) in (inr r.0, r.1)
+    by true f later = let same_some : Some x ≡ Some b = rw f at e in let b_is : b ≡ x = cc in (inl b_is, ap p b_is ∙ f)
+    by false f later = let later_on = later (rw f at e) in (inr later_on.0, later_on.1)
 
 module _ (bots : List Bot) (c : Coord) where
   -- no bot stands where none is found
@@ -63,7 +63,7 @@ module _ (bots : List Bot) (c : Coord) where
     where
       by : (o : Option Bot) → bot_at bots c ≡ o → IfSome o (λ b. b.bid ≡ bid) → e.bid ≡ bid
       by None g n = absurd (not_both (stands c e f) (find_none (stands_at c) e bots g i))
-      by (Some b) g n = let r = found_in (stands_at c) bots b g in kin.apart e b i r.0 (f ∙ sym (stood c b r.1)) ∙ n
+      by (Some b) g n = let found_there = found_in (stands_at c) bots b g in kin.apart e b i found_there.0 (f ∙ sym (stood c b found_there.1)) ∙ n
 
 -- ---- seeds
 
@@ -82,7 +82,7 @@ head_apart [] r = refl
 head_apart (j ∷ ks) r = none_below (j + 1) ks r.1 j (omega arith)
 
 one_in : (a b : ℕ) → a ≡ b → ((a == b) || false) ≡ true
-one_in a b e = let f : (a == b) ≡ true = test_equal a b e in rw f refl
+one_in a b e = let a_is_b : (a == b) ≡ true = test_equal a b e in rw a_is_b refl
 
 -- ---- a move
 
@@ -244,7 +244,7 @@ module _ (bots : List Bot) (kin : IsKin bots) (a b : Bot) (i : In a bots) (j : I
   bid_of x k = ap (λ (v : Bot). v.bid) (fused_is x k)
 
   first_in : (x : ℕ) → a.bid ≡ x → ((a.bid == x) || ((b.bid == x) || false)) ≡ true
-  first_in x e = let f : (a.bid == x) ≡ true = test_equal a.bid x e in rw f refl
+  first_in x e = let same_bid : (a.bid == x) ≡ true = test_equal a.bid x e in rw same_bid refl
 
   second_in : ((a.bid == b.bid) || ((b.bid == b.bid) || false)) ≡ true
   second_in = by (a.bid == b.bid) (one_in b.bid b.bid refl)
@@ -289,19 +289,19 @@ row_within a (suc n) k e = by (one_of_two (k == a) (contains (numbers_from (a + 
     by : ((k == a) ≡ true) ⊎ (contains (numbers_from (a + 1) n) k ≡ true)
         → (contains (numbers_from (a + 1) n) k ≡ true → (a + 1 ≤ k) × (k < a + 1 + n)) → (a ≤ k) × (k < a + suc n)
     by (inl f) later = let k_is : k ≡ a = (Decides-eqb k a).0 f in (omega arith, omega arith)
-    by (inr f) later = let r = later f in (omega arith, omega arith)
+    by (inr f) later = let later_on = later f in (omega arith, omega arith)
 
 module _ (profile : Profile) (few : profile.seeds ≤ 39) where
   seed_within : (k : ℕ) → is_seed (first_bot profile).seeds k ≡ true → (2 ≤ k) × (k ≤ 40)
   seed_within k e =
       let whole : profile.seeds + 2 ≡ suc (suc profile.seeds) = omega arith in
       let row : seed_set (drop 2 (numbers_from 0 (profile.seeds + 2))) ≡ seed_set (numbers_from 2 profile.seeds) = ap (λ v. seed_set (drop 2 (numbers_from 0 v))) whole in
-      let r = row_within 2 profile.seeds k (sym (seed_is 2 (numbers_from 2 profile.seeds) (numbers_rise 2 profile.seeds) k) ∙ (ap (λ v. is_seed v k) (sym row) ∙ e)) in
-      (r.0, omega arith)
+      let within_row = row_within 2 profile.seeds k (sym (seed_is 2 (numbers_from 2 profile.seeds) (numbers_rise 2 profile.seeds) k) ∙ (ap (λ v. is_seed v k) (sym row) ∙ e)) in
+      (within_row.0, omega arith)
 
   own_within : (k : ℕ) → Own (first_bot profile) k → IsBid k
   own_within k (inl e) = (omega arith, omega arith)
-  own_within k (inr e) = let r = seed_within k e in (omega arith, r.1)
+  own_within k (inr e) = let seed_range = seed_within k e in (omega arith, seed_range.1)
 
   bid_of_first : (x : Bot) → In x (first_bot profile ∷ []) → x.bid ≡ 1
   bid_of_first x (inl e) = ap (λ (v : Bot). v.bid) e

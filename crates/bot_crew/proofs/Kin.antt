@@ -27,7 +27,7 @@ pub record IsKin (bots : List Bot) : Type 0 where
   pub numbers : (a : Bot) (k : ℕ) → In a bots → Own a k → IsBid k
 
 all_in : (P : Bot → Type 0) (bots : List Bot) → All P bots → (a : Bot) → In a bots → P a
-all_in P bots h a i = let p = in_place a a bots i in subst (λ (b : Bot). P b) p.2 (h p.0 a p.1)
+all_in P bots h a i = let place = in_place a a bots i in subst (λ (b : Bot). P b) place.2 (h place.0 a place.1)
 
 module _ (bots : List Bot) (crew : IsCrew bots) where
   crew_apart : (a b : Bot) → a.pos ≡ b.pos → (a ≡ b) ⊎ ((a.pos ≢ b.pos) ⊎ (b.pos ≢ a.pos)) → a.bid ≡ b.bid
@@ -85,7 +85,7 @@ few least (x ∷ xs) l r h =
 
 pub crew_of : (bots : List Bot) → Rising bots → IsKin bots → IsCrew bots
 crew_of bots r kin = record {
-  most = let h = few 1 bots (omega arith) r (λ c i. kin.numbers c c.bid i (inl refl)) in omega arith;
+  most = let few_enough = few 1 bots (omega arith) r (λ c i. kin.numbers c c.bid i (inl refl)) in omega arith;
   rising = rising_pairs bots r;
   positions = λ i j d l m e. differ i j d l m (kin.apart (get_or bots i d) (get_or bots j d) (place_in d bots i (omega arith)) (place_in d bots j m) e);
   seeds = λ i j d l m k e. false_by (is_seed (get_or bots j d).seeds k) (λ f. differ i j d l m (kin.owns (get_or bots i d) (get_or bots j d) k (place_in d bots i (omega arith)) (place_in d bots j m) (inr e) (inr f)));
@@ -95,7 +95,7 @@ crew_of bots r kin = record {
 }
   where
     differ : (i j : ℕ) (d : Bot) → i < j → j < length bots → (get_or bots i d).bid ≡ (get_or bots j d).bid → ⊥
-    differ i j d l m e = let f = rising_pairs bots r i j d l m in omega arith
+    differ i j d l m e = let rises = rising_pairs bots r i j d l m in omega arith
 
     own : (a b : Bot) → In a bots → In b bots → is_seed a.seeds b.bid ≡ true → ⊥
     own a b i j f = not_both f (ap (is_seed a.seeds) (sym (kin.owns a b b.bid i j (inr f) (inl refl))) ∙ kin.unborn a i)
@@ -120,16 +120,16 @@ module _ (bots : List Bot) (rising : Rising bots) (kin : IsKin bots) (bids : Lis
   untrue false e = refl
 
   kept : (e : Bot) → In e (without bots bids) → In e bots × (list_any (λ j. j == e.bid) bids ≡ false)
-  kept e i = let k = filter_in (λ b. not (list_any (λ j. j == b.bid) bids)) e bots i in (k.0, untrue (list_any (λ j. j == e.bid) bids) k.1)
+  kept e i = let passed = filter_in (λ b. not (list_any (λ j. j == b.bid) bids)) e bots i in (passed.0, untrue (list_any (λ j. j == e.bid) bids) passed.1)
 
   cross : (c e : Bot) (k : ℕ) → In c news → In e (without bots bids) → Own c k → Own e k → ⊥
   cross c e k i j o p =
       let heirs = heir.heirs c k i o in
-      let s = kept e j in
-      not_both heirs.2 (ap (λ v. list_any (λ j. j == v) bids) (kin.owns heirs.0 e k heirs.1 s.0 heirs.3 p) ∙ s.1)
+      let kept_there = kept e j in
+      not_both heirs.2 (ap (λ v. list_any (λ j. j == v) bids) (kin.owns heirs.0 e k heirs.1 kept_there.0 heirs.3 p) ∙ kept_there.1)
 
   clear : (c e : Bot) → In c news → In e (without bots bids) → c.pos ≡ e.pos → ⊥
-  clear c e i j f = let s = kept e j in not_both (heir.free c e i s.0 f) s.1
+  clear c e i j f = let kept_there = kept e j in not_both (heir.free c e i kept_there.0 f) kept_there.1
 
   pub differ_all : Differing (news ++ without bots bids)
   differ_all = differ_append news (without bots bids) heir.differ (differ_filter (λ b. b.bid) (λ b. not (list_any (λ j. j == b.bid) bids)) bots (differing bots rising)) (λ c e i j f. cross c e c.bid i j (inl refl) (inl f))

@@ -25,20 +25,20 @@ pub found_at : (bots : List Bot) (bid i : ℕ) (d : Bot) → i < length bots
     → ((k : ℕ) → k < i → (get_or bots k d).bid < bid) → (get_or bots i d).bid ≡ bid
     → bot_of bots bid ≡ Some (get_or bots i d)
 found_at [] bid i d l b e = absurd (omega arith)
-found_at (x ∷ xs) bid zero d l b e = let f : (x.bid == bid) ≡ true = test_equal x.bid bid e in rw f refl
+found_at (x ∷ xs) bid zero d l b e = let same_bid : (x.bid == bid) ≡ true = test_equal x.bid bid e in rw same_bid refl
 found_at (x ∷ xs) bid (suc i) d l b e =
     let below_bid : x.bid < bid = b zero (omega arith) in
-    let f : (x.bid == bid) ≡ false = test_unequal x.bid bid (λ g. omega arith) in
-    rw f (found_at xs bid i d (omega arith) (λ k n. b (suc k) (omega arith)) e)
+    let other_bid : (x.bid == bid) ≡ false = test_unequal x.bid bid (λ g. omega arith) in
+    rw other_bid (found_at xs bid i d (omega arith) (λ k n. b (suc k) (omega arith)) e)
 
 pub none_at : (bots : List Bot) (bid i : ℕ) → Rising bots → IsPlace bots bid i
     → ((d : Bot) → i < length bots → (get_or bots i d).bid ≡ bid → ⊥) → (c : Bot) → In c bots → c.bid ≡ bid → ⊥
-none_at bots bid i r p h c j e = let w = in_place c c bots j in by w.0 w.1 (ap (λ (x : Bot). x.bid) w.2 ∙ e) (cases_order w.0 i)
+none_at bots bid i r p h c j e = let place = in_place c c bots j in by place.0 place.1 (ap (λ (x : Bot). x.bid) place.2 ∙ e) (cases_order place.0 i)
   where
     by : (k : ℕ) → k < length bots → (get_or bots k c).bid ≡ bid → (k ≡ i) ⊎ ((k < i) ⊎ (i < k)) → ⊥
     by k l f (inl g) = h c (omega arith) (ap (λ v. (get_or bots v c).bid) (sym g) ∙ f)
     by k l f (inr (inl g)) = let before = p.before k c g in omega arith
-    by k l f (inr (inr g)) = let m : (get_or bots i c).bid < (get_or bots k c).bid = rising_pairs bots r i k c g l in let n : bid ≤ (get_or bots i c).bid = p.from c (omega arith) in omega arith
+    by k l f (inr (inr g)) = let below_bid : (get_or bots i c).bid < (get_or bots k c).bid = rising_pairs bots r i k c g l in let at_most_bid : bid ≤ (get_or bots i c).bid = p.from c (omega arith) in omega arith
 
 -- no bot with the bid is active where none stands at its place
 pub none_found : (bots : List Bot) (bid i : ℕ) → Rising bots → IsPlace bots bid i
@@ -83,10 +83,10 @@ placed bots bid i r p s = by (decided bots bid i)
 -- ---- writes at a place
 
 is_kept : (bid : ℕ) (x : Bot) → (bid ≡ x.bid → ⊥) → not (list_any (λ k. k == x.bid) (bid ∷ [])) ≡ true
-is_kept bid x h = let e : (bid == x.bid) ≡ false = test_unequal bid x.bid h in rw e refl
+is_kept bid x h = let other_bid : (bid == x.bid) ≡ false = test_unequal bid x.bid h in rw other_bid refl
 
 not_kept : (bid : ℕ) (x : Bot) → bid ≡ x.bid → not (list_any (λ k. k == x.bid) (bid ∷ [])) ≡ false
-not_kept bid x h = let e : (bid == x.bid) ≡ true = test_equal bid x.bid h in rw e refl
+not_kept bid x h = let same_bid : (bid == x.bid) ≡ true = test_equal bid x.bid h in rw same_bid refl
 
 -- a removal
 pub remove_is : (bots : List Bot) (bid i : ℕ) → Rising bots → i < length bots
@@ -95,7 +95,7 @@ remove_is [] bid i r l e = absurd (omega arith)
 remove_is (x ∷ xs) bid zero r l e =
     rw (not_kept bid x (sym (e x))) (sym (filter_every (λ b. not (list_any (λ k. k == b.bid) (bid ∷ []))) xs (λ c j. is_kept bid c (λ f. let below_bid : x.bid < c.bid = r.0 c j in let same_bid : x.bid ≡ bid = e x in omega arith))))
 remove_is (x ∷ xs) bid (suc i) r l e =
-    let m : x.bid < (get_or xs i x).bid = r.0 (get_or xs i x) (place_in x xs i (omega arith)) in
+    let bid_below : x.bid < (get_or xs i x).bid = r.0 (get_or xs i x) (place_in x xs i (omega arith)) in
     let bid_is : (get_or xs i x).bid ≡ bid = e x in
     rw (is_kept bid x (λ f. omega arith)) (ap (λ ys. x ∷ ys) (remove_is xs bid i r.1 (omega arith) e))
 
@@ -117,7 +117,7 @@ set_is (x ∷ xs) bid zero new r l e n =
     rw (not_kept bid x (sym (e x)), filter_every (λ b. not (list_any (λ k. k == b.bid) (bid ∷ []))) xs (λ c j. is_kept bid c (λ f. let below_bid : x.bid < c.bid = r.0 c j in let same_bid : x.bid ≡ bid = e x in omega arith)))
     (sym (rising_itself (new ∷ xs) ((λ c j. let below_bid : x.bid < c.bid = r.0 c j in omega arith), r.1)))
 set_is (x ∷ xs) bid (suc i) new r l e n =
-    let m : x.bid < (get_or xs i x).bid = r.0 (get_or xs i x) (place_in x xs i (omega arith)) in
+    let bid_below : x.bid < (get_or xs i x).bid = r.0 (get_or xs i x) (place_in x xs i (omega arith)) in
     let bid_is : (get_or xs i x).bid ≡ bid = e x in
     let ws = without xs (bid ∷ []) in
     let rest : set xs i new ≡ with_bot new ws = set_is xs bid i new r.1 (omega arith) e n ∙ ap (λ ys. with_bot new ys) (rising_itself ws (without_rises xs (bid ∷ []) r.1)) in
@@ -129,7 +129,7 @@ set_is (x ∷ xs) bid (suc i) new r l e n =
 insert_with : (bots : List Bot) (i : ℕ) (new : Bot) → i ≤ length bots → ((k : ℕ) (d : Bot) → k < i → (get_or bots k d).bid < new.bid) → ((d : Bot) → i < length bots → new.bid < (get_or bots i d).bid) → insert bots i new ≡ with_bot new bots
 insert_with [] zero new l b f = refl
 insert_with [] (suc i) new l b f = absurd (omega arith)
-insert_with (x ∷ xs) zero new l b f = let m : nat_lt new.bid x.bid ≡ true = test_less new.bid x.bid (f x (omega arith)) in rw m refl
+insert_with (x ∷ xs) zero new l b f = let is_less : nat_lt new.bid x.bid ≡ true = test_less new.bid x.bid (f x (omega arith)) in rw is_less refl
 insert_with (x ∷ xs) (suc i) new l b f =
     let below_bid : x.bid < new.bid = b zero x (omega arith) in
     let not_nat_lt : nat_lt new.bid x.bid ≡ false = test_not_less new.bid x.bid (omega arith) in
@@ -139,7 +139,7 @@ insert_with (x ∷ xs) (suc i) new l b f =
 pub insert_is : (bots : List Bot) (i : ℕ) (new : Bot) → Rising bots → IsPlace bots new.bid i
     → ((c : Bot) → In c bots → c.bid ≡ new.bid → ⊥) → insert bots i new ≡ in_rising_order (new ∷ bots)
 insert_is bots i new r p h =
-    insert_with bots i new p.within p.before (λ d l. let m : new.bid ≤ (get_or bots i d).bid = p.from d l in let n : (get_or bots i d).bid ≡ new.bid → ⊥ = h (get_or bots i d) (place_in d bots i l) in strict new.bid (get_or bots i d).bid m n)
+    insert_with bots i new p.within p.before (λ d l. let at_most_bid : new.bid ≤ (get_or bots i d).bid = p.from d l in let differs : (get_or bots i d).bid ≡ new.bid → ⊥ = h (get_or bots i d) (place_in d bots i l) in strict new.bid (get_or bots i d).bid at_most_bid differs)
     ∙ ap (λ ys. with_bot new ys) (sym (rising_itself bots r))
   where
     strict : (a b : ℕ) → a ≤ b → (b ≡ a → ⊥) → a < b

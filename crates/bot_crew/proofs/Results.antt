@@ -208,11 +208,11 @@ split_result bots old now bid i c m first taken kept p e f crew place active fre
         → IsPlace (bots_seeded bots bots i kept) first p → SplitResult bots bots bots bid i c m first taken kept p
     here a g s l =
         let bots_seeded_is : bots_seeded bots bots i kept ≡ set bots i (parent (get_or bots i nobody) m) = ap (λ v. bots_seeded bots bots i v) split.kept ∙ written bots bots i (parent (get_or bots i nobody) m) refl in
-        let n : insert (bots_seeded bots bots i kept) p (record { bid = first; pos = c; seeds = taken }) ≡ insert (set bots i (parent (get_or bots i nobody) m)) p (newborn (get_or bots i nobody) (point c) m) = λ k. insert (bots_seeded_is k) p (record { bid = split.bid k; pos = c; seeds = split.taken k }) in
-        let q : IsPlace (set bots i (parent (get_or bots i nobody) m)) (newborn (get_or bots i nobody) (point c) m).bid p = subst (λ v. IsPlace (set bots i (parent (get_or bots i nobody) m)) v p) split.bid (subst (λ v. IsPlace v first p) bots_seeded_is l) in (
-          subst (λ v. length v < 40) (sym bots_seeded_is) (split_room bots crew bid i place a c m g s p q),
-          subst (λ v. IsCrew v) (sym n) (split_crew bots crew bid i place a c m g s p q),
-          for_bot bots crew bid i place a (λ b. insert (bots_seeded bots bots i kept) p (record { bid = first; pos = c; seeds = taken }) ≡ replaced bots (bid ∷ []) (parent b m ∷ newborn b (point c) m ∷ [])) nobody (n ∙ split_is bots crew bid i place a c m g s p q),
+        let same_insert : insert (bots_seeded bots bots i kept) p (record { bid = first; pos = c; seeds = taken }) ≡ insert (set bots i (parent (get_or bots i nobody) m)) p (newborn (get_or bots i nobody) (point c) m) = λ k. insert (bots_seeded_is k) p (record { bid = split.bid k; pos = c; seeds = split.taken k }) in
+        let is_place : IsPlace (set bots i (parent (get_or bots i nobody) m)) (newborn (get_or bots i nobody) (point c) m).bid p = subst (λ v. IsPlace (set bots i (parent (get_or bots i nobody) m)) v p) split.bid (subst (λ v. IsPlace v first p) bots_seeded_is l) in (
+          subst (λ v. length v < 40) (sym bots_seeded_is) (split_room bots crew bid i place a c m g s p is_place),
+          subst (λ v. IsCrew v) (sym same_insert) (split_crew bots crew bid i place a c m g s p is_place),
+          for_bot bots crew bid i place a (λ b. insert (bots_seeded bots bots i kept) p (record { bid = first; pos = c; seeds = taken }) ≡ replaced bots (bid ∷ []) (parent b m ∷ newborn b (point c) m ∷ [])) nobody (same_insert ∙ split_is bots crew bid i place a c m g s p is_place),
         )
 
 -- ---- a Fusion
@@ -225,7 +225,7 @@ module _ (bots : List Bot) (crew : IsCrew bots) (primary secondary end : ℕ) (p
   rest_rises = subst (λ v. Rising v) (sym rest_is) (without_rises bots (secondary ∷ []) (rising_of bots crew))
 
   stays : (x : Bot) → (x.bid == primary) ≡ true → not (list_any (λ k. k == x.bid) (secondary ∷ [])) ≡ true
-  stays x e = let f : (secondary == x.bid) ≡ false = test_unequal secondary x.bid (λ g. two (sym (g ∙ (Decides-eqb x.bid primary).0 e))) in rw f refl
+  stays x e = let other_secondary : (secondary == x.bid) ≡ false = test_unequal secondary x.bid (λ g. two (sym (g ∙ (Decides-eqb x.bid primary).0 e))) in rw other_secondary refl
 
   primary_in : bot_of (remove bots end) primary ≡ bot_of bots primary
   primary_in = ap (λ v. bot_of v primary) rest_is ∙ find_within (λ b. not (list_any (λ k. k == b.bid) (secondary ∷ []))) (λ b. b.bid == primary) bots (λ x j e. stays x e)
@@ -243,12 +243,12 @@ module _ (bots : List Bot) (crew : IsCrew bots) (primary secondary end : ℕ) (p
     heirs :
         IsHeir bots (primary ∷ secondary ∷ []) (fused (get_or (remove bots end) p nobody) (get_or bots end nobody) ∷ [])
     heirs =
-        let a = get_or (remove bots end) p nobody in
-        let b = get_or bots end nobody in
-        let e : b.bid ≡ secondary = bid_there bots crew secondary end place second nobody in
-        let bid_is : a.bid ≡ primary = still.1 nobody in
-        subst (λ v. IsHeir bots (v ∷ secondary ∷ []) (fused a b ∷ [])) bid_is (subst (λ v. IsHeir bots (a.bid ∷ v ∷ []) (fused a b ∷ [])) e
-        (fusion_heir bots (kin_of bots crew) a b (found_in (λ x. x.bid == primary) bots a primary_is).0 (there_in b) (λ g. two (sym bid_is ∙ (g ∙ e)))))
+        let element = get_or (remove bots end) p nobody in
+        let bot = get_or bots end nobody in
+        let bid_there_here : bot.bid ≡ secondary = bid_there bots crew secondary end place second nobody in
+        let bid_is : element.bid ≡ primary = still.1 nobody in
+        subst (λ v. IsHeir bots (v ∷ secondary ∷ []) (fused element bot ∷ [])) bid_is (subst (λ v. IsHeir bots (element.bid ∷ v ∷ []) (fused element bot ∷ [])) bid_there_here
+        (fusion_heir bots (kin_of bots crew) element bot (found_in (λ x. x.bid == primary) bots element primary_is).0 (there_in bot) (λ g. two (sym bid_is ∙ (g ∙ bid_there_here)))))
       where
         there_in : (b : Bot) → In (get_or bots end nobody) bots
         there_in b = place_in nobody bots end (at_place bots crew secondary end place second)
@@ -316,26 +316,26 @@ module _ (bots old now : List Bot) (crew : IsCrew bots) (e : bots ≡ old) (f : 
   -- the bot at the place, where it has the bid
   pub read_bot : (b : Bot) → true ≡ nat_lt i (length now) → b ≡ get_or now i b → b.bid ≡ bid → Some b ≡ bot_of old bid
   read_bot b t g h =
-      let l = less_by i (length now) t in
+      let is_less = less_by i (length now) t in
       let same : b ≡ get_or bots i b = g ∙ ap (λ v. get_or v i b) f in
-      ap Some same ∙ (sym (found_at bots bid i b (subst (λ v. i < length v) f l) (λ k m. place.before k b m) (ap (λ (v : Bot). v.bid) (sym same) ∙ h)) ∙ ap (λ v. bot_of v bid) e)
+      ap Some same ∙ (sym (found_at bots bid i b (subst (λ v. i < length v) f is_less) (λ k m. place.before k b m) (ap (λ (v : Bot). v.bid) (sym same) ∙ h)) ∙ ap (λ v. bot_of v bid) e)
 
   pub read_other : (b : Bot) → true ≡ nat_lt i (length now) → b ≡ get_or now i b → (b.bid ≡ bid → ⊥)
       → None ≡ bot_of old bid
-  read_other b t g h = let l = less_by i (length now) t in sym (none_found bots bid i (rising_of bots crew) place (λ d m n. h (ap (λ (v : Bot). v.bid) (read_is now i b l g) ∙ (ap (λ v. (get_or v i nobody).bid) f ∙ (ap (λ (v : Bot). v.bid) (sym (read_is bots i (get_or bots i d) m (again d m))) ∙ n))))) ∙ ap (λ v. bot_of v bid) e
+  read_other b t g h = let is_less = less_by i (length now) t in sym (none_found bots bid i (rising_of bots crew) place (λ d m n. h (ap (λ (v : Bot). v.bid) (read_is now i b is_less g) ∙ (ap (λ v. (get_or v i nobody).bid) f ∙ (ap (λ (v : Bot). v.bid) (sym (read_is bots i (get_or bots i d) m (again d m))) ∙ n))))) ∙ ap (λ v. bot_of v bid) e
     where
       again : (d : Bot) → i < length bots → get_or bots i d ≡ get_or bots i (get_or bots i d)
       again d m = either bots i d (get_or bots i d) m
 
   pub read_nothing : false ≡ nat_lt i (length now) → None ≡ bot_of old bid
-  read_nothing t = let l = not_less_by i (length now) t in sym (none_found bots bid i (rising_of bots crew) place (λ d m n. absurd (let same_length : length now ≡ length bots = ap length f in omega arith))) ∙ ap (λ v. bot_of v bid) e
+  read_nothing t = let at_least = not_less_by i (length now) t in sym (none_found bots bid i (rising_of bots crew) place (λ d m n. absurd (let same_length : length now ≡ length bots = ap length f in omega arith))) ∙ ap (λ v. bot_of v bid) e
 
 -- the bot that is found at a coordinate
 pub found_there : (bots : List Bot) (c : Coord) (i : ℕ) (b : Bot) → i < length bots
     → ((k : ℕ) (d : Bot) → k < i → stands_at c (get_or bots k d) ≡ false) → b ≡ get_or bots i b → b.pos ≡ c
     → bot_at bots c ≡ Some b
 found_there [] c i b l h e f = absurd (omega arith)
-found_there (x ∷ xs) c zero b l h e f = let g : stands_at c x ≡ true = stands c x (ap (λ (v : Bot). v.pos) (sym e) ∙ f) in rw g (ap Some (sym e))
+found_there (x ∷ xs) c zero b l h e f = let stands_at_holds : stands_at c x ≡ true = stands c x (ap (λ (v : Bot). v.pos) (sym e) ∙ f) in rw stands_at_holds (ap Some (sym e))
 found_there (x ∷ xs) c (suc i) b l h e f = rw (h zero x (omega arith)) (found_there xs c i b (omega arith) (λ k d m. h (suc k) d (omega arith)) e f)
 
 pub look_there : (bots now : List Bot) (i : ℕ) → now ≡ bots → i < length now
@@ -344,4 +344,4 @@ look_there bots now i e l = either now i nobody (get_or now i nobody) l ∙ ap (
 
 pub none_stands : (bots : List Bot) (c : Coord)
     → ((k : ℕ) (d : Bot) → k < length bots → stands_at c (get_or bots k d) ≡ false) → bot_at bots c ≡ None
-none_stands bots c h = none_find (stands_at c) bots (λ x i. let w = in_place x x bots i in ap (stands_at c) (sym w.2) ∙ h w.0 x w.1)
+none_stands bots c h = none_find (stands_at c) bots (λ x i. let place = in_place x x bots i in ap (stands_at c) (sym place.2) ∙ h place.0 x place.1)

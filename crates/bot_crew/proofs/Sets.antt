@@ -22,14 +22,14 @@ ones_of n h = ap count_ones (sym (set_of_list n h)) ∙ ones_are 0 (seed_list n)
 module _ (n : ℕ) (h : n < 2 ^ 64) where
   pub bit_within : (ks : List ℕ) → seed_list n ≡ ks → 0 < length ks → trailing_zeros w64 n < 64
   bit_within [] e l = absurd (omega arith)
-  bit_within (j ∷ ks) e l = let s = less_is n j ks h e in (bit_at-trailing_zeros w64 n (omega (arith, s.0, pow_pos j)) h).0
+  bit_within (j ∷ ks) e l = let least_facts = less_is n j ks h e in (bit_at-trailing_zeros w64 n (omega (arith, least_facts.0, pow_pos j)) h).0
 
   shifted : (j : ℕ) (ks : List ℕ) → seed_list n ≡ j ∷ ks → 1 * 2 ^ trailing_zeros w64 n % 2 ^ 64 ≡ 2 ^ j
   shifted j ks e = one_shl (trailing_zeros w64 n) 64 (bit_within (j ∷ ks) e (omega arith)) ∙ ap (λ v. 2 ^ v) (least_is n j ks h e)
 
   pub bit_less : (ks : List ℕ) → seed_list n ≡ ks → 0 < length ks → 1 * 2 ^ trailing_zeros w64 n % 2 ^ 64 ≤ n
   bit_less [] e l = absurd (omega arith)
-  bit_less (j ∷ ks) e l = let s = (less_is n j ks h e).0 in let f = shifted j ks e in omega (arith, s, f)
+  bit_less (j ∷ ks) e l = let least_facts = (less_is n j ks h e).0 in let shifted_here = shifted j ks e in omega (arith, least_facts, shifted_here)
 
   pub without_is : (ks : List ℕ) → seed_list n ≡ ks → 0 < length ks
       → seed_list (n - 1 * 2 ^ trailing_zeros w64 n % 2 ^ 64) ≡ drop 1 ks
@@ -47,8 +47,8 @@ pub between_is : (later kept m : ℕ) (ks : List ℕ) → later < 2 ^ 64 → kep
 between_is later kept m ks h g e f =
     let later_is : later ≡ seed_set (drop 1 ks) = sym (set_of_list later h) ∙ ap seed_set e in
     let kept_is : kept ≡ seed_set (drop (1 + m) ks) = sym (set_of_list kept g) ∙ ap seed_set f in
-    let d : seed_set (take m (drop 1 ks)) + seed_set (drop m (drop 1 ks)) ≡ seed_set (drop 1 ks) = sym (seed_join (take m (drop 1 ks)) (drop m (drop 1 ks))) ∙ ap seed_set (take-append-drop m (drop 1 ks)) in
-    let p : seed_set (drop m (drop 1 ks)) ≡ seed_set (drop (1 + m) ks) = ap seed_set (drop-drop m 1 ks) in
+    let sum_is : seed_set (take m (drop 1 ks)) + seed_set (drop m (drop 1 ks)) ≡ seed_set (drop 1 ks) = sym (seed_join (take m (drop 1 ks)) (drop m (drop 1 ks))) ∙ ap seed_set (take-append-drop m (drop 1 ks)) in
+    let seed_set_is : seed_set (drop m (drop 1 ks)) ≡ seed_set (drop (1 + m) ks) = ap seed_set (drop-drop m 1 ks) in
     let same_seed_set : seed_set (drop (1 + m) ks) ≡ seed_set (drop (m + 1) ks) = ap (λ v. seed_set (drop v ks)) (omega arith) in
     (omega arith, omega arith, kept_is ∙ same_seed_set)
 
@@ -57,10 +57,10 @@ row_is : (a n : ℕ) → seed_set (numbers_from a n) + 2 ^ a ≡ 2 ^ (a + n)
 row_is a zero = let sum_is : a + zero ≡ a = omega arith in omega (arith, ap (λ v. 2 ^ v) sum_is)
 row_is a (suc n) =
     let seed_set_is : seed_set (a ∷ numbers_from (a + 1) n) ≡ 2 ^ a + seed_set (numbers_from (a + 1) n) = seed_more a (numbers_from (a + 1) n) in
-    let t : 2 ^ (a + 1) ≡ 2 ^ a * 2 = pow-add 2 a 1 in
-    let r = row_is (a + 1) n in
+    let power_is : 2 ^ (a + 1) ≡ 2 ^ a * 2 = pow-add 2 a 1 in
+    let row_sum = row_is (a + 1) n in
     let sum_is : a + 1 + n ≡ a + suc n = omega arith in
-    omega (arith, r, ap (λ v. 2 ^ v) sum_is)
+    omega (arith, row_sum, ap (λ v. 2 ^ v) sum_is)
 
 pub first_row : (n : ℕ) → n ≤ 39 → (1 * 2 ^ n % 2 ^ 64 - 1) * 4 % 2 ^ 64 ≡ seed_set (drop 2 (numbers_below (n + 2)))
 first_row n h =

@@ -16,7 +16,7 @@ among-cases t s ts e = grind arith
 
 -- what is among them is no slot that is not
 pub apart : (s t : ℕ) (ts : List ℕ) → is_listed s ts ≡ false → is_listed t ts ≡ true → t ≡ s → ⊥
-apart s t ts unheld held e = let z : true ≡ false = sym held ∙ ap (λ k. is_listed k ts) e ∙ unheld in cc
+apart s t ts unheld held e = let true_is_false : true ≡ false = sym held ∙ ap (λ k. is_listed k ts) e ∙ unheld in cc
 
 pub chain-same : (m m' : ℕ → ℕ) (s n : ℕ) → ((t : ℕ) → is_listed t (chain m s n) ≡ true → m' (512 * t) ≡ m (512 * t))
     → chain m' s n ≡ chain m s n

@@ -31,7 +31,7 @@ known-set (c ∷ cs) zero w = refl
 known-set (c ∷ cs) (suc i) w = ap (λ l. word_or_zero c ∷ l) (known-set cs i w)
 
 pub filled-set : (cs : List (Option ℕ)) (i w : ℕ) → AllFilled cs → AllFilled (set cs i (Some w))
-filled-set cs i w all k lt = let e = length-set cs i (Some w) in stays cs i k w (all k (omega (arith, e, lt)))
+filled-set cs i w all k lt = let set_length = length-set cs i (Some w) in stays cs i k w (all k (omega (arith, set_length, lt)))
   where
     stays : (cs : List (Option ℕ)) (i k w : ℕ) → is_word (get_or cs k None) ≡ true
         → is_word (get_or (set cs i (Some w)) k None) ≡ true
@@ -70,6 +70,6 @@ module _ (old new : List (Option ℕ)) (range : SetsRange (Some 0) None old new 
     full = known-length new ∙ full;
     zeros = λ k. elim (cases_lt k 32768) [
       | inl inside ↦ known-get new k 0 (range.inside k (omega arith) inside)
-      | inr past ↦ get_or_past (known new) k 0 (let e = known-length new in omega (arith, e, full, past))
+      | inr past ↦ get_or_past (known new) k 0 (let known_count = known-length new in omega (arith, known_count, full, past))
     ];
   }

@@ -39,7 +39,7 @@ module _ (v : Slots) (s : ℕ) where
     | inl lt ↦ lt
     | inr none ↦
         let len_is : len v ≡ 0 = omega (arith, none) in
-        let z : false ≡ true = sym (ap is_some (ap (λ w. get w s) (empty_of_len v len_is) ∙ get-empty nat_cmp s)) ∙ live in cc
+        let false_is_true : false ≡ true = sym (ap is_some (ap (λ w. get w s) (empty_of_len v len_is) ∙ get-empty nat_cmp s)) ∙ live in cc
   ]
 
   pub len_removed : IsLive v s → len (remove v s) + 1 ≡ len v
@@ -60,27 +60,27 @@ module _ (m : ℕ → ℕ) (fs : List ℕ) where
   unfolding live_slots
   get_vacant zero q held = get-empty nat_cmp q
   get_vacant (suc n) q held =
-      let v = live_slots m fs n in
+      let live_ones = live_slots m fs n in
       elim (cases_eq q n) [
-        | inl e ↦ ap (λ b. get (cond b v (insert v n (slot_words m n))) q) (ap (λ k. is_listed k fs) (sym e) ∙ held) ∙ get_vacant n q held
-        | inr ne ↦ step v n (slot_words m n) (is_listed n fs) q ne ∙ get_vacant n q held
+        | inl e ↦ ap (λ b. get (cond b live_ones (insert live_ones n (slot_words m n))) q) (ap (λ k. is_listed k fs) (sym e) ∙ held) ∙ get_vacant n q held
+        | inr ne ↦ step live_ones n (slot_words m n) (is_listed n fs) q ne ∙ get_vacant n q held
       ]
 
   pub get_live : (n q : ℕ) → q < n → is_listed q fs ≡ false → get (live_slots m fs n) q ≡ Some (slot_words m q)
   unfolding live_slots
   get_live zero q lt unheld = absurd (omega (arith, lt))
   get_live (suc n) q lt unheld =
-      let v = live_slots m fs n in
+      let live_ones = live_slots m fs n in
       elim (cases_eq q n) [
-        | inl e ↦ ap (λ b. get (cond b v (insert v n (slot_words m n))) q) (ap (λ k. is_listed k fs) (sym e) ∙ unheld) ∙ get-insert_here v n (slot_words m n) q e ∙ ap (λ k. Some (slot_words m k)) (sym e)
-        | inr ne ↦ step v n (slot_words m n) (is_listed n fs) q ne ∙ get_live n q (omega (arith, lt, ne)) unheld
+        | inl e ↦ ap (λ b. get (cond b live_ones (insert live_ones n (slot_words m n))) q) (ap (λ k. is_listed k fs) (sym e) ∙ unheld) ∙ get-insert_here live_ones n (slot_words m n) q e ∙ ap (λ k. Some (slot_words m k)) (sym e)
+        | inr ne ↦ step live_ones n (slot_words m n) (is_listed n fs) q ne ∙ get_live n q (omega (arith, lt, ne)) unheld
       ]
 
   pub live_inside : (n q : ℕ) → IsLive (live_slots m fs n) q → (q < n) × (is_listed q fs ≡ false)
   live_inside n q live = elim (cases_lt q n) [
-    | inr past ↦ let z : false ≡ true = sym (ap is_some (get_past n q past)) ∙ live in cc
+    | inr past ↦ let false_is_true : false ≡ true = sym (ap is_some (get_past n q past)) ∙ live in cc
     | inl lt ↦ elim (cases_Bool (is_listed q fs)) [
-      | inl held ↦ let z : false ≡ true = sym (ap is_some (get_vacant n q held)) ∙ live in cc
+      | inl held ↦ let false_is_true : false ≡ true = sym (ap is_some (get_vacant n q held)) ∙ live in cc
       | inr unheld ↦ (lt, unheld)
     ]
   ]

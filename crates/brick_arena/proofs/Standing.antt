@@ -12,7 +12,7 @@ use Rattle.brick_arena.proofs.Rows.{length-row, get-row}
 word_fits : (cs : List (List ℕ)) (p : ℕ) → AreChunks cs → chunk_word cs p < 2 ^ 32
 word_fits cs p chunks = elim (cases_lt (p / 32768) (length cs)) [
   | inl lt ↦ (chunks (p / 32768) lt).fit (p % 32768)
-  | inr past ↦ let e = ap (λ c. get_or c (p % 32768) 0) (get_or_past cs (p / 32768) [] past) in omega (arith, e)
+  | inr past ↦ let element_is = ap (λ c. get_or c (p % 32768) 0) (get_or_past cs (p / 32768) [] past) in omega (arith, element_is)
 ]
 
 module _ (cs : List (List ℕ)) (free vacant reached : ℕ) (arena : IsArena cs free vacant reached) where
@@ -30,12 +30,12 @@ module _ (cs : List (List ℕ)) (free vacant reached : ℕ) (arena : IsArena cs 
 
   slot_fits : (s i : ℕ) → get_or (slot_words m s) i 0 < 2 ^ 32
   slot_fits s i = elim (cases_lt i 512) [
-    | inl lt ↦ let e = get-row m (512 * s) 512 i 0 lt in let fits = word_fits cs (512 * s + i) arena.chunks in omega (arith, e, fits)
-    | inr past ↦ let long = length-row m (512 * s) 512 in let e = get_or_past (slot_words m s) i 0 (omega (arith, long, past)) in omega (arith, e)
+    | inl lt ↦ let row_value = get-row m (512 * s) 512 i 0 lt in let fits = word_fits cs (512 * s + i) arena.chunks in omega (arith, row_value, fits)
+    | inr past ↦ let long = length-row m (512 * s) 512 in let past_is = get_or_past (slot_words m s) i 0 (omega (arith, long, past)) in omega (arith, past_is)
   ]
 
   no_words : (s i : ℕ) → get v s ≡ None → get_or (words_of v s) i 0 < 2 ^ 32
-  no_words s i none = let e = ap (λ o. get_or (unwrap_or o []) i 0) none in omega (arith, e)
+  no_words s i none = let element_is = ap (λ o. get_or (unwrap_or o []) i 0) none in omega (arith, element_is)
 
   pub are_slots : AreSlots v
   are_slots = record {
@@ -45,7 +45,7 @@ module _ (cs : List (List ℕ)) (free vacant reached : ℕ) (arena : IsArena cs 
       | inr past ↦ no_words s i (get_past m fs reached s past)
       | inl lt ↦ elim (cases_Bool (is_listed s fs)) [
         | inl held ↦ no_words s i (get_vacant m fs reached s held)
-        | inr unheld ↦ let e = ap (λ ws. get_or ws i 0) (words-live s lt unheld) in let fits = slot_fits s i in omega (arith, e, fits)
+        | inr unheld ↦ let element_is = ap (λ ws. get_or ws i 0) (words-live s lt unheld) in let fits = slot_fits s i in omega (arith, element_is, fits)
       ]
     ];
   }
@@ -66,10 +66,10 @@ module _ (cs : List (List ℕ)) (free vacant reached : ℕ) (arena : IsArena cs 
       record {
         full = ap (λ ws. length ws) e ∙ (arena.chunks (s / 64) below_length).full;
         each = λ i lt.
-            let q : s / 64 ≡ (512 * s + i) / 32768 = omega arith in
+            let same_quotient : s / 64 ≡ (512 * s + i) / 32768 = omega arith in
             let sum_is : s % 64 * 512 + i ≡ (512 * s + i) % 32768 = omega arith in
             ap (λ ws. get_or ws (s % 64 * 512 + i) 0) e
-            ∙ ap (λ k. get_or (get_or cs k []) (s % 64 * 512 + i) 0) q
+            ∙ ap (λ k. get_or (get_or cs k []) (s % 64 * 512 + i) 0) same_quotient
             ∙ ap (λ k. get_or (get_or cs ((512 * s + i) / 32768) []) k 0) sum_is
             ∙ sym (get-row m (512 * s) 512 i 0 lt)
             ∙ sym (ap (λ words. get_or words i 0) (words-live s at.0 at.1))

@@ -11,11 +11,11 @@ use Rattle.debug_script.specs.Worked.{WorkedPrints, WorkedScripts}
 
 -- a blank behind the word begins a further part, so that the parts are those of no line
 no_line_is : (line : DebugLine) → ArePartsOf (codes "step" ∷ [] ∷ []) line → ⊥
-no_line_is Step h = let e = h.parts_are in cc
-no_line_is (Group bid) h = let e = h.parts_are in cc
-no_line_is Back h = let e = h.parts_are in cc
-no_line_is Bots h = let e = h.parts_are in cc
-no_line_is (Voxel c) h = let e = h.parts_are in cc
+no_line_is Step h = let parts_are = h.parts_are in cc
+no_line_is (Group bid) h = let parts_are = h.parts_are in cc
+no_line_is Back h = let parts_are = h.parts_are in cc
+no_line_is Bots h = let parts_are = h.parts_are in cc
+no_line_is (Voxel c) h = let parts_are = h.parts_are in cc
 
 pub worked_scripts : WorkedScripts
 unfolding digits

@@ -83,8 +83,8 @@ first (part ∷ more) = part
 apart : (v : List ℕ) (ps : List (List ℕ)) (f : DebugLine) → bytes_eq v v ≡ true
     → bytes_eq v (first (parts_of f)) ≡ false → v ∷ ps ≡ parts_of f → ⊥
 apart v ps f same other e =
-    let g : bytes_eq v v ≡ bytes_eq v (first (parts_of f)) = ap (λ (xs : List (List ℕ)). bytes_eq v (first xs)) e in
-    let clash : true ≡ false = sym same ∙ (g ∙ other) in
+    let same_bytes_eq : bytes_eq v v ≡ bytes_eq v (first (parts_of f)) = ap (λ (xs : List (List ℕ)). bytes_eq v (first xs)) e in
+    let clash : true ≡ false = sym same ∙ (same_bytes_eq ∙ other) in
     cc
 
 behind : (v : List ℕ) (ps qs : List (List ℕ)) → v ∷ ps ≡ v ∷ qs → ps ≡ qs
@@ -136,8 +136,8 @@ module _ (r number : ℕ) (ps : List (List ℕ)) (n : ℕ) (few : HasFewDigits n
 
   pub group_in_range : 1 ≤ n → n ≤ 40 → IsReadBy (PartsSay r (codes "group" ∷ ps)) number (Ok (code.Group n))
   group_in_range l h =
-      let e : (nat_lt 0 n && nat_lt n 41) ≡ true = ap (λ b. b && nat_lt n 41) (test_less 0 n (omega arith)) ∙ test_less n 41 (omega arith) in
-      (written, e)
+      let both_hold : (nat_lt 0 n && nat_lt n 41) ≡ true = ap (λ b. b && nat_lt n 41) (test_less 0 n (omega arith)) ∙ test_less n 41 (omega arith) in
+      (written, both_hold)
 
 module _ (r number : ℕ) (ps : List (List ℕ)) (x y z : ℕ) (fx : HasFewDigits x) (fy : HasFewDigits y) (fz : HasFewDigits z) (are : ps ≡ decimal x ∷ decimal y ∷ decimal z ∷ []) where
   abbrev at : Coord
@@ -162,8 +162,8 @@ module _ (r number : ℕ) (ps : List (List ℕ)) (x y z : ℕ) (fx : HasFewDigit
 
   pub voxel_in_range : x < r → y < r → z < r → IsReadBy (PartsSay r (codes "voxel" ∷ ps)) number (Ok (code.Voxel at))
   voxel_in_range lx ly lz =
-      let e : (nat_lt x r && nat_lt y r && nat_lt z r) ≡ true = ap (λ b. b && nat_lt y r && nat_lt z r) (test_less x r lx) ∙ (ap (λ b. b && nat_lt z r) (test_less y r ly) ∙ test_less z r lz) in
-      (spelled, e)
+      let both_hold : (nat_lt x r && nat_lt y r && nat_lt z r) ≡ true = ap (λ b. b && nat_lt y r && nat_lt z r) (test_less x r lx) ∙ (ap (λ b. b && nat_lt z r) (test_less y r ly) ∙ test_less z r lz) in
+      (spelled, both_hold)
 
 -- ---- words
 

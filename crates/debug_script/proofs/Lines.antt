@@ -13,5 +13,5 @@ pub bots_on : (start : List ℕ) (before more : List Bot) (b : Bot) (old new : L
     → old ≡ start ++ flat_map bot_line before → new ≡ old ++ bot_line b → new ≡ start ++ flat_map bot_line more
 bots_on start before more b old new m o n =
     let one : flat_map bot_line (b ∷ []) ≡ bot_line b = append-nil (bot_line b) in
-    let e : flat_map bot_line more ≡ flat_map bot_line before ++ bot_line b = ap (flat_map bot_line) m ∙ (bots_joined before (b ∷ []) ∙ ap (λ v. flat_map bot_line before ++ v) one) in
-    n ∙ (ap (λ v. v ++ bot_line b) o ∙ (append_assoc start (flat_map bot_line before) (bot_line b) ∙ ap (λ v. start ++ v) (sym e)))
+    let flat_map_is : flat_map bot_line more ≡ flat_map bot_line before ++ bot_line b = ap (flat_map bot_line) m ∙ (bots_joined before (b ∷ []) ∙ ap (λ v. flat_map bot_line before ++ v) one) in
+    n ∙ (ap (λ v. v ++ bot_line b) o ∙ (append_assoc start (flat_map bot_line before) (bot_line b) ∙ ap (λ v. start ++ v) (sym flat_map_is)))

@@ -28,6 +28,6 @@ one_part xs end e f = whole xs (sym e ∙ f)
 pub first_part : (xs : List ℕ) (end : ℕ) → end ≡ position_or_len (λ b. b == 32) xs → end < length xs
     → line_parts xs ≡ take end xs ∷ line_parts (take (length xs - (end + 1)) (drop (end + 1) xs))
 first_part xs end e l =
-    let r = take_rest xs (end + 1) in
-    let s = slice_split_first is_space xs 0 (subst (λ (n : ℕ). n < length xs) e l) in
-    rw r (subst (λ (n : ℕ). line_parts xs ≡ take n xs ∷ line_parts (drop (n + 1) xs)) (sym e) s)
+    let rest_is = take_rest xs (end + 1) in
+    let split_first = slice_split_first is_space xs 0 (subst (λ (n : ℕ). n < length xs) e l) in
+    rw rest_is (subst (λ (n : ℕ). line_parts xs ≡ take n xs ∷ line_parts (drop (n + 1) xs)) (sym e) split_first)

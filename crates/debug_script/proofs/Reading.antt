@@ -48,7 +48,7 @@ module _ (r : ℕ) (bytes : List ℕ) (script : List ScriptLine) (left : List �
         let all = so_far.goes_on (with_first (script_line_is said) answer) (subst (λ (ls : List (List ℕ)). LinesSay r (number + 1) ls (with_first (script_line_is said) answer)) (sym cut) (Ok (script_line_is said), says, (answer, rest, refl))) in
         let same : lines_are now ≡ lines_are script ++ script_line_is said ∷ [] = ap lines_are e ∙ map-append script_line_is script (said ∷ []) in
         subst (ScriptSays r bytes) (one_more (lines_are script) (script_line_is said) answer ∙ ap (λ (xs : List DebugLine). with_all xs answer) (sym same)) all;
-    few = let n = so_far.few in omega (arith, n, shorter);
+    few = let so_far_few = so_far.few in omega (arith, so_far_few, shorter);
   }
 
   faulty_at : (fault : Fault) → LineSays r first (Err fault)

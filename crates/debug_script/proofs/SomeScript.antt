@@ -27,7 +27,7 @@ below_or_not part (suc bound) = by (bytes_eq part (decimal bound)) refl (below_o
     lower n l e f = elim (cases_lt n bound) [ inl less ↦ less | inr more ↦ absurd (last (omega (arith, l, more))) ]
       where
         last : n ≡ bound → ⊥
-        last same = let t : true ≡ false = sym ((bytes_eq-Decides part (decimal bound)).1 (e ∙ ap decimal same)) ∙ f in cc
+        last same = let true_is_false : true ≡ false = sym ((bytes_eq-Decides part (decimal bound)).1 (e ∙ ap decimal same)) ∙ f in cc
 
     by : (b : Bool) → bytes_eq part (decimal bound) ≡ b → IsBelow bound part ⊎ (IsBelow bound part → ⊥)
         → IsBelow (suc bound) part ⊎ (IsBelow (suc bound) part → ⊥)

@@ -59,7 +59,7 @@ in_dropped x (suc n) (y ∷ xs) i = inr (in_dropped x n xs i)
 last_of : (p : Moment) (past : List Moment)
     → (earlier : List Moment) × (last : Moment) × (p ∷ past ≡ earlier ++ last ∷ [])
 last_of p [] = ([], p, refl)
-last_of p (q ∷ past) = let l = last_of q past in (p ∷ l.0, l.1, ap (λ (qs : List Moment). p ∷ qs) l.2)
+last_of p (q ∷ past) = let last_moment = last_of q past in (p ∷ last_moment.0, last_moment.1, ap (λ (qs : List Moment). p ∷ qs) last_moment.2)
 
 -- ---- sessions
 
@@ -111,7 +111,7 @@ module _ (commands : List Command) (are : AreCommands commands) (stays_ready : R
     -- ---- the line of a step
 
     tries_step : HasAnswer (TriesStep commands s)
-    tries_step = let o = next_of s.point.state (next_commands commands s.point) (s.point.steps + 1) in by o.0 o.1
+    tries_step = let following = next_of s.point.state (next_commands commands s.point) (s.point.steps + 1) in by following.0 following.1
       where
         by : (o : Outcome) → Next s.point.state (next_commands commands s.point) (s.point.steps + 1) o
             → HasAnswer (TriesStep commands s)
@@ -149,7 +149,7 @@ module _ (commands : List Command) (are : AreCommands commands) (stays_ready : R
             negated false e = refl
 
         is_left : In bid orderly.left
-        is_left = let k = any_in (λ k. k == bid) (s.begun ++ orderly.left) listed in by k.0 k.2 (in_either k.0 s.begun orderly.left k.1)
+        is_left = let witness = any_in (λ k. k == bid) (s.begun ++ orderly.left) listed in by witness.0 witness.2 (in_either witness.0 s.begun orderly.left witness.1)
           where
             by : (k : ℕ) → (k == bid) ≡ true → In k s.begun ⊎ In k orderly.left → In bid orderly.left
             by k e (inl i) = absurd (not_both e (any_none (λ k. k == bid) k s.begun not_begun i))
@@ -181,13 +181,13 @@ module _ (commands : List Command) (are : AreCommands commands) (stays_ready : R
     takes_back : (past : List Moment) → s.past ≡ past → HasAnswer (TakesBack past s)
     takes_back [] e = (s, NoHistory, (refl, refl), orderly)
     takes_back (p ∷ past) e =
-        let l = last_of p past in
-        let is : s.past ≡ l.0 ++ l.1 ∷ [] = e ∙ l.2 in
-        let before : (q : Moment) → In q (l.0 ++ l.1 ∷ []) → IsReady q.state = λ q i. orderly.past q (subst (λ (qs : List Moment). In q qs) (sym is) i) in (
-          record { point = l.1; past = l.0; begun = [] },
-          is_returned l.1,
-          record { earlier = l.0; last = l.1; past = is; session = refl; report_is = refl },
-          fresh commands l.1 l.0 (before l.1 (in_right l.1 l.0 (l.1 ∷ []) (inl refl))) (λ q i. before q (in_left q l.0 (l.1 ∷ []) i)),
+        let last_moment = last_of p past in
+        let is : s.past ≡ last_moment.0 ++ last_moment.1 ∷ [] = e ∙ last_moment.2 in
+        let before : (q : Moment) → In q (last_moment.0 ++ last_moment.1 ∷ []) → IsReady q.state = λ q i. orderly.past q (subst (λ (qs : List Moment). In q qs) (sym is) i) in (
+          record { point = last_moment.1; past = last_moment.0; begun = [] },
+          is_returned last_moment.1,
+          record { earlier = last_moment.0; last = last_moment.1; past = is; session = refl; report_is = refl },
+          fresh commands last_moment.1 last_moment.0 (before last_moment.1 (in_right last_moment.1 last_moment.0 (last_moment.1 ∷ []) (inl refl))) (λ q i. before q (in_left q last_moment.0 (last_moment.1 ∷ []) i)),
         )
 
     goes_back : (begun : List ℕ) → HasAnswer (GoesBack begun s)
@@ -202,22 +202,22 @@ module _ (commands : List Command) (are : AreCommands commands) (stays_ready : R
         some f = cc
 
     tells_bots : HasAnswer (AnswersLine commands Bots s)
-    tells_bots = let m = middle_of s.begun refl in (s, Crew m.0.bots, (refl, (m.0, m.1, refl)), orderly)
+    tells_bots = let middle = middle_of s.begun refl in (s, Crew middle.0.bots, (refl, (middle.0, middle.1, refl)), orderly)
 
     answered : (line : DebugLine) → HasAnswer (AnswersLine commands line s)
     answered Step = unless_ended s.point.state.bots (TriesStep commands s) tries_step
     answered (Group bid) = unless_ended s.point.state.bots (TriesGroup commands bid s) (tries_group bid)
     answered Back = goes_back s.begun
     answered Bots = tells_bots
-    answered (Voxel c) = let l = level_of s.point.state.matrix c in (s, _, (refl, (l.0, l.1, refl)), orderly)
+    answered (Voxel c) = let the_level = level_of s.point.state.matrix c in (s, _, (refl, (the_level.0, the_level.1, refl)), orderly)
 
   prints_from : (script : List DebugLine) (s : Session) → IsOrderly commands s
       → (text : List ℕ) × Prints commands script s text
   prints_from [] s orderly = ([], refl)
   prints_from (line ∷ more) s orderly =
-      let a = answered s orderly line in
-      let rest = prints_from more a.0 a.3 in
-      (printed_report a.1 ++ rest.0, (a.0, a.1, rest.0, a.2, rest.1, refl))
+      let answered_here = answered s orderly line in
+      let rest = prints_from more answered_here.0 answered_here.3 in
+      (printed_report answered_here.1 ++ rest.0, (answered_here.0, answered_here.1, rest.0, answered_here.2, rest.1, refl))
 
   pub some_printing : (script : List DebugLine) (p : Moment) → IsReady p.state
       → (text : List ℕ) × Prints commands script (record { point = p; past = []; begun = [] }) text

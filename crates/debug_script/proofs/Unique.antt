@@ -25,15 +25,15 @@ first_part (part ∷ more) = part
 -- lines of other words have other parts
 pub other_words : (f g : DebugLine) → bytes_eq (first_part (parts_of f)) (first_part (parts_of f)) ≡ true
     → bytes_eq (first_part (parts_of f)) (first_part (parts_of g)) ≡ false → parts_of f ≡ parts_of g → ⊥
-other_words f g same other e = let t = subst (λ ws. bytes_eq (first_part (parts_of f)) (first_part ws) ≡ true) e same in cc
+other_words f g same other e = let bytes_equal = subst (λ ws. bytes_eq (first_part (parts_of f)) (first_part ws) ≡ true) e same in cc
 
 one_written : (line : List (List ℕ)) (f g : DebugLine) → ArePartsOf line f → ArePartsOf line g → f ≡ g
 one_written line Step Step h k = refl
 one_written line Back Back h k = refl
 one_written line Bots Bots h k = refl
-one_written line (Group n) (Group m) h k = let e : codes "group" ∷ decimal n ∷ [] ≡ codes "group" ∷ decimal m ∷ [] = sym h.parts_are ∙ k.parts_are in ap Group (same_digits n m h.short k.short (cc))
+one_written line (Group n) (Group m) h k = let same_list : codes "group" ∷ decimal n ∷ [] ≡ codes "group" ∷ decimal m ∷ [] = sym h.parts_are ∙ k.parts_are in ap Group (same_digits n m h.short k.short (cc))
 one_written line (Voxel c) (Voxel d) h k =
-    let e : codes "voxel" ∷ decimal c.x ∷ decimal c.y ∷ decimal c.z ∷ [] ≡ codes "voxel" ∷ decimal d.x ∷ decimal d.y ∷ decimal d.z ∷ [] = sym h.parts_are ∙ k.parts_are in
+    let same_list : codes "voxel" ∷ decimal c.x ∷ decimal c.y ∷ decimal c.z ∷ [] ≡ codes "voxel" ∷ decimal d.x ∷ decimal d.y ∷ decimal d.z ∷ [] = sym h.parts_are ∙ k.parts_are in
     let px = same_digits c.x d.x h.short.0 k.short.0 (cc) in
     let py = same_digits c.y d.y h.short.1 k.short.1 (cc) in
     let pz = same_digits c.z d.z h.short.2 k.short.2 (cc) in

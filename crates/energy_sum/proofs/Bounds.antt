@@ -50,7 +50,7 @@ pub size_just : (p : Point) → size (just p) ≤ 29791
 size_just p = size_most (just p) (extent_just p.x) (extent_just p.y) (extent_just p.z)
 
 pub size_far : (p : Point) (f : Diff) → IsFar f → size (between p (plus p f)) ≤ 29791
-size_far p f h = let b = far_bounds f h in size_most (between p (plus p f)) (extent_far p.x f.dx b.0) (extent_far p.y f.dy b.1) (extent_far p.z f.dz b.2)
+size_far p f h = let bounds = far_bounds f h in size_most (between p (plus p f)) (extent_far p.x f.dx bounds.0) (extent_far p.y f.dy bounds.1) (extent_far p.z f.dz bounds.2)
 
 -- ---- groups
 
@@ -93,10 +93,10 @@ group_most : (m : Matrix) (p : Point) (command : Command) → IsCommand command 
 group_most m p Halt h = small 0 (omega arith)
 group_most m p Wait h = small 0 (omega arith)
 group_most m p Flip h = small 0 (omega arith)
-group_most m p (SMove d) h = let l = long_most d h in small (2 * mlen d) (omega arith)
+group_most m p (SMove d) h = let long_bound = long_most d h in small (2 * mlen d) (omega arith)
 group_most m p (LMove d e) h =
-    let k = short_most d (first_of_two (is_short d) (is_short e) h) in
-    let l = short_most e (second_of_two (is_short d) (is_short e) h) in
+    let short_bound = short_most d (first_of_two (is_short d) (is_short e) h) in
+    let short_bound_here = short_most e (second_of_two (is_short d) (is_short e) h) in
     small (2 * (mlen d + 2 + mlen e)) (omega arith)
 group_most m p (FusionP d) h = fused
 group_most m p (FusionS d) h = fused
@@ -117,7 +117,7 @@ acts_commands (b ∷ bots) (c ∷ commands) h = (h.0, acts_commands bots command
 acts_length : (bots : List Bot) (commands : List Command) → length (acts bots commands) ≤ length bots
 acts_length [] commands = omega arith
 acts_length (b ∷ bots) [] = omega arith
-acts_length (b ∷ bots) (c ∷ commands) = let l = acts_length bots commands in omega arith
+acts_length (b ∷ bots) (c ∷ commands) = let as_many_acts = acts_length bots commands in omega arith
 
 one_more : (n : ℕ) (y z : ℤ) → IsAtMost 357492 y → IsAtMost (357492 * n) z → IsAtMost (357492 * suc n) (y +ℤ z)
 one_more n y z h k = record { above = omega (arith, ints, h.above, k.above); below = omega (arith, ints, h.below, k.below) }
@@ -140,9 +140,9 @@ some_most m test (x ∷ xs) h = by (test x) (some_most m test xs h.1)
 groups_most : (s : State) (commands : List Command) → length s.bots ≤ 40 → AreCommands commands
     → IsAtMost 14299680 (groups_cost s.matrix (acts s.bots commands))
 groups_most s commands n h =
-    let l = acts_length s.bots commands in
-    let k = some_most s.matrix (is_leader (acts s.bots commands)) (acts s.bots commands) (acts_commands s.bots commands h) in
-    record { above = omega (arith, ints, k.above); below = omega (arith, ints, k.below) }
+    let as_many_acts = acts_length s.bots commands in
+    let total_bound = some_most s.matrix (is_leader (acts s.bots commands)) (acts s.bots commands) (acts_commands s.bots commands h) in
+    record { above = omega (arith, ints, total_bound.above); below = omega (arith, ints, total_bound.below) }
 
 space_most : (high : Bool) (v n : ℕ) → v ≤ 64000000 → n ≤ 40 → cond high 30 3 * v + 20 * n ≤ 1920000800
 space_most true v n h k = omega arith

@@ -32,8 +32,8 @@ pub flat_where : (m : Matrix) (most : ℕ) (region : Span) → m.resolution ≤ 
     → ((p : Point) → is_within region p ≡ is_within (between (point (coord 0 1 0)) (point (coord most most most))) p)
     → find (λ c. is_full m c && is_within region (point c)) (all_of m) ≡ None → IsFlat m
 flat_where m most region l covers none = λ c f.
-    let i = full_within m c f in
-    let ix = i.x in let iy = i.y in let iz = i.z in
+    let within_space = full_within m c f in
+    let ix = within_space.x in let iy = within_space.y in let iz = within_space.z in
     flat_at most c.x c.y c.z (omega arith) (omega arith) (omega arith) (sym (covers (point c)) ∙ second_fails m (λ d. is_within region (point d)) c none f)
 
 too_low : (most x y z : ℕ) → 1 ≤ most → y ≡ 0 → (is_between (pos 0) (pos most) (pos x)
@@ -47,4 +47,4 @@ pub void_where : (m : Matrix) (most : ℕ) (region : Span) → 1 ≤ most
 void_where m most region l covers flat = none_find (λ c. is_full m c && is_within region (point c)) (all_of m) (λ c i. false_by (is_full m c && is_within region (point c)) (λ t. not_both (second_of_two (is_full m c) (is_within region (point c)) t) (covers (point c) ∙ too_low most c.x c.y c.z l (flat c (first_of_two (is_full m c) (is_within region (point c)) t)))))
 
 pub flat_if_low : (m : Matrix) → m.resolution ≤ 1 → IsFlat m
-flat_if_low m l = λ c f. let i = full_within m c f in let y = i.y in omega arith
+flat_if_low m l = λ c f. let within_space = full_within m c f in let along_y = within_space.y in omega arith

@@ -96,7 +96,7 @@ goes_on t target x z a b s same more = record { source = s.source; matrix = s.ma
 
 pub row_ends : (t : TapeState) (target : Matrix) (x : ℕ) → IsSweptTo t target x target.resolution
     → IsSweptTo t target (x + 1) 0
-row_ends t target x s = goes_on t target x target.resolution (x + 1) 0 s (λ c f. let i = full_within target c f in after_row x target.resolution c.x c.z i.z) (omega arith)
+row_ends t target x s = goes_on t target x target.resolution (x + 1) 0 s (λ c f. let is_within = full_within target c f in after_row x target.resolution c.x c.z is_within.z) (omega arith)
 
 -- past a voxel that the target has not
 pub skipped : (t : TapeState) (target : Matrix) (x z : ℕ) → IsFlat target → IsSweptTo t target x z
@@ -109,8 +109,8 @@ skipped t target x z flat s void = goes_on t target x z x (z + 1) s (λ c f. ap 
 pub place_above : (r : ℕ) (target : Matrix) (x z : ℕ) → IsLegal target → r ≡ target.resolution
     → is_full target (coord x 0 z) ≡ true → IsInSpace r (coord x 1 z)
 place_above r target x z legal e wanted =
-    let i = full_within target (coord x 0 z) wanted in
-    subst (λ n. IsInSpace n (coord x 1 z)) (sym e) (record { x = i.x; y = (full_in_box target (coord x 0 z) legal wanted).y_end; z = i.z })
+    let is_within = full_within target (coord x 0 z) wanted in
+    subst (λ n. IsInSpace n (coord x 1 z)) (sym e) (record { x = is_within.x; y = (full_in_box target (coord x 0 z) legal wanted).y_end; z = is_within.z })
 
 area : (x r : ℕ) → x ≤ r → r ≤ 400 → x * r ≤ 160000
 area x r h l = let x_to_400 : x ≤ 400 = omega arith in mul-le-mul x_to_400 l

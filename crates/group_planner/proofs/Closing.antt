@@ -45,12 +45,12 @@ cube r h = mul-le-mul h (square r h)
 pub plan_fits : (s t : Matrix) → s.resolution ≤ 400 → t.resolution ≡ s.resolution
     → 3 * (runs s + runs t) + 135 * (rows s + rows t) + 3 * s.resolution + 400 ≤ 1073741824
 plan_fits s t h e =
-    let a = rows_most s in
-    let b = runs_most s in
-    let c = rows_most t in
-    let d = runs_most t in
+    let rows_bound = rows_most s in
+    let runs_bound = runs_most s in
+    let rows_bound_here = rows_most t in
+    let runs_bound_here = runs_most t in
     let sq = square s.resolution h in
     let cu = cube s.resolution h in
     let tq = square t.resolution (omega arith) in
     let tc = cube t.resolution (omega arith) in
-    omega (arith, a, b, c, d, sq, cu, tq, tc, h)
+    omega (arith, rows_bound, runs_bound, rows_bound_here, runs_bound_here, sq, cu, tq, tc, h)

@@ -34,28 +34,28 @@ sum_below-gap f a b l h = (let b_is : b ≡ a + (b - a) = omega arith in ap (sum
 
 -- the sum rises
 sum_below-rises_by : (f : ℕ → ℕ) (a n : ℕ) → sum_below f a ≤ sum_below f (a + n)
-sum_below-rises_by f a zero = (let sum_is : a + 0 ≡ a = omega arith in let s = ap (sum_below f) sum_is in omega (arith, s))
+sum_below-rises_by f a zero = (let sum_is : a + 0 ≡ a = omega arith in let same_sum = ap (sum_below f) sum_is in omega (arith, same_sum))
 sum_below-rises_by f a (suc n) =
     let sum_is : a + suc n ≡ suc (a + n) = omega arith in
-    let s = ap (sum_below f) sum_is ∙ sum_below-suc f (a + n) in
+    let same_sum = ap (sum_below f) sum_is ∙ sum_below-suc f (a + n) in
     let rest = sum_below-rises_by f a n in
-    omega (arith, s, rest)
+    omega (arith, same_sum, rest)
 
 pub sum_below-rises : (f : ℕ → ℕ) (a b : ℕ) → a ≤ b → sum_below f a ≤ sum_below f b
-sum_below-rises f a b l = let sum_is : a + (b - a) ≡ b = omega arith in let s = ap (sum_below f) sum_is in let r = sum_below-rises_by f a (b - a) in omega (arith, s, r)
+sum_below-rises f a b l = let sum_is : a + (b - a) ≡ b = omega arith in let same_sum = ap (sum_below f) sum_is in let sum_rises = sum_below-rises_by f a (b - a) in omega (arith, same_sum, sum_rises)
 
 -- each of its numbers is at most the sum
 pub one_of_sum : (f : ℕ → ℕ) (k n : ℕ) → k < n → f k ≤ sum_below f n
-one_of_sum f k n l = let r = sum_below-rises f (k + 1) n (omega arith) in let s = sum_below-more f k in omega (arith, r, s)
+one_of_sum f k n l = let sum_rises = sum_below-rises f (k + 1) n (omega arith) in let sum_more = sum_below-more f k in omega (arith, sum_rises, sum_more)
 
 -- a sum of numbers up to a bound
 pub sum_below-most : (f : ℕ → ℕ) (n most : ℕ) → ((k : ℕ) → f k ≤ most) → sum_below f n ≤ n * most
-sum_below-most f zero most h = let s = sum_below-zero f in omega (arith, s)
-sum_below-most f (suc n) most h = let s = sum_below-suc f n in let r = sum_below-most f n most h in let l = h n in omega (arith, s, r, l)
+sum_below-most f zero most h = let sum_zero = sum_below-zero f in omega (arith, sum_zero)
+sum_below-most f (suc n) most h = let sum_more = sum_below-suc f n in let sum_bound = sum_below-most f n most h in let l = h n in omega (arith, sum_more, sum_bound, l)
 
 pub at_most_one : (b : Bool) → one_if b ≤ 1
 at_most_one true = omega arith
 at_most_one false = omega arith
 
 pub count_below-most : (test : ℕ → Bool) (n : ℕ) → count_below test n ≤ n
-count_below-most test n = let s = sum_below-most (λ k. one_if (test k)) n 1 (λ k. at_most_one (test k)) in omega (arith, s)
+count_below-most test n = let sum_bound = sum_below-most (λ k. one_if (test k)) n 1 (λ k. at_most_one (test k)) in omega (arith, sum_bound)

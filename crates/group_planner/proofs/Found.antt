@@ -73,8 +73,8 @@ module _ (m : Matrix) (x y : ℕ) where
   inside : (first end : ℕ) → end ≤ first + 31 → full_before m x y first % 31 ≡ 0 → IsAll m x y first end true → (k : ℕ) → first + 1 ≤ k → k < end → one_if (begins_run m x y k) ≡ 0
   inside first end most cut full k l p =
       let first_is : first + (k - first) ≡ k = omega arith in
-      let n = before_full m x y first (k - first) (λ j a b. full j a (omega arith)) in
-      let count : full_before m x y k ≡ full_before m x y first + (k - first) = sym (ap (full_before m x y) first_is) ∙ n in
+      let counted_before = before_full m x y first (k - first) (λ j a b. full j a (omega arith)) in
+      let count : full_before m x y k ≡ full_before m x y first + (k - first) = sym (ap (full_before m x y) first_is) ∙ counted_before in
       no_begin (begins_run m x y k) (not_multiple (is_full_at m x y k) (full_before m x y k) (omega (arith, count, cut)))
 
   pub run_found : (z first end : ℕ) → IsCut m x y z → z ≤ first → first < end → end ≤ first + 31 → end ≤ m.resolution
@@ -95,11 +95,11 @@ module _ (m : Matrix) (x y : ℕ) where
     where
       by : is_full_at m x y end ≡ true → full_before m x y first % 31 ≡ 0 → (end < first + 31) ⊎ (first + 31 ≤ end)
           → full_before m x y end % 31 ≡ 0
-      by t start (inl h) = absurd (let f = sym t ∙ after h in cc)
+      by t start (inl h) = absurd (let impossible = sym t ∙ after h in cc)
       by t start (inr h) =
           let end_is : end ≡ first + 31 = omega arith in
-          let n = before_full m x y first 31 (λ j a b. full j a (omega arith)) in
-          let count : full_before m x y end ≡ full_before m x y first + 31 = ap (full_before m x y) end_is ∙ n in
+          let counted_before = before_full m x y first 31 (λ j a b. full j a (omega arith)) in
+          let count : full_before m x y end ≡ full_before m x y first + 31 = ap (full_before m x y) end_is ∙ counted_before in
           omega (arith, count, start)
 
   -- past the matrix nothing is full
@@ -114,7 +114,7 @@ module _ (m : Matrix) (x y : ℕ) where
     where
       longer : (first < end) ⊎ (end ≤ first) → first < end
       longer (inl h) = h
-      longer (inr h) = absurd (let first_is : first ≡ end = omega (arith, b.low) in let v = b.here (omega arith) in let here = a.here l ∙ refl in let g = sym (ap (is_full_at m x y) first_is) ∙ a.here l in let k = sym g ∙ v in cc)
+      longer (inr h) = absurd (let first_is : first ≡ end = omega (arith, b.low) in let its_here = b.here (omega arith) in let here = a.here l ∙ refl in let is_full_at_is = sym (ap (is_full_at m x y) first_is) ∙ a.here l in let impossible = sym is_full_at_is ∙ its_here in cc)
 
       after : end < first + 31 → (end < most) ⊎ (most ≤ end) → is_full_at m x y end ≡ false
       after h (inl k) = b.here k
@@ -123,7 +123,7 @@ module _ (m : Matrix) (x y : ℕ) where
   -- a line with a run is a row, and one without is none
   pub row_of_some : (run : RowRun) → IsNextRun m x y 0 run → is_row m x y ≡ true
   row_of_some run h =
-      let one = one_of_sum (λ z. one_if (is_full_at m x y z)) run.first m.resolution (let a = h.is_run.some in let within = h.is_run.within in omega arith) in
+      let one = one_of_sum (λ z. one_if (is_full_at m x y z)) run.first m.resolution (let is_run_some = h.is_run.some in let within = h.is_run.within in omega arith) in
       let here = ap one_if (h.is_run.full run.first (omega arith) h.is_run.some) in
       positive (count_below (is_full_at m x y) m.resolution) (omega (arith, one, here))
 

@@ -117,43 +117,43 @@ module _ (p : TapeState) (full : Bool) (k l : Command) (first last : ℕ) (h : I
 
   pub one_group : AreOneGroup (state_of p) below_both full (acts p.bots (k ∷ l ∷ []))
   one_group =
-      let t = both_bots p.bots h.two in
-      let a = t.first in
-      let second = t.second in
+      let both = both_bots p.bots h.two in
+      let its_first = both.first in
+      let second = both.second in
       let resolution = p.matrix.resolution in
       let x = (rear p).x in
       let y = (rear p).y in
-      let ra = ap (λ (c : Coord). c.x) t.rear_is in
-      let rb = ap (λ (c : Coord). c.y) t.rear_is in
-      let rc = ap (λ (c : Coord). c.z) t.rear_is in
-      let fa = ap (λ (c : Coord). c.x) t.front_is in
-      let fb = ap (λ (c : Coord). c.y) t.front_is in
-      let fc = ap (λ (c : Coord). c.z) t.front_is in
-      let o = in_order in
+      let ra = ap (λ (c : Coord). c.x) both.rear_is in
+      let rb = ap (λ (c : Coord). c.y) both.rear_is in
+      let rc = ap (λ (c : Coord). c.z) both.rear_is in
+      let fa = ap (λ (c : Coord). c.x) both.front_is in
+      let fb = ap (λ (c : Coord). c.y) both.front_is in
+      let fc = ap (λ (c : Coord). c.z) both.front_is in
+      let ordered = in_order in
       let lz : last < resolution = (let in_row_z = h.in_row.z in omega arith) in
-      let w = rear_how in
-      let v = front_how in
+      let rear_together = rear_how in
+      let front_together = front_how in
       let sx = h.in_row.same_x in
       let sy = h.in_row.same_y in
-      subst (λ (bots : List Bot). AreOneGroup (state_of p) below_both full (acts bots (k ∷ l ∷ []))) (sym t.are) (record {
+      subst (λ (bots : List Bot). AreOneGroup (state_of p) below_both full (acts bots (k ∷ l ∷ []))) (sym both.are) (record {
         each = (
-          record { allowed = all_allowed p.profile k h.full w.allowed; joins = w.joins resolution below_both (point a.pos) (cornered resolution x y first last a.pos below_both (sym ra) (sym rb) (sym rc ∙ sym ef) above h.in_row.x h.in_row.y (omega arith) lz (same_as_it x (y - 1) first last) (outside x (y - 1) first last a.pos (omega arith))) },
-          (record { allowed = all_allowed p.profile l h.full v.allowed; joins = v.joins resolution below_both (point second.pos) (cornered resolution x y last first second.pos below_both (sym fa ∙ sx) (sym fb ∙ sy) (sym fc ∙ sym el) above h.in_row.x h.in_row.y lz (omega arith) (same_turned x (y - 1) first last) (outside x (y - 1) first last second.pos (omega arith))) }, tt),
+          record { allowed = all_allowed p.profile k h.full rear_together.allowed; joins = rear_together.joins resolution below_both (point its_first.pos) (cornered resolution x y first last its_first.pos below_both (sym ra) (sym rb) (sym rc ∙ sym ef) above h.in_row.x h.in_row.y (omega arith) lz (same_as_it x (y - 1) first last) (outside x (y - 1) first last its_first.pos (omega arith))) },
+          (record { allowed = all_allowed p.profile l h.full front_together.allowed; joins = front_together.joins resolution below_both (point second.pos) (cornered resolution x y last first second.pos below_both (sym fa ∙ sx) (sym fb ∙ sy) (sym fc ∙ sym el) above h.in_row.x h.in_row.y lz (omega arith) (same_turned x (y - 1) first last) (outside x (y - 1) first last second.pos (omega arith))) }, tt),
         );
-        many = two_corners x (y - 1) first last o;
-        corners = corners_differ a second t.rear_is t.front_is;
+        many = two_corners x (y - 1) first last ordered;
+        corners = corners_differ its_first second both.rear_is both.front_is;
       })
     where
       corners_differ : (a b : Bot) → rear p ≡ a.pos → front p ≡ b.pos
           → IsFalse (repeats (flat_map (λ (c : Act). corners_of (position c) c.command) (acts (a ∷ b ∷ []) (k ∷ l ∷ []))))
       corners_differ a b ra rb =
-          let w = rear_how in
-          let v = front_how in
+          let rear_together = rear_how in
+          let front_together = front_how in
           let sx = h.in_row.same_x in
           let sy = h.in_row.same_y in
           let na : plus (point a.pos) down ≡ point (coord (rear p).x ((rear p).y - 1) first) = ap (λ (c : Coord). plus (point c) down) (sym ra) ∙ (below (rear p) above ∙ ap (λ z. point (coord (rear p).x ((rear p).y - 1) z)) (sym ef)) in
           let nb : plus (point b.pos) down ≡ point (coord (rear p).x ((rear p).y - 1) last) = ap (λ (c : Coord). plus (point c) down) (sym rb) ∙ (below (front p) (omega arith) ∙ (λ i. point (coord (sx i) (sy i - 1) (sym el i)))) in
-          rw (w.corner (point a.pos), v.corner (point b.pos)) (no_twice_at (rear p).x ((rear p).y - 1) first last (plus (point a.pos) down) (plus (point b.pos) down) in_order na nb)
+          rw (rear_together.corner (point a.pos), front_together.corner (point b.pos)) (no_twice_at (rear p).x ((rear p).y - 1) first last (plus (point a.pos) down) (plus (point b.pos) down) in_order na nb)
 
   pub can_paint : CanPaintAll p (k ∷ l ∷ [])
   can_paint = record { region = below_both; full = full; group = one_group }
@@ -161,13 +161,13 @@ module _ (p : TapeState) (full : Bool) (k l : Command) (first last : ℕ) (h : I
   pub wrote_both : (q : TapeState) → AllStep p q (k ∷ l ∷ []) (with_region p.matrix below_both full) p.harmonics p.bots
       → Sets p q (rear p).x ((rear p).y - 1) (rear p).z ((front p).z + 1) full (rear p) (front p) 1 1
   wrote_both q s =
-      let r = p.matrix.resolution in
+      let matrix_resolution = p.matrix.resolution in
       let in_row_y = h.in_row.y in
-      let o = in_order in
-      let lz : last < r = (let in_row_z = h.in_row.z in omega arith) in
+      let ordered = in_order in
+      let lz : last < matrix_resolution = (let in_row_z = h.in_row.z in omega arith) in
       let rear_is : rear q ≡ rear p = ap spot s.bots_are in
       let front_is : front q ≡ front p = ap second_spot s.bots_are in
-      let same : q.matrix.resolution ≡ r = ap (λ (m : Matrix). m.resolution) s.matrix in
+      let same : q.matrix.resolution ≡ matrix_resolution = ap (λ (m : Matrix). m.resolution) s.matrix in
       let set = set_region p.matrix (rear p).x ((rear p).y - 1) first last full h.in_row.x (omega arith) lz (omega arith) in
       let set_as = subst (λ (m : Matrix). AreSet m p.matrix (in_part (rear p).x ((rear p).y - 1) first (last + 1)) full) (sym s.matrix) set in
       let all : AreSet q.matrix p.matrix (in_part (rear p).x ((rear p).y - 1) (rear p).z ((front p).z + 1)) full = subst (λ a. AreSet q.matrix p.matrix (in_part (rear p).x ((rear p).y - 1) a ((front p).z + 1)) full) ef (subst (λ b. AreSet q.matrix p.matrix (in_part (rear p).x ((rear p).y - 1) first (b + 1)) full) el set_as) in

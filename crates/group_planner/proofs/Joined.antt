@@ -127,38 +127,38 @@ module _ (p : TapeState) (d e : Diff) (ed : d ≡ ahead (pos 1)) (ee : e ≡ ahe
 
   pub join_calm : AreCalm p (FusionP d ∷ FusionS e ∷ [])
   join_calm =
-      let t = both_bots p.bots h.two in
-      let first = t.first in
-      let second = t.second in
+      let both = both_bots p.bots h.two in
+      let first = both.first in
+      let second = both.second in
       let resolution = p.matrix.resolution in
-      let up = pair_up first second t.rear_is t.front_is in
+      let up = pair_up first second both.rear_is both.front_is in
       let all = acts (first ∷ second ∷ []) (FusionP d ∷ FusionS e ∷ []) in
-      let in_rear : IsTrue (in_space resolution (plus (point second.pos) e)) = ap (λ (q : Point). in_space resolution q) (ap (λ (c : Coord). plus (point c) e) (sym t.front_is) ∙ to_rear) ∙ in_space_is resolution (rear p) (rear_within resolution (rear p) (front p) h.in_row) in
-      let in_front : IsTrue (in_space resolution (plus (point first.pos) d)) = ap (λ (q : Point). in_space resolution q) (ap (λ (c : Coord). plus (point c) d) (sym t.rear_is) ∙ to_front) ∙ in_space_is resolution (front p) (front_within resolution (rear p) (front p) h.in_row) in
+      let in_rear : IsTrue (in_space resolution (plus (point second.pos) e)) = ap (λ (q : Point). in_space resolution q) (ap (λ (c : Coord). plus (point c) e) (sym both.front_is) ∙ to_rear) ∙ in_space_is resolution (rear p) (rear_within resolution (rear p) (front p) h.in_row) in
+      let in_front : IsTrue (in_space resolution (plus (point first.pos) d)) = ap (λ (q : Point). in_space resolution q) (ap (λ (c : Coord). plus (point c) d) (sym both.rear_is) ∙ to_front) ∙ in_space_is resolution (front p) (front_within resolution (rear p) (front p) h.in_row) in
       let partners : are_partners (first_act first) (second_act second) ≡ true = ap (λ u. u || is_pair (second_act second) (first_act first)) up in
       let turned : are_partners (second_act second) (first_act first) ≡ true = or_by_second (is_pair (second_act second) (first_act first)) (is_pair (first_act first) (second_act second)) up in
       record {
-        free = subst (λ (bots : List Bot). AreFree (state_of p) (acts bots (FusionP d ∷ FusionS e ∷ []))) (sym t.are) (record {
+        free = subst (λ (bots : List Bot). AreFree (state_of p) (acts bots (FusionP d ∷ FusionS e ∷ []))) (sym both.are) (record {
           each = (
             record { allowed = all_allowed p.profile (FusionP d) h.full refl; may = record { within = in_front; other = second_act second; here = (1, lit< tt, refl); partners = partners } },
             (record { allowed = all_allowed p.profile (FusionS e) h.full refl; may = record { within = in_rear; other = first_act first; here = (0, lit< tt, refl); partners = turned } }, tt),
           );
           untangled = ((inl partners, tt), (tt, tt));
         });
-        calm = subst (λ (bots : List Bot). AllByRecursion (λ x. IsFalse (is_flip x.command)) (acts bots (FusionP d ∷ FusionS e ∷ []))) (sym t.are) (refl, (refl, tt));
+        calm = subst (λ (bots : List Bot). AllByRecursion (λ x. IsFalse (is_flip x.command)) (acts bots (FusionP d ∷ FusionS e ∷ []))) (sym both.are) (refl, (refl, tt));
       }
 
   pub join_stays : AllByRecursion (λ x. IsTrue (leaves_voxels x.command)) (acts p.bots (FusionP d ∷ FusionS e ∷ []))
-  join_stays = let t = both_bots p.bots h.two in subst (λ (bots : List Bot). AllByRecursion (λ x. IsTrue (leaves_voxels x.command)) (acts bots (FusionP d ∷ FusionS e ∷ []))) (sym t.are) (refl, (refl, tt))
+  join_stays = let both = both_bots p.bots h.two in subst (λ (bots : List Bot). AllByRecursion (λ x. IsTrue (leaves_voxels x.command)) (acts bots (FusionP d ∷ FusionS e ∷ []))) (sym both.are) (refl, (refl, tt))
 
   pub has_joined : (q : TapeState) → CalmStep p q (FusionP d ∷ FusionS e ∷ [])
       → (after (state_of p) (FusionP d ∷ FusionS e ∷ [])).matrix ≡ p.matrix → PairJoins p q (rear p) 1
   has_joined q s m =
-      let t = both_bots p.bots h.two in
-      let first = t.first in
-      let second = t.second in
+      let both = both_bots p.bots h.two in
+      let first = both.first in
+      let second = both.second in
       let all = acts (first ∷ second ∷ []) (FusionP d ∷ FusionS e ∷ []) in
-      let bots : q.bots ≡ bots_after all = s.bots_are ∙ ap (λ (bs : List Bot). bots_after (acts bs (FusionP d ∷ FusionS e ∷ []))) t.are in
+      let bots : q.bots ≡ bots_after all = s.bots_are ∙ ap (λ (bs : List Bot). bots_after (acts bs (FusionP d ∷ FusionS e ∷ []))) both.are in
       let added = ap length s.added ∙ length-append p.commands (FusionP d ∷ FusionS e ∷ []) in
       record {
         source = s.source;
@@ -167,7 +167,7 @@ module _ (p : TapeState) (d e : Diff) (ed : d ≡ ahead (pos 1)) (ee : e ≡ ahe
         harmonics = s.harmonics ∙ h.high;
         alone = ap length bots;
         one_split = still_one p q (FusionP d) (FusionS e) h s.added refl;
-        there = ap spot bots ∙ (stays_there first (find (is_pair (first_act first)) all) ∙ sym t.rear_is);
+        there = ap spot bots ∙ (stays_there first (find (is_pair (first_act first)) all) ∙ sym both.rear_is);
         steps_are = omega (arith, s.steps);
         spends = let steps = s.steps in let few = s.bytes_are in record { commands_are = omega (arith, added, steps); bytes_are = omega (arith, steps, few) };
       }

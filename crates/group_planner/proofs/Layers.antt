@@ -17,16 +17,16 @@ use Rattle.group_planner.proofs.Stamps.{stamps_as}
 pub sum_of_both : (f g : ℕ → ℕ) (n : ℕ)
     → sum_below (λ k. 135 * f k + 3 * g k) n ≡ 135 * sum_below f n + 3 * sum_below g n
 sum_of_both f g zero =
-    let a = sum_below-zero (λ k. 135 * f k + 3 * g k) in
-    let b = sum_below-zero f in
-    let c = sum_below-zero g in
-    omega (arith, a, b, c)
+    let sum_zero = sum_below-zero (λ k. 135 * f k + 3 * g k) in
+    let zero_sum = sum_below-zero f in
+    let sum_zero_here = sum_below-zero g in
+    omega (arith, sum_zero, zero_sum, sum_zero_here)
 sum_of_both f g (suc n) =
-    let a = sum_below-suc (λ k. 135 * f k + 3 * g k) n in
-    let b = sum_below-suc f n in
-    let c = sum_below-suc g n in
-    let d = sum_of_both f g n in
-    omega (arith, a, b, c, d)
+    let sum_more = sum_below-suc (λ k. 135 * f k + 3 * g k) n in
+    let sum_is = sum_below-suc f n in
+    let sum_more_here = sum_below-suc g n in
+    let both_sums = sum_of_both f g n in
+    omega (arith, sum_more, sum_is, sum_more_here, both_sums)
 
 pub layer_sum : (m : Matrix) (y : ℕ) → sum_below (λ x. row_steps m x y) m.resolution ≡ stamping_steps m y
 layer_sum m y = sum_of_both (λ x. one_if (is_row m x y)) (λ x. runs_of_row m x y) m.resolution

@@ -56,15 +56,15 @@ pub can_move : (p : TapeState) (k l : Command) → IsPair p → IsTrue (is_allow
     → LieApart (between (point (rear p)) (goal_of (point (rear p)) k))
     (between (point (front p)) (goal_of (point (front p)) l)) → CanMoveAll p (k ∷ l ∷ [])
 can_move p k l h ak al gk gl apart =
-    let t = both_bots p.bots h.two in
-    let first = t.first in
-    let b = t.second in
-    let rg : MayGo p.matrix (point first.pos) k = subst (λ (c : Coord). MayGo p.matrix (point c) k) t.rear_is gk in
-    let fg : MayGo p.matrix (point b.pos) l = subst (λ (c : Coord). MayGo p.matrix (point c) l) t.front_is gl in
-    let lies : LieApart (between (point first.pos) (goal_of (point first.pos) k)) (between (point b.pos) (goal_of (point b.pos) l)) = subst (λ (c : Coord). LieApart (between (point c) (goal_of (point c) k)) (between (point b.pos) (goal_of (point b.pos) l))) t.rear_is (subst (λ (c : Coord). LieApart (between (point (rear p)) (goal_of (point (rear p)) k)) (between (point c) (goal_of (point c) l))) t.front_is apart) in
+    let both = both_bots p.bots h.two in
+    let first = both.first in
+    let its_second = both.second in
+    let rg : MayGo p.matrix (point first.pos) k = subst (λ (c : Coord). MayGo p.matrix (point c) k) both.rear_is gk in
+    let fg : MayGo p.matrix (point its_second.pos) l = subst (λ (c : Coord). MayGo p.matrix (point c) l) both.front_is gl in
+    let lies : LieApart (between (point first.pos) (goal_of (point first.pos) k)) (between (point its_second.pos) (goal_of (point its_second.pos) l)) = subst (λ (c : Coord). LieApart (between (point c) (goal_of (point c) k)) (between (point its_second.pos) (goal_of (point its_second.pos) l))) both.rear_is (subst (λ (c : Coord). LieApart (between (point (rear p)) (goal_of (point (rear p)) k)) (between (point c) (goal_of (point c) l))) both.front_is apart) in
     record {
-      each = subst (λ (bots : List Bot). AllByRecursion (CanGo p) (acts bots (k ∷ l ∷ []))) (sym t.are) (record { allowed = all_allowed p.profile k h.full ak; may = rg }, (record { allowed = all_allowed p.profile l h.full al; may = fg }, tt));
-      apart = subst (λ (bots : List Bot). AreWaysApart (acts bots (k ∷ l ∷ []))) (sym t.are) ((lies, tt), (tt, tt));
+      each = subst (λ (bots : List Bot). AllByRecursion (CanGo p) (acts bots (k ∷ l ∷ []))) (sym both.are) (record { allowed = all_allowed p.profile k h.full ak; may = rg }, (record { allowed = all_allowed p.profile l h.full al; may = fg }, tt));
+      apart = subst (λ (bots : List Bot). AreWaysApart (acts bots (k ∷ l ∷ []))) (sym both.are) ((lies, tt), (tt, tt));
     }
 
 -- what a step of two commands costs
@@ -85,10 +85,10 @@ pub there : (p : TapeState) (k l : Command) (a b : Coord) → IsPair p → goal_
     → goal_of (point (front p)) l ≡ point b → (spot (bots_gone p.bots (k ∷ l ∷ [])) ≡ a)
     × (second_spot (bots_gone p.bots (k ∷ l ∷ [])) ≡ b) × (length (bots_gone p.bots (k ∷ l ∷ [])) ≡ 2)
 there p k l a b h ea eb =
-    let t = both_bots p.bots h.two in (
-      ap (λ (bots : List Bot). spot (bots_gone bots (k ∷ l ∷ []))) t.are ∙ (ap (λ (c : Coord). coordinate (goal_of (point c) k)) (sym t.rear_is) ∙ ap coordinate ea),
-      ap (λ (bots : List Bot). second_spot (bots_gone bots (k ∷ l ∷ []))) t.are ∙ (ap (λ (c : Coord). coordinate (goal_of (point c) l)) (sym t.front_is) ∙ ap coordinate eb),
-      ap (λ (bots : List Bot). length (bots_gone bots (k ∷ l ∷ []))) t.are,
+    let both = both_bots p.bots h.two in (
+      ap (λ (bots : List Bot). spot (bots_gone bots (k ∷ l ∷ []))) both.are ∙ (ap (λ (c : Coord). coordinate (goal_of (point c) k)) (sym both.rear_is) ∙ ap coordinate ea),
+      ap (λ (bots : List Bot). second_spot (bots_gone bots (k ∷ l ∷ []))) both.are ∙ (ap (λ (c : Coord). coordinate (goal_of (point c) l)) (sym both.front_is) ∙ ap coordinate eb),
+      ap (λ (bots : List Bot). length (bots_gone bots (k ∷ l ∷ []))) both.are,
     )
 
 -- the pair after a step in which each waits or moves
@@ -161,10 +161,10 @@ both_apart r axis a b next f h =
     apart_z a (put axis a next) b (put axis b next) order (omega arith) (omega arith) (omega arith)
 
 pub rear_within : (r : ℕ) (a b : Coord) → AreInRow r a b → IsInSpace r a
-rear_within r a b h = let order = h.order in let z = h.z in record { x = h.x; y = h.y; z = omega arith }
+rear_within r a b h = let order = h.order in let along_z = h.z in record { x = h.x; y = h.y; z = omega arith }
 
 pub front_within : (r : ℕ) (a b : Coord) → AreInRow r a b → IsInSpace r b
-front_within r a b h = let x = h.x in let y = h.y in let ex = h.same_x in let ey = h.same_y in record { x = omega arith; y = omega arith; z = h.z }
+front_within r a b h = let along_x = h.x in let along_y = h.y in let ex = h.same_x in let ey = h.same_y in record { x = omega arith; y = omega arith; z = h.z }
 
 -- at the height of the front all is void too
 pub front_free : (p : TapeState) → IsPair p → IsVoidFrom p.matrix (front p).y
@@ -183,13 +183,13 @@ module _ (p : TapeState) (axis : Axis) (at next : ℕ) (d e : Diff) (h : IsPair 
   pub both_ways : CanMoveAll p (SMove d ∷ SMove e ∷ [])
   both_ways =
       let resolution = p.matrix.resolution in
-      let a = put axis (rear p) next in
-      let b = put axis (front p) next in
+      let rear_after = put axis (rear p) next in
+      let front_after = put axis (front p) next in
       can_move p (SMove d) (SMove e) h refl refl
-      (free_way p.matrix (rear p) a _ rear_led (rear_within resolution a b there_in_row) h.free free)
-      (free_way p.matrix (front p) b _ front_led (front_within resolution a b there_in_row) (front_free p h) (subst (IsVoidFrom p.matrix) (sym there_in_row.same_y) free))
+      (free_way p.matrix (rear p) rear_after _ rear_led (rear_within resolution rear_after front_after there_in_row) h.free free)
+      (free_way p.matrix (front p) front_after _ front_led (front_within resolution rear_after front_after there_in_row) (front_free p h) (subst (IsVoidFrom p.matrix) (sym there_in_row.same_y) free))
       (subst (λ (q : Point). LieApart (between (point (rear p)) q) (between (point (front p)) (plus (point (front p)) e))) (sym rear_led)
-      (subst (λ (q : Point). LieApart (between (point (rear p)) (point a)) (between (point (front p)) q)) (sym front_led)
+      (subst (λ (q : Point). LieApart (between (point (rear p)) (point rear_after)) (between (point (front p)) q)) (sym front_led)
       (both_apart resolution axis (rear p) (front p) next flat h.in_row)))
 
   pub both_moved : (q : TapeState)
@@ -208,12 +208,12 @@ module _ (p : TapeState) (at next : ℕ) (d : Diff) (h : IsPair p) (here : (fron
 
   pub front_way : CanMoveAll p (Wait ∷ SMove d ∷ [])
   front_way =
-      let b = put Z (front p) next in
+      let front_after = put Z (front p) next in
       let order = h.in_row.order in
       can_move p Wait (SMove d) h refl refl tt
-      (free_way p.matrix (front p) b _ ahead_led (front_within p.matrix.resolution (rear p) b ahead_in_row) (front_free p h) (front_free p h))
+      (free_way p.matrix (front p) front_after _ ahead_led (front_within p.matrix.resolution (rear p) front_after ahead_in_row) (front_free p h) (front_free p h))
       (subst (λ (q : Point). LieApart (between (point (rear p)) (point (rear p))) (between (point (front p)) q)) (sym ahead_led)
-      (apart_z (rear p) (rear p) (front p) b order past order past))
+      (apart_z (rear p) (rear p) (front p) front_after order past order past))
 
   pub front_moved : (q : TapeState)
       → AllStep p q (Wait ∷ SMove d ∷ []) p.matrix p.harmonics (bots_gone p.bots (Wait ∷ SMove d ∷ []))
@@ -229,12 +229,12 @@ module _ (p : TapeState) (at next : ℕ) (d : Diff) (h : IsPair p) (here : (rear
 
   pub rear_way : CanMoveAll p (SMove d ∷ Wait ∷ [])
   rear_way =
-      let a = put Z (rear p) next in
+      let rear_after = put Z (rear p) next in
       let order = h.in_row.order in
       can_move p (SMove d) Wait h refl refl
-      (free_way p.matrix (rear p) a _ behind_led (rear_within p.matrix.resolution a (front p) behind_in_row) h.free h.free) tt
+      (free_way p.matrix (rear p) rear_after _ behind_led (rear_within p.matrix.resolution rear_after (front p) behind_in_row) h.free h.free) tt
       (subst (λ (q : Point). LieApart (between (point (rear p)) q) (between (point (front p)) (point (front p)))) (sym behind_led)
-      (apart_z (rear p) a (front p) (front p) order order before before))
+      (apart_z (rear p) rear_after (front p) (front p) order order before before))
 
   pub rear_moved : (q : TapeState)
       → AllStep p q (SMove d ∷ Wait ∷ []) p.matrix p.harmonics (bots_gone p.bots (SMove d ∷ Wait ∷ []))
@@ -256,14 +256,14 @@ module _ (p : TapeState) (behind rear_next ahead front_next : ℕ) (d e : Diff) 
   pub slide_ways : CanMoveAll p (SMove d ∷ SMove e ∷ [])
   slide_ways =
       let resolution = p.matrix.resolution in
-      let a = put Z (rear p) rear_next in
-      let b = put Z (front p) front_next in
+      let rear_after = put Z (rear p) rear_next in
+      let front_after = put Z (front p) front_next in
       can_move p (SMove d) (SMove e) h refl refl
-      (free_way p.matrix (rear p) a _ slid_rear (rear_within resolution a b slid_in_row) h.free h.free)
-      (free_way p.matrix (front p) b _ slid_front (front_within resolution a b slid_in_row) (front_free p h) (front_free p h))
+      (free_way p.matrix (rear p) rear_after _ slid_rear (rear_within resolution rear_after front_after slid_in_row) h.free h.free)
+      (free_way p.matrix (front p) front_after _ slid_front (front_within resolution rear_after front_after slid_in_row) (front_free p h) (front_free p h))
       (subst (λ (q : Point). LieApart (between (point (rear p)) q) (between (point (front p)) (plus (point (front p)) e))) (sym slid_rear)
-      (subst (λ (q : Point). LieApart (between (point (rear p)) (point a)) (between (point (front p)) q)) (sym slid_front)
-      (apart_z (rear p) a (front p) b h.in_row.order (omega (arith, rear_here, past)) (omega (arith, front_here, clear)) order)))
+      (subst (λ (q : Point). LieApart (between (point (rear p)) (point rear_after)) (between (point (front p)) q)) (sym slid_front)
+      (apart_z (rear p) rear_after (front p) front_after h.in_row.order (omega (arith, rear_here, past)) (omega (arith, front_here, clear)) order)))
 
   pub slid : (q : TapeState)
       → AllStep p q (SMove d ∷ SMove e ∷ []) p.matrix p.harmonics (bots_gone p.bots (SMove d ∷ SMove e ∷ []))

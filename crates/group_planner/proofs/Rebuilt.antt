@@ -32,10 +32,10 @@ can_clear a s o e h =
 -- the pair stands at the top
 pub top_climb : (a : TapeState) (s : Matrix) → PairIsOpened a → a.source ≡ s → climb_to a (a.matrix.resolution - 1) ≤ 30
 top_climb a s o e =
-    let y = ap (λ (c : Coord). c.y) o.there in
-    let r = ap (λ (m : Matrix). m.resolution) o.matrix in
+    let same_y = ap (λ (c : Coord). c.y) o.there in
+    let resolution_is = ap (λ (m : Matrix). m.resolution) o.matrix in
     let steps = o.steps_are in
-    omega (arith, y, r, steps)
+    omega (arith, same_y, resolution_is, steps)
 
 filled : (t o : Bool) → cond (true && t) true (cond (true && o) false o) ≡ t
 filled true o = refl
@@ -58,7 +58,7 @@ alike_target s t b d low h below p q = λ c. q c ∙ (ap (cond (between_layers l
         ≡ is_full t c
     by c true true e f = (λ i. cond ((e i && f i) && is_full t c) true (cond (e i && is_full s c) false (is_full s c))) ∙ filled (is_full t c) (is_full s c)
     by c true false e f = (λ i. cond ((e i && f i) && is_full t c) true (cond (e i && is_full s c) false (is_full s c))) ∙ emptied (is_full t c) (is_full s c) (void_at_top t h c (not_less_by_test c.y (t.resolution - 1) f))
-    by c false v e f = (λ i. cond ((e i && nat_lt c.y (t.resolution - 1)) && is_full t c) true (cond (e i && is_full s c) false (is_full s c))) ∙ below c (let l = not_at_most_by_test low c.y e in omega arith)
+    by c false v e f = (λ i. cond ((e i && nat_lt c.y (t.resolution - 1)) && is_full t c) true (cond (e i && is_full s c) false (is_full s c))) ∙ below c (let is_more = not_at_most_by_test low c.y e in omega arith)
 
 pub rebuilt : (a b d : TapeState) (s t : Matrix) (low : ℕ) → PairIsOpened a → a.source ≡ s → IsLegal t
     → IsWhole d.matrix → IsWhole t → t.resolution ≡ s.resolution → IsLowest s t low

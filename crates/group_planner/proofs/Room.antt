@@ -11,6 +11,6 @@ pub room_for_two : (m n : Matrix) (y : ℕ) → IsLegal m → IsLegal n → m.re
 room_for_two m n y hm hn e h = by (is_full m h.at) (is_full n h.at) refl refl
   where
     by : (s t : Bool) → is_full m h.at ≡ s → is_full n h.at ≡ t → 2 ≤ m.resolution
-    by true t f g = let b = full_in_box m h.at hm f in let x = b.x in let end = b.x_end in omega arith
-    by false true f g = let b = full_in_box n h.at hn g in let x = b.x in let end = b.x_end in omega arith
+    by true t f g = let in_box = full_in_box m h.at hm f in let along_x = in_box.x in let end = in_box.x_end in omega arith
+    by false true f g = let in_box = full_in_box n h.at hn g in let along_x = in_box.x in let end = in_box.x_end in omega arith
     by false false f g = absurd (h.differ (f ∙ sym g))

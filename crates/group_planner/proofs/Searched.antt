@@ -33,8 +33,8 @@ first_by test (suc n) c last d e f = by (test c) refl (λ later. first_by test n
     by false t rest =
         let more = row-more c last (omega arith) in
         let later : find test (row (at c (c.z + 1)) last) ≡ Some d = sym (ap (find test) more ∙ ap (λ b. cond b (Some c) (find test (row (at c (c.z + 1)) last))) t) ∙ f in
-        let h = rest later in
-        record { is = h.is; low = omega (arith, h.low); high = h.high; passes = h.passes; before = λ z l m. at_or_after z l m t h (cases_lt c.z z) }
+        let rest_here = rest later in
+        record { is = rest_here.is; low = omega (arith, rest_here.low); high = rest_here.high; passes = rest_here.passes; before = λ z l m. at_or_after z l m t rest_here (cases_lt c.z z) }
       where
         at_or_after : (z : ℕ) → c.z ≤ z → z < d.z → test c ≡ false → IsFirst test (at c (c.z + 1)) last d
             → (c.z < z) ⊎ (z ≤ c.z) → test (at c z) ≡ false
@@ -71,12 +71,12 @@ state_false m false c e = by (is_full m c) e
 pub is_next : (m : Matrix) (c d : Coord) (end : ℕ) (full : Bool) → c.z < end
     → find (is_state m full) (row c (end - 1)) ≡ Some d → IsRunEnd m c.x c.y c.z end full d.z
 is_next m c d end full l f =
-    let h = first_by (is_state m full) (end - 1 + 1 - c.z) c (end - 1) d refl f in
+    let is_first = first_by (is_state m full) (end - 1 + 1 - c.z) c (end - 1) d refl f in
     record {
-      low = h.low;
-      high = omega (arith, h.high);
-      others = λ z a b. state_false m full (at c z) (h.before z a b);
-      here = λ _. ap (is_full m) (sym h.is) ∙ state_true m full d h.passes;
+      low = is_first.low;
+      high = omega (arith, is_first.high);
+      others = λ z a b. state_false m full (at c z) (is_first.before z a b);
+      here = λ _. ap (is_full m) (sym is_first.is) ∙ state_true m full d is_first.passes;
     }
 
 pub is_end : (m : Matrix) (c : Coord) (end : ℕ) (full : Bool) → c.z < end

@@ -62,7 +62,7 @@ writer false = record { allowed = refl; may = λ s all a h. h; stays = refl; goa
 
 -- the voxel below is in space
 below_within : (r : ℕ) (a : Coord) → IsInSpace r a → 1 ≤ a.y → IsTrue (in_space r (plus (point a) down))
-below_within r a i h = let y = i.y in subst (λ (q : Point). IsTrue (in_space r q)) (sym (below a h)) (in_space_is r (coord a.x (a.y - 1) a.z) (record { x = i.x; y = omega arith; z = i.z }))
+below_within r a i h = let along_y = i.y in subst (λ (q : Point). IsTrue (in_space r q)) (sym (below a h)) (in_space_is r (coord a.x (a.y - 1) a.z) (record { x = i.x; y = omega arith; z = i.z }))
 
 -- a bot that waits and one that writes the voxel below it, apart in z
 writes_apart : (k : Command) (full : Bool) (a b : Coord) → Writer k full → 1 ≤ a.y → a.z < b.z
@@ -91,44 +91,44 @@ module _ (p : TapeState) (k : Command) (full : Bool) (e : k ≡ one_below full) 
 
   pub rear_calm : AreCalm p (k ∷ Wait ∷ [])
   rear_calm =
-      let t = both_bots p.bots h.two in
-      let first = t.first in
-      let second = t.second in
-      let w = how in
-      let l = order first.pos second.pos t.rear_is t.front_is in
-      let i : IsInSpace p.matrix.resolution first.pos = subst (IsInSpace p.matrix.resolution) t.rear_is (rear_within p.matrix.resolution (rear p) (front p) h.in_row) in
-      let some_y : 1 ≤ first.pos.y = subst (λ (c : Coord). 1 ≤ c.y) t.rear_is above in
+      let both = both_bots p.bots h.two in
+      let first = both.first in
+      let second = both.second in
+      let how_it_writes = how in
+      let order_here = order first.pos second.pos both.rear_is both.front_is in
+      let is_in_space : IsInSpace p.matrix.resolution first.pos = subst (IsInSpace p.matrix.resolution) both.rear_is (rear_within p.matrix.resolution (rear p) (front p) h.in_row) in
+      let some_y : 1 ≤ first.pos.y = subst (λ (c : Coord). 1 ≤ c.y) both.rear_is above in
       record {
-        free = subst (λ (bots : List Bot). AreFree (state_of p) (acts bots (k ∷ Wait ∷ []))) (sym t.are) (record {
-          each = (record { allowed = all_allowed p.profile k h.full w.allowed; may = w.may (state_of p) (acts (first ∷ second ∷ []) (k ∷ Wait ∷ [])) (record { bot = first; command = k }) (below_within p.matrix.resolution first.pos i some_y) }, (record { allowed = all_allowed p.profile Wait h.full refl; may = tt }, tt));
-          untangled = ((inr (writes_apart k full first.pos second.pos w some_y l), tt), (tt, tt));
+        free = subst (λ (bots : List Bot). AreFree (state_of p) (acts bots (k ∷ Wait ∷ []))) (sym both.are) (record {
+          each = (record { allowed = all_allowed p.profile k h.full how_it_writes.allowed; may = how_it_writes.may (state_of p) (acts (first ∷ second ∷ []) (k ∷ Wait ∷ [])) (record { bot = first; command = k }) (below_within p.matrix.resolution first.pos is_in_space some_y) }, (record { allowed = all_allowed p.profile Wait h.full refl; may = tt }, tt));
+          untangled = ((inr (writes_apart k full first.pos second.pos how_it_writes some_y order_here), tt), (tt, tt));
         });
-        calm = subst (λ (bots : List Bot). AllByRecursion (λ x. IsFalse (is_flip x.command)) (acts bots (k ∷ Wait ∷ []))) (sym t.are) (w.calm, (refl, tt));
+        calm = subst (λ (bots : List Bot). AllByRecursion (λ x. IsFalse (is_flip x.command)) (acts bots (k ∷ Wait ∷ []))) (sym both.are) (how_it_writes.calm, (refl, tt));
       }
 
   pub front_calm : AreCalm p (Wait ∷ k ∷ [])
   front_calm =
-      let t = both_bots p.bots h.two in
-      let first = t.first in
-      let second = t.second in
-      let w = how in
-      let l = order first.pos second.pos t.rear_is t.front_is in
-      let i : IsInSpace p.matrix.resolution second.pos = subst (IsInSpace p.matrix.resolution) t.front_is (front_within p.matrix.resolution (rear p) (front p) h.in_row) in
-      let some_y : 1 ≤ second.pos.y = subst (λ (c : Coord). 1 ≤ c.y) t.front_is above_too in
+      let both = both_bots p.bots h.two in
+      let first = both.first in
+      let second = both.second in
+      let how_it_writes = how in
+      let order_here = order first.pos second.pos both.rear_is both.front_is in
+      let is_in_space : IsInSpace p.matrix.resolution second.pos = subst (IsInSpace p.matrix.resolution) both.front_is (front_within p.matrix.resolution (rear p) (front p) h.in_row) in
+      let some_y : 1 ≤ second.pos.y = subst (λ (c : Coord). 1 ≤ c.y) both.front_is above_too in
       record {
-        free = subst (λ (bots : List Bot). AreFree (state_of p) (acts bots (Wait ∷ k ∷ []))) (sym t.are) (record {
-          each = (record { allowed = all_allowed p.profile Wait h.full refl; may = tt }, (record { allowed = all_allowed p.profile k h.full w.allowed; may = w.may (state_of p) (acts (first ∷ second ∷ []) (Wait ∷ k ∷ [])) (record { bot = second; command = k }) (below_within p.matrix.resolution second.pos i some_y) }, tt));
-          untangled = ((inr (waits_apart k full first.pos second.pos w some_y l), tt), (tt, tt));
+        free = subst (λ (bots : List Bot). AreFree (state_of p) (acts bots (Wait ∷ k ∷ []))) (sym both.are) (record {
+          each = (record { allowed = all_allowed p.profile Wait h.full refl; may = tt }, (record { allowed = all_allowed p.profile k h.full how_it_writes.allowed; may = how_it_writes.may (state_of p) (acts (first ∷ second ∷ []) (Wait ∷ k ∷ [])) (record { bot = second; command = k }) (below_within p.matrix.resolution second.pos is_in_space some_y) }, tt));
+          untangled = ((inr (waits_apart k full first.pos second.pos how_it_writes some_y order_here), tt), (tt, tt));
         });
-        calm = subst (λ (bots : List Bot). AllByRecursion (λ x. IsFalse (is_flip x.command)) (acts bots (Wait ∷ k ∷ []))) (sym t.are) (refl, (w.calm, tt));
+        calm = subst (λ (bots : List Bot). AllByRecursion (λ x. IsFalse (is_flip x.command)) (acts bots (Wait ∷ k ∷ []))) (sym both.are) (refl, (how_it_writes.calm, tt));
       }
 
   -- each bot stays one
   pub rear_stays : AllByRecursion (λ x. IsTrue (stays_one x.command)) (acts p.bots (k ∷ Wait ∷ []))
-  rear_stays = let t = both_bots p.bots h.two in let w = how in subst (λ (bots : List Bot). AllByRecursion (λ x. IsTrue (stays_one x.command)) (acts bots (k ∷ Wait ∷ []))) (sym t.are) (w.stays, (refl, tt))
+  rear_stays = let both = both_bots p.bots h.two in let how_it_writes = how in subst (λ (bots : List Bot). AllByRecursion (λ x. IsTrue (stays_one x.command)) (acts bots (k ∷ Wait ∷ []))) (sym both.are) (how_it_writes.stays, (refl, tt))
 
   pub front_stays : AllByRecursion (λ x. IsTrue (stays_one x.command)) (acts p.bots (Wait ∷ k ∷ []))
-  front_stays = let t = both_bots p.bots h.two in let w = how in subst (λ (bots : List Bot). AllByRecursion (λ x. IsTrue (stays_one x.command)) (acts bots (Wait ∷ k ∷ []))) (sym t.are) (refl, (w.stays, tt))
+  front_stays = let both = both_bots p.bots h.two in let how_it_writes = how in subst (λ (bots : List Bot). AllByRecursion (λ x. IsTrue (stays_one x.command)) (acts bots (Wait ∷ k ∷ []))) (sym both.are) (refl, (how_it_writes.stays, tt))
 
   -- the voxel below one of the bots, in a matrix whose voxels are told by what the commands fill and void
   set_below : (n : Matrix) (c : Coord) → (c.x ≡ (rear p).x) → (c.y ≡ (rear p).y) → IsInSpace p.matrix.resolution c
@@ -137,7 +137,7 @@ module _ (p : TapeState) (k : Command) (full : Bool) (e : k ≡ one_below full) 
       → AreSet n p.matrix (in_part (rear p).x ((rear p).y - 1) c.z (c.z + 1)) full
   set_below n c ex ey i er f =
       let some_y : 1 ≤ c.y = subst (λ y. 1 ≤ y) (sym ey) above in
-      let y = i.y in
+      let along_y = i.y in
       let here : AreSet n p.matrix (in_part c.x (c.y - 1) c.z (c.z + 1)) full = set_by n p.matrix c.x (c.y - 1) c.z c.z full er i.x (omega arith) i.z (omega arith) (λ d j. f d j ∙ ap (λ (q : Point). cond (is_within (just q) (point d)) full (is_full p.matrix d)) (below c some_y)) in
       subst (λ x. AreSet n p.matrix (in_part x ((rear p).y - 1) c.z (c.z + 1)) full) ex (subst (λ v. AreSet n p.matrix (in_part c.x (v - 1) c.z (c.z + 1)) full) ey here)
 
@@ -184,28 +184,28 @@ module _ (p : TapeState) (k : Command) (full : Bool) (e : k ≡ one_below full) 
       → (after (state_of p) (k ∷ Wait ∷ [])).bots ≡ bots_gone p.bots (k ∷ Wait ∷ []) → Voxels k Wait
       → Sets p q (rear p).x ((rear p).y - 1) (rear p).z ((rear p).z + 1) full (rear p) (front p) 1 0
   rear_wrote q s e v =
-      let t = both_bots p.bots h.two in
-      let w = how in
+      let both = both_bots p.bots h.two in
+      let how_it_writes = how in
       let same = ap (λ (m : Matrix). m.resolution) s.matrix in
-      wrote_one q k Wait (rear p).z (calm_bots q k Wait s e) (w.goal (point (rear p))) refl w.few_first w.unsplit_first same
+      wrote_one q k Wait (rear p).z (calm_bots q k Wait s e) (how_it_writes.goal (point (rear p))) refl how_it_writes.few_first how_it_writes.unsplit_first same
       (set_below q.matrix (rear p) refl refl (rear_within p.matrix.resolution (rear p) (front p) h.in_row) same (λ d i.
       ap (λ (m : Matrix). is_full m d) s.matrix
       ∙ (v d i
-      ∙ (ap (λ (bots : List Bot). is_filled (acts bots (k ∷ Wait ∷ [])) d || (is_full p.matrix d && not (is_voided (acts bots (k ∷ Wait ∷ [])) d))) t.are
-      ∙ (w.marks (point t.first.pos) (point d) (is_full p.matrix d)
-      ∙ ap (λ (c : Coord). cond (is_within (just (plus (point c) down)) (point d)) full (is_full p.matrix d)) (sym t.rear_is))))))
+      ∙ (ap (λ (bots : List Bot). is_filled (acts bots (k ∷ Wait ∷ [])) d || (is_full p.matrix d && not (is_voided (acts bots (k ∷ Wait ∷ [])) d))) both.are
+      ∙ (how_it_writes.marks (point both.first.pos) (point d) (is_full p.matrix d)
+      ∙ ap (λ (c : Coord). cond (is_within (just (plus (point c) down)) (point d)) full (is_full p.matrix d)) (sym both.rear_is))))))
 
   pub front_wrote : (q : TapeState) → CalmStep p q (Wait ∷ k ∷ [])
       → (after (state_of p) (Wait ∷ k ∷ [])).bots ≡ bots_gone p.bots (Wait ∷ k ∷ []) → Voxels Wait k
       → Sets p q (rear p).x ((rear p).y - 1) (front p).z ((front p).z + 1) full (rear p) (front p) 1 0
   front_wrote q s e v =
-      let t = both_bots p.bots h.two in
-      let w = how in
+      let both = both_bots p.bots h.two in
+      let how_it_writes = how in
       let same = ap (λ (m : Matrix). m.resolution) s.matrix in
-      wrote_one q Wait k (front p).z (calm_bots q Wait k s e) refl (w.goal (point (front p))) w.few_last w.unsplit_last same
+      wrote_one q Wait k (front p).z (calm_bots q Wait k s e) refl (how_it_writes.goal (point (front p))) how_it_writes.few_last how_it_writes.unsplit_last same
       (set_below q.matrix (front p) h.in_row.same_x h.in_row.same_y (front_within p.matrix.resolution (rear p) (front p) h.in_row) same (λ d i.
       ap (λ (m : Matrix). is_full m d) s.matrix
       ∙ (v d i
-      ∙ (ap (λ (bots : List Bot). is_filled (acts bots (Wait ∷ k ∷ [])) d || (is_full p.matrix d && not (is_voided (acts bots (Wait ∷ k ∷ [])) d))) t.are
-      ∙ (w.marks (point t.second.pos) (point d) (is_full p.matrix d)
-      ∙ ap (λ (c : Coord). cond (is_within (just (plus (point c) down)) (point d)) full (is_full p.matrix d)) (sym t.front_is))))))
+      ∙ (ap (λ (bots : List Bot). is_filled (acts bots (Wait ∷ k ∷ [])) d || (is_full p.matrix d && not (is_voided (acts bots (Wait ∷ k ∷ [])) d))) both.are
+      ∙ (how_it_writes.marks (point both.second.pos) (point d) (is_full p.matrix d)
+      ∙ ap (λ (c : Coord). cond (is_within (just (plus (point c) down)) (point d)) full (is_full p.matrix d)) (sym both.front_is))))))

@@ -29,7 +29,7 @@ up_to x y z = in_part x y 0 z
 -- a coordinate of the line
 on_line : (m : Matrix) (x y : ℕ) (c : Coord) → (c.x == x) ≡ true → (c.y == y) ≡ true
     → is_full m c ≡ is_full_at m x y c.z
-on_line m x y c ex ey = let a = equal_by_test c.x x ex in let b = equal_by_test c.y y ey in λ i. is_full m (record { x = a i; y = b i; z = c.z })
+on_line m x y c ex ey = let same_x = equal_by_test c.x x ex in let same_y = equal_by_test c.y y ey in λ i. is_full m (record { x = same_x i; y = same_y i; z = c.z })
 
 -- what is written after one run more
 run_more : (m : Matrix) (x y z : ℕ) (run : RowRun) → IsNextRun m x y z run → (c : Coord)
@@ -43,8 +43,8 @@ run_more m x y z run h c = by (c.x == x) (c.y == y) refl refl
         zs : (z' < z) ⊎ (z ≤ z') → (z' < run.first) ⊎ (run.first ≤ z') → (z' < run.end) ⊎ (run.end ≤ z')
             → (nat_le 0 z' && nat_lt z' run.end && is_full_at m x y z')
             ≡ ((nat_le run.first z' && nat_lt z' run.end) || (nat_le 0 z' && nat_lt z' z && is_full_at m x y z'))
-        zs (inl a) b d = let low = h.low in let s = h.is_run.some in let e1 : nat_lt z' run.end ≡ true = grind (arith, nat_tests) in let e2 : nat_le run.first z' ≡ false = grind (arith, nat_tests) in let e3 : nat_lt z' z ≡ true = grind (arith, nat_tests) in rw (e1, e2, e3) refl
-        zs (inr a) (inl b) d = let s = h.is_run.some in let void = h.void z' a b in let e1 : nat_lt z' run.end ≡ true = grind (arith, nat_tests) in let e2 : nat_le run.first z' ≡ false = grind (arith, nat_tests) in let e3 : nat_lt z' z ≡ false = grind (arith, nat_tests) in rw (void, e1, e2, e3) (ends (nat_le 0 z'))
+        zs (inl a) b d = let low = h.low in let is_run_some = h.is_run.some in let e1 : nat_lt z' run.end ≡ true = grind (arith, nat_tests) in let e2 : nat_le run.first z' ≡ false = grind (arith, nat_tests) in let e3 : nat_lt z' z ≡ true = grind (arith, nat_tests) in rw (e1, e2, e3) refl
+        zs (inr a) (inl b) d = let is_run_some = h.is_run.some in let void = h.void z' a b in let e1 : nat_lt z' run.end ≡ true = grind (arith, nat_tests) in let e2 : nat_le run.first z' ≡ false = grind (arith, nat_tests) in let e3 : nat_lt z' z ≡ false = grind (arith, nat_tests) in rw (void, e1, e2, e3) (ends (nat_le 0 z'))
           where
             ends : (s : Bool) → (s && true && false) ≡ (s && false && false)
             ends true = refl
@@ -85,8 +85,8 @@ run_before m x y z run h c = by (c.x == x) (c.y == y) refl refl
     Along v = (nat_le z v && nat_lt v m.resolution && is_full_at m x y v) ≡ ((nat_le run.first v && nat_lt v run.end) || (nat_le run.end v && nat_lt v m.resolution && is_full_at m x y v))
 
     along : (v : ℕ) → (v < z) ⊎ (z ≤ v) → (v < run.first) ⊎ (run.first ≤ v) → (v < run.end) ⊎ (run.end ≤ v) → Along v
-    along v (inl a) b d = let low = h.low in let s = h.is_run.some in let e1 : nat_le z v ≡ false = grind (arith, nat_tests) in let e2 : nat_le run.first v ≡ false = grind (arith, nat_tests) in let e3 : nat_le run.end v ≡ false = grind (arith, nat_tests) in rw (e1, e2, e3) refl
-    along v (inr a) (inl b) d = let s = h.is_run.some in let void = h.void v a b in let e2 : nat_le run.first v ≡ false = grind (arith, nat_tests) in let e3 : nat_le run.end v ≡ false = grind (arith, nat_tests) in rw (void, e2, e3) (off (nat_le z v) (nat_lt v m.resolution))
+    along v (inl a) b d = let low = h.low in let is_run_some = h.is_run.some in let e1 : nat_le z v ≡ false = grind (arith, nat_tests) in let e2 : nat_le run.first v ≡ false = grind (arith, nat_tests) in let e3 : nat_le run.end v ≡ false = grind (arith, nat_tests) in rw (e1, e2, e3) refl
+    along v (inr a) (inl b) d = let is_run_some = h.is_run.some in let void = h.void v a b in let e2 : nat_le run.first v ≡ false = grind (arith, nat_tests) in let e3 : nat_le run.end v ≡ false = grind (arith, nat_tests) in rw (void, e2, e3) (off (nat_le z v) (nat_lt v m.resolution))
       where
         off : (s t : Bool) → (s && t && false) ≡ false
         off true true = refl
@@ -164,8 +164,8 @@ all_written m x y z h c = by (c.x == x) (c.y == y) refl refl (cases_lt c.z z) (c
         → (c.z < m.resolution) ⊎ (m.resolution ≤ c.z)
         → (is_in_line x y c && is_full m c) ≡ (up_to x y z c && is_full m c)
     by true true ex ey (inl a) b = let e0 : nat_le 0 c.z ≡ true = grind (arith, nat_tests) in let e1 : nat_lt c.z z ≡ true = grind (arith, nat_tests) in rw (ex, ey, e0, e1) refl
-    by true true ex ey (inr a) (inl b) = let v = on_line m x y c ex ey ∙ h.void c.z a b in rw (ex, ey) (void (nat_le 0 c.z) (nat_lt c.z z) (is_full m c) v)
-    by true true ex ey (inr a) (inr b) = let v = void_past_z m c (past c.z m.resolution b) in rw (ex, ey) (void (nat_le 0 c.z) (nat_lt c.z z) (is_full m c) v)
+    by true true ex ey (inr a) (inl b) = let on_line_here = on_line m x y c ex ey ∙ h.void c.z a b in rw (ex, ey) (void (nat_le 0 c.z) (nat_lt c.z z) (is_full m c) on_line_here)
+    by true true ex ey (inr a) (inr b) = let void_past = void_past_z m c (past c.z m.resolution b) in rw (ex, ey) (void (nat_le 0 c.z) (nat_lt c.z z) (is_full m c) void_past)
       where
         past : (u r : ℕ) → r ≤ u → nat_lt u r ≡ false
         past u r l = grind (arith, nat_tests)
@@ -221,7 +221,7 @@ stamps_line a b m full x y z n k g h l = record {
   resolution = g.resolution;
   stamped = λ c. g.stamped c ∙ ap (λ t. cond t full (is_full a.matrix c)) (sym (all_written m x y z h c));
   pair = g.pair;
-  spends = let s = g.spends.commands_are in let b = g.spends.bytes_are in record { commands_are = s; bytes_are = omega arith };
+  spends = let spends_commands_are = g.spends.commands_are in let spends_bytes_are = g.spends.bytes_are in record { commands_are = spends_commands_are; bytes_are = omega arith };
 }
 
 -- the whole line, on the way back
@@ -239,7 +239,7 @@ stamps_as a b m full done all n k g e l = record {
   resolution = g.resolution;
   stamped = λ c. g.stamped c ∙ ap (λ t. cond t full (is_full a.matrix c)) (sym (e c));
   pair = g.pair;
-  spends = let s = g.spends.commands_are in let b = g.spends.bytes_are in record { commands_are = s; bytes_are = omega arith };
+  spends = let spends_commands_are = g.spends.commands_are in let spends_bytes_are = g.spends.bytes_are in record { commands_are = spends_commands_are; bytes_are = omega arith };
 }
 
 joined : (l f m full o : Bool) → cond (l && m) full (cond (f && m) full o) ≡ cond ((l || f) && m) full o

@@ -10,8 +10,8 @@ use Rattle.group_planner.specs.Stamping.{WritesRun, most_work, work_at, work_to}
 -- costs, one part after another
 pub spends_on : (a b c : TapeState) (n k most : ℕ) → Spends a b n → Spends b c k → n + k ≤ most → Spends a c most
 spends_on a b c n k most g h l = record {
-  commands_are = let x = g.commands_are in let commands_are = h.commands_are in omega arith;
-  bytes_are = let x = g.bytes_are in let bytes_are = h.bytes_are in omega arith;
+  commands_are = let its_commands_are = g.commands_are in let commands_are = h.commands_are in omega arith;
+  bytes_are = let its_bytes_are = g.bytes_are in let bytes_are = h.bytes_are in omega arith;
 }
 
 -- the bots have gone somewhere in their row and written there
@@ -35,8 +35,8 @@ wrote p q s a b n first end groups full g w few ex ey forth back =
       pair = w.pair;
       same_x = ap (λ (c : Coord). c.x) w.rear_is ∙ ax;
       same_y = ap (λ (c : Coord). c.y) w.rear_is ∙ ay;
-      forth = let u = ap (λ z. gap z end) ez in let v = ap (λ z. gap z end) fz in omega (arith, u, v, few_moves, one_step, forth);
-      back = let u = ap (λ z. gap z first) ez in let v = ap (λ z. gap z first) fz in omega (arith, u, v, few_moves, one_step, back);
+      forth = let gap_is = ap (λ z. gap z end) ez in let same_gap = ap (λ z. gap z end) fz in omega (arith, gap_is, same_gap, few_moves, one_step, forth);
+      back = let gap_is = ap (λ z. gap z first) ez in let same_gap = ap (λ z. gap z first) fz in omega (arith, gap_is, same_gap, few_moves, one_step, back);
       spends = spends_on p q s 0 groups 1 g.spends w.spends (omega arith);
     }
 

@@ -49,12 +49,12 @@ out_of_part r x y a b c hx hy hb o = by (in_part x y a (b + 1) c) refl
     by : (t : Bool) → in_part x y a (b + 1) c ≡ t → in_part x y a (b + 1) c ≡ false
     by false e = e
     by true e =
-        let p = low (c.x == x) (c.y == y) (nat_le a c.z) (nat_lt c.z (b + 1)) e in
-        let ex = equal c.x x p.0 in
-        let ey = equal c.y y p.1 in
-        let lz = less c.z (b + 1) p.2 in
-        let i : IsInSpace r c = record { x = omega arith; y = omega arith; z = omega arith } in
-        absurd (let t = in_space_is r c i in let f = sym t ∙ o in cc)
+        let low_here = low (c.x == x) (c.y == y) (nat_le a c.z) (nat_lt c.z (b + 1)) e in
+        let ex = equal c.x x low_here.0 in
+        let ey = equal c.y y low_here.1 in
+        let lz = less c.z (b + 1) low_here.2 in
+        let is_in_space : IsInSpace r c = record { x = omega arith; y = omega arith; z = omega arith } in
+        absurd (let in_space_here = in_space_is r c is_in_space in let impossible = sym in_space_here ∙ o in cc)
 
 -- a region along z that was made full or void
 pub set_by : (n m : Matrix) (x y a b : ℕ) (full : Bool) → n.resolution ≡ m.resolution → x < m.resolution
@@ -74,7 +74,7 @@ pub set_region : (m : Matrix) (x y a b : ℕ) (full : Bool) → x < m.resolution
 set_region m x y a b full hx hy hb hab = set_by (with_region m (between (point (coord x y a)) (point (coord x y b))) full) m x y a b full refl hx hy hb hab (λ c i. full_where m.resolution _ c i)
 
 above_part : (s u v : Bool) (w y : ℕ) → y < w → (s && w == y && u && v) ≡ false
-above_part true u v w y h = let e : (w == y) ≡ false = grind (arith, nat_tests) in rw e refl
+above_part true u v w y h = let w_is_not_y : (w == y) ≡ false = grind (arith, nat_tests) in rw w_is_not_y refl
 above_part false u v w y h = refl
 
 -- what was void above the row is so afterwards

@@ -63,7 +63,7 @@ more_below m t from some here there same within here_is there_is here_small ther
         → one_if (differ_at m t (coordinate_at m.resolution (from + k))) ≡ bit_at (bit_xor here there) k
     each k l =
         let inside : from + k < m.resolution * m.resolution * m.resolution = omega (arith, within, l) in
-        let f = full_at_place m m.resolution (from + k) refl inside ∙ sym (here_is k l) in
-        let g = full_at_place t m.resolution (from + k) (sym same) inside ∙ sym (there_is k l) in
-        (λ i. one_if ((f i && not (g i)) || (g i && not (f i))))
+        let full_at_place_here = full_at_place m m.resolution (from + k) refl inside ∙ sym (here_is k l) in
+        let full_at_place_here_too = full_at_place t m.resolution (from + k) (sym same) inside ∙ sym (there_is k l) in
+        (λ i. one_if ((full_at_place_here i && not (full_at_place_here_too i)) || (full_at_place_here_too i && not (full_at_place_here i))))
         ∙ (sym (one_differs (bit_at here k) (bit_at there k) (bit_at-lt here k) (bit_at-lt there k)) ∙ sym (bit_at_xor here there k))

@@ -34,10 +34,10 @@ pub record Story (from : State) (k : Kept) : Type 0 where
 -- ---- lists
 
 front : {X : Type 0} (xs ys : List X) (n : ℕ) → n ≡ length xs → (take n (xs ++ ys) ≡ xs) × (drop n (xs ++ ys) ≡ ys)
-front [] ys n e = let z : n ≡ zero = omega (arith, e) in (ap (λ m. take m ys) z, ap (λ m. drop m ys) z)
+front [] ys n e = let n_zero : n ≡ zero = omega (arith, e) in (ap (λ m. take m ys) n_zero, ap (λ m. drop m ys) n_zero)
 front {X} (x ∷ xs) ys n e =
-    let f = front xs ys (length xs) refl in
-    (ap (λ m. take m (x ∷ xs ++ ys)) e ∙ ap (λ (zs : List X). x ∷ zs) f.0, ap (λ m. drop m (x ∷ xs ++ ys)) e ∙ f.1)
+    let front_is = front xs ys (length xs) refl in
+    (ap (λ m. take m (x ∷ xs ++ ys)) e ∙ ap (λ (zs : List X). x ∷ zs) front_is.0, ap (λ m. drop m (x ∷ xs ++ ys)) e ∙ front_is.1)
 
 halves : {X : Type 0} (n : ℕ) (xs : List X) → take n xs ++ drop n xs ≡ xs
 halves zero xs = refl
@@ -58,8 +58,8 @@ last_same (a ∷ c ∷ xs) [] x y e = absurd cc
 last_same (a ∷ xs) (b ∷ ys) x y e =
     let rest : xs ++ x ∷ [] ≡ ys ++ y ∷ [] = cc in
     let first : a ≡ b = cc in
-    let r = last_same xs ys x y rest in
-    ((λ i. first i ∷ r.0 i), r.1)
+    let lasts_same = last_same xs ys x y rest in
+    ((λ i. first i ∷ lasts_same.0 i), lasts_same.1)
 
 none_last : (xs : List Instant) (x : Instant) → xs ++ x ∷ [] ≡ [] → ⊥
 none_last [] x e = cc
@@ -120,18 +120,18 @@ module _ (source : Matrix) (profile : Profile) where
       → Story from k
   stepped old k commands ok s made =
       let all : List Instant = old.past ++ present old ∷ [] in
-      let n : ℕ = length all - old.room in
+      let difference : ℕ = length all - old.room in
       record {
         made = s.made ++ commands;
         passed = s.passed ++ present old ∷ [];
-        earlier = s.earlier ++ take n all;
+        earlier = s.earlier ++ take difference all;
         walked = walks s.made commands (present old) s.passed s.walked made.some made.each made.goes made.counted refl refl;
         past =
             ap (λ (xs : List Instant). xs ++ present old ∷ []) s.past
             ∙ (append_assoc s.earlier old.past (present old ∷ [])
-            ∙ (ap (λ (xs : List Instant). s.earlier ++ xs) (sym (halves n all))
-            ∙ (sym (append_assoc s.earlier (take n all) (drop n all))
-            ∙ ap (λ (xs : List Instant). (s.earlier ++ take n all) ++ xs) (sym made.past))));
+            ∙ (ap (λ (xs : List Instant). s.earlier ++ xs) (sym (halves difference all))
+            ∙ (sym (append_assoc s.earlier (take difference all) (drop difference all))
+            ∙ ap (λ (xs : List Instant). (s.earlier ++ take difference all) ++ xs) (sym made.past))));
         trace = λ t e. told_by old.trace commands t s.made s.trace (sym made.trace ∙ e);
       }
 
@@ -145,14 +145,14 @@ module _ (source : Matrix) (profile : Profile) where
           → passed ≡ s.passed → Story from k
       by (stands e f g) same_made same = absurd (none_last (s.earlier ++ k.past) (present k) (sym ends ∙ (sym same ∙ f)))
       by (walks before commands q others w some each next counted m o) same_made same =
-          let r = last_same others (s.earlier ++ k.past) q (present k) (sym o ∙ (same ∙ ends)) in
+          let lasts_same = last_same others (s.earlier ++ k.past) q (present k) (sym o ∙ (same ∙ ends)) in
           record {
             made = before;
             passed = others;
             earlier = s.earlier;
-            walked = subst (λ (p : Instant). Walked from before p others) r.1 w;
-            past = r.0;
-            trace = λ t e. left_by old.trace (length k.state.bots) t before commands (λ u f. s.trace u f ∙ (sym same_made ∙ m)) (each ∙ ap (λ (p : Instant). length p.state.bots) r.1) (sym back.trace ∙ e);
+            walked = subst (λ (p : Instant). Walked from before p others) lasts_same.1 w;
+            past = lasts_same.0;
+            trace = λ t e. left_by old.trace (length k.state.bots) t before commands (λ u f. s.trace u f ∙ (sym same_made ∙ m)) (each ∙ ap (λ (p : Instant). length p.state.bots) lasts_same.1) (sym back.trace ∙ e);
           }
 
   copied : (old k : Kept) → Story from old → k ≡ record old { past = [] } → Story from k

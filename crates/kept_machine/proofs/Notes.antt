@@ -30,7 +30,7 @@ back_more p (n ∷ notes) u h may = (subst (λ (q : Instant). MayUndo q.state n)
 pub back_less : (p : Instant) (notes : List Undo) (u : Undo) → CanBeTakenBack p (notes ++ u ∷ [])
     → MayUndo p.state u × CanBeTakenBack (instant_before p u) notes
 back_less p [] u h = (h.0, tt)
-back_less p (n ∷ notes) u h = let r = back_less p notes u h.1 in (r.0, (subst (λ (q : Instant). MayUndo q.state n) (earliest_more p notes u) h.0, r.1))
+back_less p (n ∷ notes) u h = let back_and_less = back_less p notes u h.1 in (back_and_less.0, (subst (λ (q : Instant). MayUndo q.state n) (earliest_more p notes u) h.0, back_and_less.1))
 
 -- ---- without the oldest
 
@@ -57,7 +57,7 @@ back_last p k notes h = back_drop p (length notes - k) notes h
 pub last_split : {X : Type 0} (xs : List X) (x : X) → slice_get xs (length xs - 1) ≡ Some x
     → xs ≡ take (length xs - 1) xs ++ x ∷ []
 last_split [] x h = cc
-last_split (y ∷ []) x h = let e : y ≡ x = cc in ap (λ z. z ∷ []) e
+last_split (y ∷ []) x h = let y_is_x : y ≡ x = cc in ap (λ z. z ∷ []) y_is_x
 last_split {X} (y ∷ z ∷ xs) x h =
     let less : length (y ∷ z ∷ xs) - 1 ≡ suc (length (z ∷ xs) - 1) = omega arith in
     ap (λ (ys : List X). y ∷ ys) (last_split (z ∷ xs) x (subst (λ (n : ℕ). slice_get (y ∷ z ∷ xs) n ≡ Some x) less h)) ∙ ap (λ n. take n (y ∷ z ∷ xs) ++ x ∷ []) (sym less)

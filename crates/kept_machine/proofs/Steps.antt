@@ -111,8 +111,8 @@ module _ (v w : Situation) (notes : Buffer Undo) (commands : List Command) where
   pub would_make : (trace : Option (List Command)) (ok : StepOk) (began ended : ℕ) → CanStep v commands
       → Stepped v w commands (Ok ok) began ended → WouldAnswer (kept_of v notes trace) commands (Ok ok)
   would_make trace ok began ended can stepped =
-      let k : Kept = kept_of v notes trace in (
-        record { state = w.state; steps = w.steps; past = keep_last k.room (k.past ++ present k ∷ []); room = k.room; trace = trace_with trace commands },
+      let kept : Kept = kept_of v notes trace in (
+        record { state = w.state; steps = w.steps; past = keep_last kept.room (kept.past ++ present kept ∷ []); room = kept.room; trace = trace_with trace commands },
         record { some = can.some; each = can.each; goes = stepped.goes; counted = stepped.counted; past = refl; room = refl; trace = refl; energy = stepped.energy; halted = stepped.halted },
       )
 

@@ -17,7 +17,7 @@ left_alone source b nothing low p c l = let not_from_layer : from_layer low c �
 -- and from it on all is void
 pub void_from : (source b nothing : Matrix) (low : ℕ) → IsVoidFrom nothing 0
     → IsPartlyBuilt b source nothing (from_layer low) → IsVoidFrom b low
-void_from source b nothing low n p = λ c l. let t : from_layer low c ≡ true = grind (arith, nat_tests) in p c ∙ (ap (λ t. cond t (is_full nothing c) (is_full source c)) t ∙ n c (omega arith))
+void_from source b nothing low n p = λ c l. let from_layer_holds : from_layer low c ≡ true = grind (arith, nat_tests) in p c ∙ (ap (λ t. cond t (is_full nothing c) (is_full source c)) from_layer_holds ∙ n c (omega arith))
 
 -- where all was void from a layer on and was built, the voxels are those of the target
 pub rebuilt_is : (b c target : Matrix) (low : ℕ) → IsLegal target → b.resolution ≡ target.resolution

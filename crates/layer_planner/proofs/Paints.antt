@@ -29,14 +29,14 @@ here_is q c = λ i. same_is q.x c.x i && same_is q.y c.y i && same_is q.z c.z i
 -- a coordinate that passes the test of a voxel is that voxel
 pub voxel-is : (q c : Coord) → voxel c.x c.y c.z q ≡ true → q ≡ c
 voxel-is q c h =
-    let p = parts_of_three (q.x == c.x) (q.y == c.y) (q.z == c.z) h in
-    let x = equal_by_test q.x c.x p.0 in
-    let y = equal_by_test q.y c.y p.1 in
-    let z = equal_by_test q.z c.z p.2 in
-    λ j. record { x = x j; y = y j; z = z j }
+    let three_parts = parts_of_three (q.x == c.x) (q.y == c.y) (q.z == c.z) h in
+    let same_x = equal_by_test q.x c.x three_parts.0 in
+    let same_y = equal_by_test q.y c.y three_parts.1 in
+    let same_z = equal_by_test q.z c.z three_parts.2 in
+    λ j. record { x = same_x j; y = same_y j; z = same_z j }
 
 both : {b : Bool} → b ≡ false → b ≡ true → ⊥
-both f g = let h = sym f ∙ g in cc
+both f g = let impossible = sym f ∙ g in cc
 
 outside : (r : ℕ) (q c : Coord) → IsInSpace r c → in_space r (point q) ≡ false → voxel c.x c.y c.z q ≡ false
 outside r q c i o = by (voxel c.x c.y c.z q) refl
@@ -150,8 +150,8 @@ paints_more a b c goal first last all p q s k n most h g e l = record {
   resolution = g.resolution ∙ h.resolution;
   painted = painted_more c.matrix b.matrix a.matrix goal first last all h.painted g.painted e;
   ready = g.ready;
-  bytes_are = let x = h.bytes_are in let bytes_are = g.bytes_are in omega arith;
-  steps_are = let x = h.steps_are in let steps_are = g.steps_are in omega arith;
+  bytes_are = let its_bytes_are = h.bytes_are in let bytes_are = g.bytes_are in omega arith;
+  steps_are = let its_steps_are = h.steps_are in let steps_are = g.steps_are in omega arith;
 }
 
 -- the way to another coordinate
@@ -162,8 +162,8 @@ paints_to a b goal done p q s k n most h l m = record {
   resolution = h.resolution;
   painted = h.painted;
   ready = h.ready;
-  bytes_are = let bytes_are = h.bytes_are in let w = moves_on (spot b.bots) q s in omega arith;
-  steps_are = let steps_are = h.steps_are in let w = moves_on (spot b.bots) q s in omega arith;
+  bytes_are = let bytes_are = h.bytes_are in let onward = moves_on (spot b.bots) q s in omega arith;
+  steps_are = let steps_are = h.steps_are in let onward = moves_on (spot b.bots) q s in omega arith;
 }
 
 -- a greater bound holds too

@@ -28,7 +28,7 @@ not_there y q c l e = by (voxel c.x c.y c.z q) refl
   where
     by : (t : Bool) → voxel c.x c.y c.z q ≡ t → voxel c.x c.y c.z q ≡ false
     by false f = f
-    by true f = let g = ap (λ (d : Coord). d.y) (voxel-is q c f) in absurd (omega arith)
+    by true f = let same_y = ap (λ (d : Coord). d.y) (voxel-is q c f) in absurd (omega arith)
 
 pub wrote : (a b c : TapeState) (goal : Matrix) (k : Command) (v : Bool) (cost : ℤ) (x y z : ℕ) → CanPaint a goal y
     → x < a.matrix.resolution → z < a.matrix.resolution → Moves a b (coord x (y + 1) z)
@@ -56,10 +56,10 @@ wrote a b c goal k v cost x y z ready hx hz m w s n e =
         full = w.profile ∙ (m.profile ∙ sweep.full);
         same = sweep.same ∙ sym er;
         placed = rw (stays, er) (record { x = hx; y = high; z = hz });
-        here = λ q l. painted q ∙ (ap (λ t. cond t (is_full goal q) (is_full a.matrix q)) (not_there y q (coord x y z) (let f = ap (λ (d : Coord). d.y) stays in omega arith) refl) ∙ ready.above q (let f = ap (λ (d : Coord). d.y) stays in omega arith));
+        here = λ q l. painted q ∙ (ap (λ t. cond t (is_full goal q) (is_full a.matrix q)) (not_there y q (coord x y z) (let same_y = ap (λ (d : Coord). d.y) stays in omega arith) refl) ∙ ready.above q (let same_y = ap (λ (d : Coord). d.y) stays in omega arith));
       };
-      bytes_are = let p = w.bytes_are in let bytes_are = m.bytes_are in omega arith;
-      steps_are = let p = w.steps in let steps = m.steps in omega arith;
+      bytes_are = let its_bytes_are = w.bytes_are in let bytes_are = m.bytes_are in omega arith;
+      steps_are = let its_steps = w.steps in let steps = m.steps in omega arith;
     }
 
 -- ---- layers
@@ -72,6 +72,6 @@ pub spent : (built cleared shifted start ra rb rs rt : ℕ) → built ≤ shifte
     → shifted ≤ cleared + 2 → cleared ≤ start + (ra - 1) * layer_bytes ra → start ≤ rs + 1 → rb ≡ rt → ra ≡ rt → rs ≡ rt
     → built ≤ rt + 3 + 2 * ((rt - 1) * layer_bytes rt)
 spent built cleared shifted start ra rb rs rt p m q s eb ea es =
-    let b = ap (λ r. (r - 1) * layer_bytes r) eb in
-    let a = ap (λ r. (r - 1) * layer_bytes r) ea in
+    let product_is = ap (λ r. (r - 1) * layer_bytes r) eb in
+    let same_product = ap (λ r. (r - 1) * layer_bytes r) ea in
     omega arith

@@ -31,12 +31,12 @@ no_fission (GVoid d f) h = refl
 none_made : (commands : List Command) → All IsPlain commands → count_by is_fission commands ≡ 0
 none_made [] h = refl
 none_made (c ∷ more) h =
-    let s = sum_by-cons (λ x. cond {A = ℕ} (is_fission x) 1 0) c more in
-    let e : cond {A = ℕ} (is_fission c) 1 0 ≡ 0 = ap (λ x. cond {A = ℕ} x 1 0) (no_fission c (h 0 c (omega arith))) in
-    let r = none_made more (plain_more c more h) in
-    omega (arith, s, e, r)
+    let sum_is = sum_by-cons (λ x. cond {A = ℕ} (is_fission x) 1 0) c more in
+    let fission_count_zero : cond {A = ℕ} (is_fission c) 1 0 ≡ 0 = ap (λ x. cond {A = ℕ} x 1 0) (no_fission c (h 0 c (omega arith))) in
+    let none_made_here = none_made more (plain_more c more h) in
+    omega (arith, sum_is, fission_count_zero, none_made_here)
 
 -- so at most one bot is active at any time
 pub alone : (source : Matrix) (profile : Profile) (commands : List Command) → All IsPlain commands
     → HasAtMost source profile commands 1
-alone source profile commands h = few_at_most source profile commands 1 (let e = none_made commands h in omega (arith, e))
+alone source profile commands h = few_at_most source profile commands 1 (let none_made_here = none_made commands h in omega (arith, none_made_here))

@@ -56,7 +56,7 @@ ends_or_none {X} (x ∷ xs) = inr (by (ends_or_none xs))
     by (inr h) = (x ∷ h.0, h.1, ap (λ (ys : List X). x ∷ ys) h.2)
 
 none_ends : {X : Type 0} (xs most : List X) (last : X) → xs ≡ [] → xs ≡ most ++ last ∷ [] → ⊥
-none_ends xs most last e f = let l = ap length e in let k = ap length f ∙ length-append most (last ∷ []) in omega arith
+none_ends xs most last e f = let length_is = ap length e in let same_length = ap length f ∙ length-append most (last ∷ []) in omega arith
 
 last_is : {X : Type 0} (xs most more : List X) (a b : X) → xs ≡ most ++ a ∷ [] → xs ≡ more ++ b ∷ [] → a ≡ b
 last_is xs most more a b e f = (same_from_push most more a b (sym e ∙ f)).1
@@ -170,7 +170,7 @@ module _ (m : Matrix) (s t : Sweep) (p : TapeState) (h : IsSweep m s) (g : IsSwe
   rested supported = by (c.y == 0) refl v.resting
     where
       lower : 0 < c.y → below c ≡ c → ⊥
-      lower l e = let y = ap (λ (q : Coord). q.y) e in omega arith
+      lower l e = let same_y = ap (λ (q : Coord). q.y) e in omega arith
 
       high : t.at.y ≡ c.y
       high = ap (λ (q : Coord). q.y) v.at
@@ -178,11 +178,11 @@ module _ (m : Matrix) (s t : Sweep) (p : TapeState) (h : IsSweep m s) (g : IsSwe
       visited : 0 < c.y → IsTrue (is_full m (below c)) → is_full s.remaining (below c) ≡ false
       visited l f =
           sym (v.loses.others (below c) (lower l))
-          ∙ none_left m t (c.y - 1) g (λ d e r. g.swept.layers d (let k = high in omega arith) r) (λ d e i. let k = (g.on_trail d i).1 in let y = high in omega arith) (below c) (is_supported m (below c) supported f) refl
+          ∙ none_left m t (c.y - 1) g (λ d e r. g.swept.layers d (let high_here = high in omega arith) r) (λ d e i. let on_trail = (g.on_trail d i).1 in let high_here = high in omega arith) (below c) (is_supported m (below c) supported f) refl
 
       by : (z : Bool) → (c.y == 0) ≡ z → IsTrue (z || is_full m (below c)) → IsCarried p.matrix c
       by true e r = inl (zero_by_test c.y e)
-      by false e r = inr (below c, visited_is_built m s p h b (below c) (record { before = r; after = visited (positive_by_test c.y e) r }), adjacent_below c (below c) refl refl (let l = positive_by_test c.y e in omega arith))
+      by false e r = inr (below c, visited_is_built m s p h b (below c) (record { before = r; after = visited (positive_by_test c.y e) r }), adjacent_below c (below c) refl refl (let is_positive = positive_by_test c.y e in omega arith))
 
   pub can_begin : IsLegal m → m.resolution ≤ 400 → FirstUnsupported m None → CanFill p c
   can_begin legal most supported = record { can_go = can_go m s p h b legal most c (full_at_visit m s p h b c v.loses.before) v.up; carried = rested supported }
@@ -208,7 +208,7 @@ module _ (m : Matrix) (s t : Sweep) (p : TapeState) (h : IsSweep m s) (g : IsSwe
           only_one : (xs most : List Coord) (last : Coord) → xs ≡ most ++ last ∷ [] → IsTrail s.at xs → length xs ≤ 1
               → last ≡ s.at
           only_one xs [] last e k l = let trail : IsTrail s.at (last ∷ []) = subst (IsTrail s.at) e k in trail.0
-          only_one xs (x ∷ most) last e k l = let n = ap length e ∙ length-append (x ∷ most) (last ∷ []) in absurd (omega arith)
+          only_one xs (x ∷ most) last e k l = let length_is = ap length e ∙ length-append (x ∷ most) (last ∷ []) in absurd (omega arith)
 
   pub built_first : (q : TapeState)
       → Works p q (above c) (with_voxel p.matrix c true) (moves_to (spot p.bots) (above c) + 1) → IsBuilt m t q
@@ -254,7 +254,7 @@ module _ (m : Matrix) (s t : Sweep) (p : TapeState) (h : IsSweep m s) (g : IsSwe
   back_is = g.on_trail c (subst (λ (xs : List Coord). Contains xs c) (sym v.ends) (Contains-push v.most c))
 
   pub can_go_back : IsLegal m → m.resolution ≤ 400 → CanGoAbove p c
-  can_go_back legal most = can_go m s p h b legal most c back_is.0.before (let l = back_is.1 in let e = ap (λ (q : Coord). q.y) v.at in omega arith)
+  can_go_back legal most = can_go m s p h b legal most c back_is.0.before (let l = back_is.1 in let same_y = ap (λ (q : Coord). q.y) v.at in omega arith)
 
   pub built_back : (q : TapeState) → Works p q (above c) p.matrix (moves_to (spot p.bots) (above c)) → IsBuilt m t q
   built_back q w =

@@ -25,10 +25,10 @@ same_count : (p q : Coord → Bool) (f : ℕ → Coord) (n a : ℕ) → ((j : �
     → count_by p (map f (numbers_from a n)) ≡ count_by q (map f (numbers_from a n))
 same_count p q f zero a h = refl
 same_count p q f (suc n) a h =
-    let b = counted p (f a) (map f (numbers_from (a + 1) n)) in
-    let c = counted q (f a) (map f (numbers_from (a + 1) n)) in
+    let counted_here = counted p (f a) (map f (numbers_from (a + 1) n)) in
+    let counted_here_too = counted q (f a) (map f (numbers_from (a + 1) n)) in
     let same_tally : tally (p (f a)) ≡ tally (q (f a)) = ap tally (h a (omega arith) (omega arith)) in
-    let e : count_by p (map f (numbers_from (a + 1) n)) ≡ count_by q (map f (numbers_from (a + 1) n)) = same_count p q f n (a + 1) (λ j k l. h j (omega arith) (omega arith)) in
+    let count_is : count_by p (map f (numbers_from (a + 1) n)) ≡ count_by q (map f (numbers_from (a + 1) n)) = same_count p q f n (a + 1) (λ j k l. h j (omega arith) (omega arith)) in
     omega arith
 
 -- two tests that differ at one number
@@ -37,13 +37,13 @@ change_at : (p q : Coord → Bool) (f : ℕ → Coord) (n a k : ℕ) → a ≤ k
     → count_by q (map f (numbers_from a n)) + tally (p (f k)) ≡ count_by p (map f (numbers_from a n)) + tally (q (f k))
 change_at p q f zero a k l m h = absurd (omega arith)
 change_at p q f (suc n) a k l m h =
-    let b = counted p (f a) (map f (numbers_from (a + 1) n)) in
-    let c = counted q (f a) (map f (numbers_from (a + 1) n)) in
+    let counted_here = counted p (f a) (map f (numbers_from (a + 1) n)) in
+    let counted_here_too = counted q (f a) (map f (numbers_from (a + 1) n)) in
     elim (cases_eq a k) [
       | inl e ↦
-          let s : tally (p (f a)) ≡ tally (p (f k)) = ap (λ (i : ℕ). tally (p (f i))) e in
+          let tally_is : tally (p (f a)) ≡ tally (p (f k)) = ap (λ (i : ℕ). tally (p (f i))) e in
           let same_tally : tally (q (f a)) ≡ tally (q (f k)) = ap (λ (i : ℕ). tally (q (f i))) e in
-          let d : count_by p (map f (numbers_from (a + 1) n)) ≡ count_by q (map f (numbers_from (a + 1) n)) = same_count p q f n (a + 1) (λ j i o. h j (λ u. omega arith)) in
+          let count_is : count_by p (map f (numbers_from (a + 1) n)) ≡ count_by q (map f (numbers_from (a + 1) n)) = same_count p q f n (a + 1) (λ j i o. h j (λ u. omega arith)) in
           omega arith
       | inr ne ↦
           let same_tally : tally (p (f a)) ≡ tally (q (f a)) = ap tally (h a ne) in

@@ -18,12 +18,12 @@ pub moves_paid : (a b : Coord) → 15 * moves_to a b ≤ distance a b + 42
 moves_paid a b = omega arith
 
 pub one_move : (a b : Coord) → AreBesideInLayer a b → moves_to (above a) (above b) ≡ 1
-one_move a b h = let g = beside_gap a b h in let level = h.level in omega arith
+one_move a b h = let gap_one = beside_gap a b h in let level = h.level in omega arith
 
 -- ---- legal models
 
 pub above_in_space : (m : Matrix) (c : Coord) → IsLegal m → IsTrue (is_full m c) → IsInSpace m.resolution (above c)
-above_in_space m c h f = let i = full_within m c f in record { x = i.x; y = (full_in_box m c h f).y_end; z = i.z }
+above_in_space m c h f = let is_within = full_within m c f in record { x = is_within.x; y = (full_in_box m c h f).y_end; z = is_within.z }
 
 -- ---- how far a sweep goes
 
@@ -32,5 +32,5 @@ reach_most r c h =
     let front : c.y * r + c.x < r * r = digits_lt h.y h.x in
     let less : c.y * r + c.x + 1 ≤ r * r = omega arith in
     let rows : r * (c.y * r + c.x + 1) ≤ r * (r * r) = mul-le-mul_left r less in
-    let z = h.z in
+    let along_z = h.z in
     omega arith

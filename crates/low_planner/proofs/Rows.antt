@@ -37,10 +37,10 @@ box_from : (low high c : Coord) → in_box low high c ≡ true
 unfolding in_box
 box_from low high c h =
     let front = left ((nat_le low.x c.x && nat_le c.x high.x) && (nat_le low.y c.y && nat_le c.y high.y)) (nat_le low.z c.z && nat_le c.z high.z) h in
-    let x = between_from low.x high.x c.x (left (nat_le low.x c.x && nat_le c.x high.x) (nat_le low.y c.y && nat_le c.y high.y) front) in
-    let y = between_from low.y high.y c.y (second_of_two (nat_le low.x c.x && nat_le c.x high.x) (nat_le low.y c.y && nat_le c.y high.y) front) in
-    let z = between_from low.z high.z c.z (second_of_two ((nat_le low.x c.x && nat_le c.x high.x) && (nat_le low.y c.y && nat_le c.y high.y)) (nat_le low.z c.z && nat_le c.z high.z) h) in
-    (x.0, x.1, y.0, y.1, z.0, z.1)
+    let between_x = between_from low.x high.x c.x (left (nat_le low.x c.x && nat_le c.x high.x) (nat_le low.y c.y && nat_le c.y high.y) front) in
+    let between_y = between_from low.y high.y c.y (second_of_two (nat_le low.x c.x && nat_le c.x high.x) (nat_le low.y c.y && nat_le c.y high.y) front) in
+    let between = between_from low.z high.z c.z (second_of_two ((nat_le low.x c.x && nat_le c.x high.x) && (nat_le low.y c.y && nat_le c.y high.y)) (nat_le low.z c.z && nat_le c.z high.z) h) in
+    (between_x.0, between_x.1, between_y.0, between_y.1, between.0, between.1)
 
 -- ---- the first full voxel of a row
 
@@ -59,21 +59,21 @@ before_in_row d c x y z = rw (same_as d.x c.x x, same_as d.y c.y y) (less d.z c.
 module _ (m : Matrix) (from : Coord) (e : ℕ) (end : e + 1 ≡ m.resolution) where
   in_row : (d : Coord) → IsTrue (is_full m d) → d.x ≡ from.x → d.y ≡ from.y → from.z ≤ d.z → (is_full m d && in_box from (coord from.x from.y e) d) ≡ true
   in_row d f x y z =
-      let i = (full_within m d f).z in
+      let along_z = (full_within m d f).z in
       rw f (box_by from (coord from.x from.y e) d (omega arith) (omega arith) (omega arith) (omega arith) z (omega arith))
 
   found_in_row : (o : Option Coord) → LeastOf m.resolution (λ c. is_full m c && in_box from (coord from.x from.y e) c) o
       → MatchOption o (IsVoidRow m from) (IsNextFull m from)
   found_in_row None h = λ d x y z. false_by (is_full m d) (λ f. not_both (in_row d f x y z) (h d (full_within m d f)))
   found_in_row (Some c) h =
-      let p = box_from from (coord from.x from.y e) c (second_of_two (is_full m c) (in_box from (coord from.x from.y e) c) h.passes) in
-      let cx : c.x ≡ from.x = omega (arith, p.0, p.1) in
-      let cy : c.y ≡ from.y = omega (arith, p.2, p.3) in
+      let within_box = box_from from (coord from.x from.y e) c (second_of_two (is_full m c) (in_box from (coord from.x from.y e) c) h.passes) in
+      let cx : c.x ≡ from.x = omega (arith, within_box.0, within_box.1) in
+      let cy : c.y ≡ from.y = omega (arith, within_box.2, within_box.3) in
       record {
         within = h.within;
         x = cx;
         y = cy;
-        z = p.4;
+        z = within_box.4;
         full = left (is_full m c) (in_box from (coord from.x from.y e) c) h.passes;
         first = λ d x y z l. false_by (is_full m d) (λ f. not_both (before_in_row d c (x ∙ sym cx) (y ∙ sym cy) l) (h.least d (full_within m d f) (in_row d f x y z)));
       }
@@ -83,7 +83,7 @@ pub next_full_is : (m : Matrix) (k : Corners) (from : Coord) (e : ℕ) (o : Opti
     → o ≡ find (λ c. is_full m c && is_within (span k) (point c)) (all_of m)
     → MatchOption o (IsVoidRow m from) (IsNextFull m from)
 next_full_is m k from e o i end c found =
-    let z = i.z in
+    let along_z = i.z in
     found_in_row m from e end o (box_least m k from (coord from.x from.y e) o c (omega arith) (omega arith) (omega arith) found)
 
 -- ---- the first voxel of a row that rests
@@ -103,7 +103,7 @@ module _ (m left : Matrix) (from at c : Coord) (x : at.x ≡ from.x) (y : at.y �
     within = subst (λ (s : ℕ). IsInSpace s c) e n.within;
     x = n.x ∙ x;
     y = n.y ∙ y;
-    z = (let k = n.z in omega arith);
+    z = (let along_z = n.z in omega arith);
     here = n.full;
     resting = r;
     first = before_next n;
@@ -149,7 +149,7 @@ distance_on a b c = omega (arith, gaps_on a.x b.x c.x, gaps_on a.y b.y c.y, gaps
 
 -- the way to one coordinate, and from there to another
 pub reach_on : (r : ℕ) (a b c : Coord) → IsWithinReach r a b → IsWithinReach r b c → IsWithinReach r a c
-reach_on r a b c h k = let d = distance_on a b c in omega arith
+reach_on r a b c h k = let distance_sum = distance_on a b c in omega arith
 
 pub reach_here : (r : ℕ) (a : Coord) → IsWithinReach r a a
 reach_here r a = let distance_is : distance a a ≡ 0 = omega arith in omega arith
@@ -165,8 +165,8 @@ reach_row r a b x y z =
 pub swept_to : (m left : Matrix) (from c : Coord) → AreSwept m left from → IsStartInRow m left from c
     → AreSwept m left c
 swept_to m left from c h s = record {
-  layers = λ d l r. h.layers d (let e = s.y in omega arith) r;
-  rows = λ d e l r. h.rows d (e ∙ s.y) (let f = s.x in omega arith) r;
+  layers = λ d l r. h.layers d (let along_y = s.y in omega arith) r;
+  rows = λ d e l r. h.rows d (e ∙ s.y) (let along_x = s.x in omega arith) r;
   cells = λ d e f l r. by d (e ∙ s.y) (f ∙ s.x) l r (cases_lt d.z from.z);
 }
   where
@@ -183,14 +183,14 @@ start_is m s from c near up swept h = record {
   here = h.here;
   resting = h.resting;
   swept = swept_to m s.remaining from c swept h;
-  up = (let y = h.y in omega arith);
+  up = (let along_y = h.y in omega arith);
   near = reach_on m.resolution s.at from c near (reach_row m.resolution from c h.x h.y h.z);
 }
 
 -- past the last layer
 pub swept_past : (m left : Matrix) (from : Coord) → left.resolution ≡ m.resolution → m.resolution ≤ from.y
     → AreSwept m left from → AreAllSwept m left
-swept_past m left from e h swept c r = false_by (is_full left c) (λ f. not_both f (swept.layers c (let i = (full_within left c f).y in omega arith) r))
+swept_past m left from e h swept c r = false_by (is_full left c) (λ f. not_both f (swept.layers c (let along_y = (full_within left c f).y in omega arith) r))
 
 pub row_up : (r : ℕ) (from next : Coord) → IsNextRow r from next → from.y ≤ next.y
 row_up r from next h = by h.forth

@@ -29,7 +29,7 @@ moved m s t c er et ea h none swept up within = record {
   fewer = λ d f. ap (λ (l : Matrix). is_full l d) er ∙ h.fewer d f;
   supported = λ d k. h.supported d (was d k);
   closed = λ a b k n f. subst (λ (xs : List Coord). Contains xs a) (sym et) (h.closed a b (was a k) n (sym (ap (λ (l : Matrix). is_full l b) er) ∙ f));
-  ahead = λ d k. let ahead = h.ahead d (was d k) in let e = ap (λ (q : Coord). q.y) ea in omega arith;
+  ahead = λ d k. let ahead = h.ahead d (was d k) in let same_y = ap (λ (q : Coord). q.y) ea in omega arith;
   swept = subst (λ (q : Coord). AreSwept m t.remaining q) (sym ea) (subst (λ (l : Matrix). AreSwept m l c) (sym er) swept);
   place = subst (λ (q : Coord). IsInSpace m.resolution q) (sym ea) within;
   trail = subst (λ (xs : List Coord). IsTrail t.at xs) (sym (et ∙ none)) tt;
@@ -98,8 +98,8 @@ module _ (m : Matrix) (s t : Sweep) (c : Coord) (h : IsSweep m s) (k : TakesVoxe
       near a b n f (inr v) = stays_on a (h.closed a b v n (left_before b f))
 
       low : (d : Coord) → (d ≡ c) ⊎ IsVisited m s.remaining d → d.y ≤ t.at.y
-      low d (inl e) = let y = ap (λ (q : Coord). q.y) e in let u = up in omega arith
-      low d (inr v) = let ahead = h.ahead d v in let u = up in omega arith
+      low d (inl e) = let same_y = ap (λ (q : Coord). q.y) e in let up_here = up in omega arith
+      low d (inr v) = let ahead = h.ahead d v in let up_here = up in omega arith
 
       member : (d : Coord) → (Contains s.trail.items d ⊎ (c ≡ d)) → IsVisited m t.remaining d × (d.y ≡ t.at.y)
       member d (inl i) = let on_trail = h.on_trail d i in (record { before = on_trail.0.before; after = fewer_now d on_trail.0.after }, on_trail.1 ∙ sym up)
@@ -115,7 +115,7 @@ popped m s t last h er ea ends alone trail = record {
   fewer = λ d f. ap (λ (l : Matrix). is_full l d) er ∙ h.fewer d f;
   supported = λ d k. h.supported d (was d k);
   closed = λ a b k n f. let full : IsTrue (is_full s.remaining b) = sym (ap (λ (l : Matrix). is_full l b) er) ∙ f in near a b n full (Contains-push_cases t.trail.items last a (subst (λ (xs : List Coord). Contains xs a) ends (h.closed a b (was a k) n full)));
-  ahead = λ d k. let ahead = h.ahead d (was d k) in let e = ap (λ (q : Coord). q.y) ea in omega arith;
+  ahead = λ d k. let ahead = h.ahead d (was d k) in let same_y = ap (λ (q : Coord). q.y) ea in omega arith;
   swept = subst (λ (q : Coord). AreSwept m t.remaining q) (sym ea) (subst (λ (l : Matrix). AreSwept m l s.at) (sym er) h.swept);
   place = subst (λ (q : Coord). IsInSpace m.resolution q) (sym ea) h.place;
   trail = subst (λ (q : Coord). IsTrail q t.trail.items) (sym ea) trail;

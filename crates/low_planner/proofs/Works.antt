@@ -61,10 +61,10 @@ pub went_nowhere : (old new : TapeState) (to : Coord) → spot old.bots ≡ to �
     → new.commands ≡ old.commands
 went_nowhere old new to e m =
     let legs = m.legs in
-    let x = no_leg X (spot old.bots).x to.x legs.x (ap (λ (q : Coord). q.x) e) legs.along_x in
-    let y = no_leg Y (spot old.bots).y to.y legs.y (ap (λ (q : Coord). q.y) e) legs.along_y in
-    let z = no_leg Z (spot old.bots).z to.z legs.z (ap (λ (q : Coord). q.z) e) legs.along_z in
-    let none : m.commands ≡ [] = legs.joined ∙ (λ i. x i ++ y i ++ z i) in
+    let no_leg_here_x = no_leg X (spot old.bots).x to.x legs.x (ap (λ (q : Coord). q.x) e) legs.along_x in
+    let no_leg_here_y = no_leg Y (spot old.bots).y to.y legs.y (ap (λ (q : Coord). q.y) e) legs.along_y in
+    let no_leg_here_z = no_leg Z (spot old.bots).z to.z legs.z (ap (λ (q : Coord). q.z) e) legs.along_z in
+    let none : m.commands ≡ [] = legs.joined ∙ (λ i. no_leg_here_x i ++ no_leg_here_y i ++ no_leg_here_z i) in
     m.added ∙ (ap (λ (cs : List Command). old.commands ++ cs) none ∙ append-nil old.commands)
 
 -- ---- a voxel that is filled from above
@@ -80,9 +80,9 @@ filled a b c at n cost w f = record {
   working = record { alone = ap length f.bots_are ∙ w.working.alone; low = f.harmonics ∙ w.working.low; light = f.profile ∙ w.working.light };
   there = ap spot f.bots_are ∙ w.there;
   matrix = f.matrix ∙ (λ i. with_voxel (w.matrix i) (below_spot b at w.there i) true);
-  steps = (let s = w.steps in let steps = f.steps in omega arith);
+  steps = (let its_steps = w.steps in let steps = f.steps in omega arith);
   plain = λ p. subst (All IsPlain) (sym f.commands) (plain_and b.commands (Fill down) tt (w.plain p));
 }
 
 pub lower_in_space : (r : ℕ) (c : Coord) → IsInSpace r (above c) → IsInSpace r c
-lower_in_space r c h = record { x = h.x; y = (let y = h.y in omega arith); z = h.z }
+lower_in_space r c h = record { x = h.x; y = (let along_y = h.y in omega arith); z = h.z }

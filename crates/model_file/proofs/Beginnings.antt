@@ -74,7 +74,7 @@ looks_none m area a bare = record { takes = takes_none (Grounded m) a a refl (λ
 pub looks_then : (m : Matrix) (one two both : Coord → Type 0) (a b c : Flood) → ((d : Coord) → IsInSpace m.resolution d → both d → one d ⊎ two d) →
     LooksAround m one a b → LooksAround m two b c → LooksAround m both a c
 looks_then m one two both a b c joined h k = record {
-  takes = (let t = h.takes in let takes = k.takes in takes_then (Grounded m) a b c t takes);
+  takes = (let its_takes = h.takes in let takes = k.takes in takes_then (Grounded m) a b c its_takes takes);
   bare = λ e d area t n. by e d t n (joined e (full_within m e t.before) area);
 }
   where
@@ -110,16 +110,16 @@ module _ (m left : Matrix) (first : Coord) (count own bits : ℕ) (few : count �
   pub outs_are : AreOut m left first bits
   outs_are = record {
     out = λ c a.
-        let u : c.z - first.z < count = below_count bits count (c.z - first.z) below a.here in
-        let both = both_true (not (is_full left c)) (is_full m c) (sym (out_is c a.x a.y a.from u) ∙ a.here) in
+        let difference_below : c.z - first.z < count = below_count bits count (c.z - first.z) below a.here in
+        let both = both_true (not (is_full left c)) (is_full m c) (sym (out_is c a.x a.y a.from difference_below) ∙ a.here) in
         record { before = both.1; after = not_is_true (is_full left c) both.0 };
     all = λ c a t.
         let within = full_within m c t.before in
         let high = within.z in
         let from = a.from in
         let to = a.to in
-        let u : c.z - first.z < count = omega arith in
-        record { x = a.x; y = a.y; from = a.from; to = a.to; here = out_is c a.x a.y a.from u ∙ (λ i. not (t.after i) && t.before i) };
+        let difference_below : c.z - first.z < count = omega arith in
+        record { x = a.x; y = a.y; from = a.from; to = a.to; here = out_is c a.x a.y a.from difference_below ∙ (λ i. not (t.after i) && t.before i) };
   }
 
 -- beside the voxels that are out nothing is left
@@ -154,16 +154,16 @@ none_left m first count bits few size h d a = by (cases_lt d.z (first.z + count)
     by : ((d.z < first.z + count) ⊎ (first.z + count ≤ d.z)) → is_full m d ≡ false
     by (inl l) =
         let from = a.from in
-        let u : d.z - first.z < count = omega arith in
+        let difference_below : d.z - first.z < count = omega arith in
         lost (bit bits (d.z - first.z)) (is_full m d) a.here
-        (sym (void (d.z - first.z)) ∙ (h (d.z - first.z) u ∙ ap (λ c. bit bits (d.z - first.z) && is_full m c) (its_place first d a.x a.y a.from)))
-    by (inr l) = void_by m d (λ i. let k = i.z in let t = a.to in let from = a.from in absurd (omega arith))
+        (sym (void (d.z - first.z)) ∙ (h (d.z - first.z) difference_below ∙ ap (λ c. bit bits (d.z - first.z) && is_full m c) (its_place first d a.x a.y a.from)))
+    by (inr l) = void_by m d (λ i. let along_z = i.z in let up_to = a.to in let from = a.from in absurd (omega arith))
 
 -- the word that says which are left has no bit
 pub nothing_left : (m : Matrix) (first : Coord) (bits : ℕ) → bits ≡ 0 → (d : Coord)
     → IsAmong (record { first = first; bits = bits }) d → is_full m d ≡ false
 nothing_left m first bits e d a =
-    let z : bit bits (d.z - first.z) ≡ false = ap (λ n. bit n (d.z - first.z)) e ∙ ap (λ d. d == 1) (bit_at_above 0 0 (d.z - first.z) (omega arith) (omega arith)) in
+    let bit_clear_z : bit bits (d.z - first.z) ≡ false = ap (λ n. bit n (d.z - first.z)) e ∙ ap (λ d. d == 1) (bit_at_above 0 0 (d.z - first.z) (omega arith) (omega arith)) in
     let here = a.here in
     cc
 

@@ -25,7 +25,7 @@ matrix_is m r f er el h = λ i. record { resolution = er i; voxels = same i }
   where
     each : (p : ℕ) → p < volume r → get_or (map f (numbers_below (volume r))) p false ≡ f p
     each p l =
-        get_or-map f (numbers_below (volume r)) p 0 false (let e = length-numbers (volume r) 0 in omega arith)
+        get_or-map f (numbers_below (volume r)) p 0 false (let numbers_length = length-numbers (volume r) 0 in omega arith)
         ∙ ap f (get_or-numbers (volume r) 0 p 0 l ∙ zero-add p)
 
     same : m.voxels ≡ map f (numbers_below (volume r))
@@ -82,15 +82,15 @@ worth (suc (suc d)) c l = absurd (omega arith)
 
 bits_sum : (n : ℕ) → n < 256 → n ≡ sum_by (λ i. cond (bit n i) (2 ^ i) 0) (numbers_below 8)
 bits_sum n l =
-    let a : n / 1 % 2 * 1 ≡ cond (bit n 0) 1 0 = worth (n / 1 % 2) 1 (omega arith) in
-    let b : n / 2 % 2 * 2 ≡ cond (bit n 1) 2 0 = worth (n / 2 % 2) 2 (omega arith) in
-    let c : n / 4 % 2 * 4 ≡ cond (bit n 2) 4 0 = worth (n / 4 % 2) 4 (omega arith) in
-    let d : n / 8 % 2 * 8 ≡ cond (bit n 3) 8 0 = worth (n / 8 % 2) 8 (omega arith) in
-    let e : n / 16 % 2 * 16 ≡ cond (bit n 4) 16 0 = worth (n / 16 % 2) 16 (omega arith) in
-    let f : n / 32 % 2 * 32 ≡ cond (bit n 5) 32 0 = worth (n / 32 % 2) 32 (omega arith) in
-    let g : n / 64 % 2 * 64 ≡ cond (bit n 6) 64 0 = worth (n / 64 % 2) 64 (omega arith) in
+    let ones_worth : n / 1 % 2 * 1 ≡ cond (bit n 0) 1 0 = worth (n / 1 % 2) 1 (omega arith) in
+    let twos_worth : n / 2 % 2 * 2 ≡ cond (bit n 1) 2 0 = worth (n / 2 % 2) 2 (omega arith) in
+    let fours_worth : n / 4 % 2 * 4 ≡ cond (bit n 2) 4 0 = worth (n / 4 % 2) 4 (omega arith) in
+    let eights_worth : n / 8 % 2 * 8 ≡ cond (bit n 3) 8 0 = worth (n / 8 % 2) 8 (omega arith) in
+    let sixteens_worth : n / 16 % 2 * 16 ≡ cond (bit n 4) 16 0 = worth (n / 16 % 2) 16 (omega arith) in
+    let thirty_twos_worth : n / 32 % 2 * 32 ≡ cond (bit n 5) 32 0 = worth (n / 32 % 2) 32 (omega arith) in
+    let sixty_fours_worth : n / 64 % 2 * 64 ≡ cond (bit n 6) 64 0 = worth (n / 64 % 2) 64 (omega arith) in
     let product_is : n / 128 % 2 * 128 ≡ cond (bit n 7) 128 0 = worth (n / 128 % 2) 128 (omega arith) in
-    start ∙ (λ j. 0 + a j + b j + c j + d j + e j + f j + g j + product_is j)
+    start ∙ (λ j. 0 + ones_worth j + twos_worth j + fours_worth j + eights_worth j + sixteens_worth j + thirty_twos_worth j + sixty_fours_worth j + product_is j)
   where
     start : n ≡ 0 + n / 1 % 2 * 1 + n / 2 % 2 * 2 + n / 4 % 2 * 4 + n / 8 % 2 * 8 + n / 16 % 2 * 16 + n / 32 % 2 * 32
         + n / 64 % 2 * 64 + n / 128 % 2 * 128

@@ -132,7 +132,7 @@ parts_of first count bits d h = by ((d.x == first.x) && (d.y == first.y) && is_f
     by : (b : Bool) → ((d.x == first.x) && (d.y == first.y) && is_from first.z count d.z) ≡ b
         → (b && bit bits (d.z - first.z)) ≡ true → (d.x ≡ first.x) × (d.y ≡ first.y) × (first.z ≤ d.z)
         × (d.z < first.z + count) × (bit bits (d.z - first.z) ≡ true)
-    by true t k = let p = row t in (p.0, p.1, p.2, p.3, k)
+    by true t k = let row_here = row t in (row_here.0, row_here.1, row_here.2, row_here.3, k)
     by false t k = cc
 
 marked_by : (first : Coord) (count bits : ℕ) (d : Coord) → d.x ≡ first.x → d.y ≡ first.y → first.z ≤ d.z
@@ -203,10 +203,10 @@ module _ (a b : Flood) (first : Coord) (count bits taken : ℕ) (r : b.remaining
       by false t e k = refl
       by true false e k = refl
       by true true e k =
-          let p = parts_of first count bits d k in
-          let s = taken_bit d p.0 p.1 p.2 p.3 in
-          let v = void (d.z - first.z) in
-          let q : (bit bits (d.z - first.z) && is_full a.remaining d) ≡ true = (λ i. p.4 i && e i) in
+          let parts = parts_of first count bits d k in
+          let bit_taken = taken_bit d parts.0 parts.1 parts.2 parts.3 in
+          let void_here = void (d.z - first.z) in
+          let both_hold : (bit bits (d.z - first.z) && is_full a.remaining d) ≡ true = (λ i. parts.4 i && e i) in
           cc
 
   row_parts : (d : Coord) → IsTaken a.remaining b.remaining d → (d.x ≡ first.x) × (d.y ≡ first.y) × (first.z ≤ d.z)
@@ -215,15 +215,17 @@ module _ (a b : Flood) (first : Coord) (count bits taken : ℕ) (r : b.remaining
 
   -- a voxel that was taken is among those that were asked for, and among those that were taken
   pub row_asked : (d : Coord) → IsTaken a.remaining b.remaining d → IsAmong (record { first = first; bits = bits }) d
-  row_asked d t = let p = row_parts d t in record { x = p.0; y = p.1; from = p.2; to = omega (arith, p.3); here = p.4 }
+  row_asked d t =
+      let parts_of_row = row_parts d t in
+      record { x = parts_of_row.0; y = parts_of_row.1; from = parts_of_row.2; to = omega (arith, parts_of_row.3); here = parts_of_row.4 }
 
   pub row_taken : (d : Coord) → IsTaken a.remaining b.remaining d → IsAmong (record { first = first; bits = taken }) d
-  row_taken d t = let p = row_parts d t in record { x = p.0; y = p.1; from = p.2; to = omega (arith, p.3); here = taken_bit d p.0 p.1 p.2 p.3 ∙ (λ i. p.4 i && t.before i) }
+  row_taken d t = let parts_of_row = row_parts d t in record { x = parts_of_row.0; y = parts_of_row.1; from = parts_of_row.2; to = omega (arith, parts_of_row.3); here = taken_bit d parts_of_row.0 parts_of_row.1 parts_of_row.2 parts_of_row.3 ∙ (λ i. parts_of_row.4 i && t.before i) }
 
   pub row_was : taken < 2 ^ count → (d : Coord) → IsAmong (record { first = first; bits = taken }) d
       → IsTaken a.remaining b.remaining d
   row_was below d h =
-      let u : d.z - first.z < count = below_count taken count (d.z - first.z) below h.here in
+      let difference_below : d.z - first.z < count = below_count taken count (d.z - first.z) below h.here in
       let from = h.from in
       let below_z : d.z < first.z + count = omega arith in
       let both = both_true (bit bits (d.z - first.z)) (is_full a.remaining d) (sym (taken_bit d h.x h.y h.from below_z) ∙ h.here) in
@@ -232,11 +234,11 @@ module _ (a b : Flood) (first : Coord) (count bits taken : ℕ) (r : b.remaining
   pub row_lighter : taken < 2 ^ count → (taken ≡ 0 → ⊥) → taken < 2 ^ 64
       → full_of a.remaining.resolution b.remaining + 1 ≤ full_of a.remaining.resolution a.remaining
   row_lighter below some fits =
-      let z = bit_at-trailing_zeros w64 taken (positive taken some) fits in
-      let here : bit taken (trailing_zeros w64 taken) ≡ true = ap (λ d. d == 1) z.1 in
+      let lowest_bit = bit_at-trailing_zeros w64 taken (positive taken some) fits in
+      let here : bit taken (trailing_zeros w64 taken) ≡ true = ap (λ d. d == 1) lowest_bit.1 in
       let back : first.z + trailing_zeros w64 taken - first.z ≡ trailing_zeros w64 taken = omega arith in
-      let t = row_was below (at first (first.z + trailing_zeros w64 taken)) (record { x = refl; y = refl; from = omega arith; to = (let l = z.0 in omega arith); here = ap (bit taken) back ∙ here }) in
-      full_of-less a.remaining.resolution a.remaining b.remaining (at first (first.z + trailing_zeros w64 taken)) (full_within a.remaining (at first (first.z + trailing_zeros w64 taken)) t.before) t.before t.after fewer_in_row
+      let row_was_here = row_was below (at first (first.z + trailing_zeros w64 taken)) (record { x = refl; y = refl; from = omega arith; to = (let l = lowest_bit.0 in omega arith); here = ap (bit taken) back ∙ here }) in
+      full_of-less a.remaining.resolution a.remaining b.remaining (at first (first.z + trailing_zeros w64 taken)) (full_within a.remaining (at first (first.z + trailing_zeros w64 taken)) row_was_here.before) row_was_here.before row_was_here.after fewer_in_row
     where
       positive : (n : ℕ) → (n ≡ 0 → ⊥) → 0 < n
       positive zero h = absurd (h refl)
@@ -281,7 +283,7 @@ takes_then near a b c h k = record {
   kept = λ d m. k.kept d (h.kept d m);
   found = λ d m. of d (k.found d m);
   starts = λ s m. start s (k.starts s m);
-  weighs = (let x = k.weighs in let weighs = h.weighs in omega arith);
+  weighs = (let its_weighs = k.weighs in let weighs = h.weighs in omega arith);
 }
   where
     taken : (d : Coord) → IsTaken a.remaining c.remaining d → (f : Bool) → is_full b.remaining d ≡ f
@@ -338,9 +340,9 @@ pub gone_outside : (m : Matrix) (first : Coord) (bits r : ℕ) → r ≡ m.resol
 gone_outside m first bits r e o d h = void_by m d (λ i. by i o)
   where
     by : IsInSpace m.resolution d → ((r ≤ first.x) ⊎ ((r ≤ first.y) ⊎ (r ≤ first.z))) → ⊥
-    by i (inl l) = let x = h.x in let k = i.x in omega arith
-    by i (inr (inl l)) = let y = h.y in let k = i.y in omega arith
-    by i (inr (inr l)) = let from = h.from in let k = i.z in omega arith
+    by i (inl l) = let along_x = h.x in let i_along_x = i.x in omega arith
+    by i (inr (inl l)) = let along_y = h.y in let i_along_y = i.y in omega arith
+    by i (inr (inr l)) = let from = h.from in let along_z = i.z in omega arith
 
 -- of a stretch nothing is there after its row was taken
 pub gone_row : (a b : Flood) (first : Coord) (count bits taken : ℕ) (r : b.remaining.resolution ≡ a.remaining.resolution) (few : count ≤ 64)
@@ -351,7 +353,7 @@ gone_row a b first count bits taken r few was left size d h = by (cases_lt d.z (
   where
     by : ((d.z < first.z + count) ⊎ (first.z + count ≤ d.z)) → is_full b.remaining d ≡ false
     by (inl l) = row_gone a b first count bits taken r few was left d h.x h.y h.from l h.here
-    by (inr l) = void_by b.remaining d (λ i. let k = i.z in let t = h.to in let from = h.from in absurd (omega arith))
+    by (inr l) = void_by b.remaining d (λ i. let along_z = i.z in let up_to = h.to in let from = h.from in absurd (omega arith))
 
 -- ---- around a stretch
 

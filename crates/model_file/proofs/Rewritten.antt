@@ -181,9 +181,9 @@ wide_again high low bytes m hh hl bound h = by (nat_le 251 r && nat_le r 400) re
     by false f runs e k = cc
     by true f (Err g) e k = cc
     by true f (Ok ns) e k =
-        let l = between_by_tests (high * 256 + low) 251 400 f in
+        let between = between_by_tests (high * 256 + low) 251 400 f in
         ap written (sym (same_value (record { resolution = high * 256 + low; voxels = voxels_of false ns }) m k))
-        ∙ whole ns l.0 (said (volume (high * 256 + low)) bytes 0 0 ns bound e) (λ none. no_runs (some l.0) (e ∙ ap Ok none))
+        ∙ whole ns between.0 (said (volume (high * 256 + low)) bytes 0 0 ns bound e) (λ none. no_runs (some between.0) (e ∙ ap Ok none))
       where
         some : 251 ≤ high * 256 + low → 0 < volume (high * 256 + low)
         some l = let one : 0 < high * 256 + low = omega arith in mul-pos (mul-pos one one) one
@@ -224,7 +224,7 @@ said_voxels r bytes = map (voxel_bit bytes) (numbers_below (volume r))
 
 voxel_said : (r : ℕ) (bytes : List ℕ) (p : ℕ) → p < volume r → get_or (said_voxels r bytes) p false ≡ voxel_bit bytes p
 voxel_said r bytes p l =
-    get_or-map (voxel_bit bytes) (numbers_below (volume r)) p 0 false (let e = length-numbers (volume r) 0 in omega arith)
+    get_or-map (voxel_bit bytes) (numbers_below (volume r)) p 0 false (let numbers_length = length-numbers (volume r) 0 in omega arith)
     ∙ ap (voxel_bit bytes) (get_or-numbers (volume r) 0 p 0 l ∙ zero-add p)
 
 no_voxel : (r : ℕ) (bytes : List ℕ) (p : ℕ) → volume r ≤ p → get_or (said_voxels r bytes) p false ≡ false
@@ -232,9 +232,9 @@ no_voxel r bytes p l = get_or_past (said_voxels r bytes) p false (let length_is 
 
 in_byte : (r : ℕ) (more : List ℕ) (k i : ℕ) → i < 8 → 8 * k + i < volume r → get_or (said_voxels r (r ∷ more)) (8 * k + i) false ≡ bit (get_or more k 0) i
 in_byte r more k i u l =
-    let q : (8 * k + i) / 8 ≡ k = omega arith in
+    let quotient_is : (8 * k + i) / 8 ≡ k = omega arith in
     let remainder_is : (8 * k + i) % 8 ≡ i = omega arith in
-    voxel_said r (r ∷ more) (8 * k + i) l ∙ ((λ j. bit (slice_index (r ∷ more) (1 + q j)) (remainder_is j)) ∙ ap (λ v. bit v i) (next k))
+    voxel_said r (r ∷ more) (8 * k + i) l ∙ ((λ j. bit (slice_index (r ∷ more) (1 + quotient_is j)) (remainder_is j)) ∙ ap (λ v. bit v i) (next k))
   where
     next : (k : ℕ) → get_or (r ∷ more) (1 + k) 0 ≡ get_or more k 0
     next k = ap (λ n. get_or (r ∷ more) n 0) (let sum_is : 1 + k ≡ suc k = omega arith in sum_is)
@@ -269,7 +269,7 @@ bytes_again r more bound e =
         → get_or (map (byte_at (said_voxels r (r ∷ more))) (numbers_below ((volume r + 7) / 8))) k 0
         ≡ get_or (cut_last (used_bits r) more) k 0
     at k l =
-        get_or-map (byte_at (said_voxels r (r ∷ more))) (numbers_below ((volume r + 7) / 8)) k 0 0 (let n = length-numbers ((volume r + 7) / 8) 0 in omega arith)
+        get_or-map (byte_at (said_voxels r (r ∷ more))) (numbers_below ((volume r + 7) / 8)) k 0 0 (let numbers_length = length-numbers ((volume r + 7) / 8) 0 in omega arith)
         ∙ (ap (byte_at (said_voxels r (r ∷ more))) (get_or-numbers ((volume r + 7) / 8) 0 k 0 l ∙ zero-add k)
         ∙ sym (byte_again r more k bound e (omega (arith, e))))
 
@@ -284,7 +284,7 @@ first_again r more m bound h = by (nat_le 1 r && nat_le r 250) (nat_lt (length (
     by true true c e f g k = cc
     by true false true e f g k = cc
     by true false false e f g k =
-        let l = between_by_tests r 1 250 e in
+        let between = between_by_tests r 1 250 e in
         let first : nat_le r 250 ≡ true = grind (arith, nat_tests) in
         let most = not_less_by_test (length (r ∷ more)) (wanted r) f in
         let least = not_less_by_test (wanted r) (length (r ∷ more)) g in

@@ -94,10 +94,10 @@ module _ (popped new : Flood) (p : Stretch) (count more : ℕ) (r : new.remainin
   wide = record { first = p.first; bits = bit_or p.bits more }
 
   or_left : (k : ℕ) → bit p.bits k ≡ true → bit (bit_or p.bits more) k ≡ true
-  or_left k h = let bit_is : bit_at p.bits k ≡ 1 = one_of (bit_at p.bits k) h in let l = bit_at-lt more k in is_one (bit_at (bit_or p.bits more) k) (bit_at_or p.bits more k ∙ omega arith)
+  or_left k h = let bit_is : bit_at p.bits k ≡ 1 = one_of (bit_at p.bits k) h in let bit_below = bit_at-lt more k in is_one (bit_at (bit_or p.bits more) k) (bit_at_or p.bits more k ∙ omega arith)
 
   or_right : (k : ℕ) → bit more k ≡ true → bit (bit_or p.bits more) k ≡ true
-  or_right k h = let bit_is : bit_at more k ≡ 1 = one_of (bit_at more k) h in let l = bit_at-lt p.bits k in is_one (bit_at (bit_or p.bits more) k) (bit_at_or p.bits more k ∙ omega arith)
+  or_right k h = let bit_is : bit_at more k ≡ 1 = one_of (bit_at more k) h in let bit_below = bit_at-lt p.bits k in is_one (bit_at (bit_or p.bits more) k) (bit_at_or p.bits more k ∙ omega arith)
 
   or_either : (k : ℕ) → bit (bit_or p.bits more) k ≡ true → (bit p.bits k ≡ true) ⊎ (bit more k ≡ true)
   or_either k h = by (bit_at p.bits k) (bit_at-lt p.bits k) refl
@@ -153,8 +153,8 @@ module _ (popped new : Flood) (p : Stretch) (count more : ℕ) (r : new.remainin
       grounded : (d : Coord) → IsTaken m new.remaining d → (b : Bool) → is_full s.remaining d ≡ b → Grounded m d
       grounded d k false e = fl.grounded d (record { before = k.before; after = e })
       grounded d k true e =
-          let t = now d e k.after in
-          reached d k.before (near_moved p popped.remaining.resolution start most fits d (full_within popped.remaining d t.before) (row_asked popped new p.first count (moved p.bits) more r few was cut d t))
+          let now_here = now d e k.after in
+          reached d k.before (near_moved p popped.remaining.resolution start most fits d (full_within popped.remaining d now_here.before) (row_asked popped new p.first count (moved p.bits) more r few was cut d now_here))
 
       was_full : (d : Coord) → IsTrue (is_full popped.remaining d) → IsTrue (is_full m d)
       was_full d t = true_by_false (is_full m d) (is_full s.remaining d) (fl.fewer d) (sym (ap (λ (l : Matrix). is_full l d) same) ∙ t)
@@ -165,8 +165,8 @@ module _ (popped new : Flood) (p : Stretch) (count more : ℕ) (r : new.remainin
       found d (inr k) = by (either d k)
         where
           by : (IsAmong p d ⊎ IsAmong (record { first = p.first; bits = more }) d) → IsTaken m new.remaining d
-          by (inl h) = let t = here d h in record { before = t.before; after = less d t.after }
-          by (inr h) = let t = row_was popped new p.first count (moved p.bits) more r few was cut below_all d h in record { before = was_full d t.before; after = t.after }
+          by (inl h) = let found_here = here d h in record { before = found_here.before; after = less d found_here.after }
+          by (inr h) = let row_was_here = row_was popped new p.first count (moved p.bits) more r few was cut below_all d h in record { before = was_full d row_was_here.before; after = row_was_here.after }
 
       looked : (a b : Coord) → IsTaken m new.remaining a → IsTrue (are_adjacent a b) → IsTrue (is_full new.remaining b)
           → (f : Bool) → is_full s.remaining a ≡ f → HasFound new a

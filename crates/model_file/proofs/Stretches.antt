@@ -87,8 +87,8 @@ from_side n k l fits h = by (cases (bit_at (n / 2 ^ 1) k) (bit_at-lt (n / 2 ^ 1)
         → ((1 ≤ k) × (bit n (k - 1) ≡ true)) ⊎ ((k + 1 < 64) × (bit n (k + 1) ≡ true))
     by (inl e) =
         let next : 1 + k ≡ k + 1 = omega arith in
-        let b : bit n (k + 1) ≡ true = is_one (bit_at n (k + 1)) (ap (bit_at n) (sym next) ∙ (sym (shifted_bit n 1 k) ∙ e)) in
-        inr (inside n (k + 1) fits b, b)
+        let bit_set : bit n (k + 1) ≡ true = is_one (bit_at n (k + 1)) (ap (bit_at n) (sym next) ∙ (sym (shifted_bit n 1 k) ∙ e)) in
+        inr (inside n (k + 1) fits bit_set, bit_set)
     by (inr e) = at k l refl
       where
         raised : bit_at (n * 2 ^ 1 % 2 ^ 64) k ≡ 1
@@ -134,9 +134,9 @@ module _ (s : Stretch) (r : ℕ) (start : IsStart MOST_R s) (most : r ≤ MOST_R
       → IsAmong (record { first = record { x = one_less s.first.x; y = s.first.y; z = s.first.z }; bits = s.bits }) d
       → IsBeside s d
   near_left d i a =
-      let l : s.first.x < MOST_R = (let within = start.within in within.x) in
-      let e = a.x in
-      let h = i.x in
+      let below_most_r : s.first.x < MOST_R = (let within = start.within in within.x) in
+      let along_x = a.x in
+      let i_along_x = i.x in
       let one : s.first.x ≡ one_less s.first.x + 1 = omega arith in
       across (one_less s.first.x) s.first.y d a (omega arith)
 
@@ -149,9 +149,9 @@ module _ (s : Stretch) (r : ℕ) (start : IsStart MOST_R s) (most : r ≤ MOST_R
       → IsAmong (record { first = record { x = s.first.x; y = one_less s.first.y; z = s.first.z }; bits = s.bits }) d
       → IsBeside s d
   near_below d i a =
-      let l : s.first.y < MOST_R = (let within = start.within in within.y) in
-      let e = a.y in
-      let h = i.y in
+      let below_most_r : s.first.y < MOST_R = (let within = start.within in within.y) in
+      let along_y = a.y in
+      let i_along_y = i.y in
       let one : s.first.y ≡ one_less s.first.y + 1 = omega arith in
       across s.first.x (one_less s.first.y) d a (omega arith)
 
@@ -161,13 +161,13 @@ module _ (s : Stretch) (r : ℕ) (start : IsStart MOST_R s) (most : r ≤ MOST_R
 
   pub near_moved : (d : Coord) → IsInSpace r d → IsAmong (record { first = s.first; bits = moved s.bits }) d
       → IsBeside s d
-  near_moved d i a = by (from_side s.bits (d.z - s.first.z) (let from = a.from in let t = a.to in omega arith) fits a.here)
+  near_moved d i a = by (from_side s.bits (d.z - s.first.z) (let from = a.from in let up_to = a.to in omega arith) fits a.here)
     where
       by : ((1 ≤ d.z - s.first.z) × (bit s.bits (d.z - s.first.z - 1) ≡ true))
           ⊎ ((d.z - s.first.z + 1 < 64) × (bit s.bits (d.z - s.first.z + 1) ≡ true)) → IsBeside s d
       by (inl h) =
           let from = a.from in
-          let t = a.to in
+          let up_to = a.to in
           let l = h.0 in
           let difference_is : d.z - s.first.z - 1 ≡ d.z - 1 - s.first.z = omega arith in
           along (d.z - 1) d a.x a.y (omega arith) (omega arith) (ap (bit s.bits) (sym difference_is) ∙ h.1) (omega arith)
@@ -182,20 +182,20 @@ module _ (s : Stretch) (r : ℕ) (start : IsStart MOST_R s) (most : r ≤ MOST_R
       → IsBeside s d
   near_after d i a =
       let from = a.from in
-      let k : ℕ = d.z - (s.first.z + 64) in
-      let b : bit s.bits (63 + (d.z - (s.first.z + 64))) ≡ true = is_one (bit_at s.bits (63 + (d.z - (s.first.z + 64)))) (sym (shifted_bit s.bits 63 (d.z - (s.first.z + 64))) ∙ one_of (bit_at (s.bits / 2 ^ 63) (d.z - (s.first.z + 64))) a.here) in
-      let z_below_64 : 63 + (d.z - (s.first.z + 64)) < 64 = inside s.bits (63 + (d.z - (s.first.z + 64))) fits b in
+      let difference : ℕ = d.z - (s.first.z + 64) in
+      let bit_set : bit s.bits (63 + (d.z - (s.first.z + 64))) ≡ true = is_one (bit_at s.bits (63 + (d.z - (s.first.z + 64)))) (sym (shifted_bit s.bits 63 (d.z - (s.first.z + 64))) ∙ one_of (bit_at (s.bits / 2 ^ 63) (d.z - (s.first.z + 64))) a.here) in
+      let z_below_64 : 63 + (d.z - (s.first.z + 64)) < 64 = inside s.bits (63 + (d.z - (s.first.z + 64))) fits bit_set in
       let sum_is : 63 + (d.z - (s.first.z + 64)) ≡ s.first.z + 63 - s.first.z = omega arith in
-      along (s.first.z + 63) d a.x a.y (omega arith) (omega arith) (ap (bit s.bits) (sym sum_is) ∙ b) (omega arith)
+      along (s.first.z + 63) d a.x a.y (omega arith) (omega arith) (ap (bit s.bits) (sym sum_is) ∙ bit_set) (omega arith)
 
   pub near_before : (d : Coord) → IsInSpace r d
       → IsAmong (record { first = record { x = s.first.x; y = s.first.y; z = word_less s.first.z }; bits = s.bits * 2 ^ 63 % 2 ^ 64 }) d
       → IsBeside s d
   near_before d i a =
       let from = a.from in
-      let t = a.to in
-      let h = i.z in
-      let l : s.first.z < MOST_R = (let within = start.within in within.z) in
+      let up_to = a.to in
+      let along_z = i.z in
+      let below_most_r : s.first.z < MOST_R = (let within = start.within in within.z) in
       let z_is : s.first.z ≡ word_less s.first.z + 64 = omega arith in
       by (cases_lt (d.z - word_less s.first.z) 63) (omega arith) z_is
     where
@@ -208,8 +208,8 @@ module _ (s : Stretch) (r : ℕ) (start : IsStart MOST_R s) (most : r ≤ MOST_R
       by (inr l) u w =
           let from = a.from in
           let difference_is : d.z - word_less s.first.z - 63 ≡ s.first.z - s.first.z = omega arith in
-          let b : bit s.bits (s.first.z - s.first.z) ≡ true = is_one (bit_at s.bits (s.first.z - s.first.z)) (ap (bit_at s.bits) (sym difference_is) ∙ (sym (raised_bit s.bits 63 (d.z - word_less s.first.z) l u) ∙ one_of (bit_at (s.bits * 2 ^ 63 % 2 ^ 64) (d.z - word_less s.first.z)) a.here)) in
-          along s.first.z d a.x a.y (omega arith) (omega arith) b (omega arith)
+          let bit_set : bit s.bits (s.first.z - s.first.z) ≡ true = is_one (bit_at s.bits (s.first.z - s.first.z)) (ap (bit_at s.bits) (sym difference_is) ∙ (sym (raised_bit s.bits 63 (d.z - word_less s.first.z) l u) ∙ one_of (bit_at (s.bits * 2 ^ 63 % 2 ^ 64) (d.z - word_less s.first.z)) a.here)) in
+          along s.first.z d a.x a.y (omega arith) (omega arith) bit_set (omega arith)
 
   -- what holds of all seven stretches holds of each coordinate that is beside
   pub of_seven : (P : Coord → Type 0) →
@@ -231,30 +231,30 @@ module _ (s : Stretch) (r : ℕ) (start : IsStart MOST_R s) (most : r ≤ MOST_R
 
       by : Side h.one d → P d
       by (right x y z) = (let among = h.among in p1 d (record { x = x ∙ ap (λ v. v + 1) among.x; y = y ∙ among.y; from = subst (λ (v : ℕ). s.first.z ≤ v) (sym z) among.from; to = subst (λ (v : ℕ). v < s.first.z + 64) (sym z) among.to; here = ap (λ v. bit s.bits (v - s.first.z)) z ∙ among.here }))
-      by (left x y z) = (let among = h.among in let e = among.x in let l = w.x in p2 d (record { x = omega arith; y = y ∙ among.y; from = subst (λ (v : ℕ). s.first.z ≤ v) (sym z) among.from; to = subst (λ (v : ℕ). v < s.first.z + 64) (sym z) among.to; here = ap (λ v. bit s.bits (v - s.first.z)) z ∙ among.here }))
+      by (left x y z) = (let among = h.among in let among_along_x = among.x in let along_x = w.x in p2 d (record { x = omega arith; y = y ∙ among.y; from = subst (λ (v : ℕ). s.first.z ≤ v) (sym z) among.from; to = subst (λ (v : ℕ). v < s.first.z + 64) (sym z) among.to; here = ap (λ v. bit s.bits (v - s.first.z)) z ∙ among.here }))
       by (above x y z) = (let among = h.among in p3 d (record { x = x ∙ among.x; y = y ∙ ap (λ v. v + 1) among.y; from = subst (λ (v : ℕ). s.first.z ≤ v) (sym z) among.from; to = subst (λ (v : ℕ). v < s.first.z + 64) (sym z) among.to; here = ap (λ v. bit s.bits (v - s.first.z)) z ∙ among.here }))
-      by (below x y z) = (let among = h.among in let e = among.y in let l = w.y in p4 d (record { x = x ∙ among.x; y = omega arith; from = subst (λ (v : ℕ). s.first.z ≤ v) (sym z) among.from; to = subst (λ (v : ℕ). v < s.first.z + 64) (sym z) among.to; here = ap (λ v. bit s.bits (v - s.first.z)) z ∙ among.here }))
+      by (below x y z) = (let among = h.among in let among_along_y = among.y in let along_y = w.y in p4 d (record { x = x ∙ among.x; y = omega arith; from = subst (λ (v : ℕ). s.first.z ≤ v) (sym z) among.from; to = subst (λ (v : ℕ). v < s.first.z + 64) (sym z) among.to; here = ap (λ v. bit s.bits (v - s.first.z)) z ∙ among.here }))
       by (ahead x y z) = next x y z (cases_lt (h.one.z - s.first.z + 1) 64)
         where
           next : d.x ≡ h.one.x → d.y ≡ h.one.y → d.z ≡ h.one.z + 1
               → ((h.one.z - s.first.z + 1 < 64) ⊎ (64 ≤ h.one.z - s.first.z + 1)) → P d
           next x y z (inl l) =
               let among = h.among in
-              let f = among.from in
+              let among_from = among.from in
               let difference_is : d.z - s.first.z ≡ h.one.z - s.first.z + 1 = omega arith in
               p5 d (record { x = x ∙ among.x; y = y ∙ among.y; from = omega arith; to = omega arith; here = ap (bit (moved s.bits)) difference_is ∙ up s.bits (h.one.z - s.first.z) l among.here })
           next x y z (inr l) =
               let among = h.among in
-              let f = among.from in
-              let t = among.to in
-              let k : h.one.z - s.first.z ≡ 63 + 0 = omega arith in
+              let among_from = among.from in
+              let among_to = among.to in
+              let difference_is_here : h.one.z - s.first.z ≡ 63 + 0 = omega arith in
               let difference_is : d.z - (s.first.z + 64) ≡ 0 = omega arith in
               p6 d (record {
                 x = x ∙ among.x;
                 y = y ∙ among.y;
                 from = omega arith;
                 to = omega arith;
-                here = ap (bit (s.bits / 2 ^ 63)) difference_is ∙ is_one (bit_at (s.bits / 2 ^ 63) 0) (shifted_bit s.bits 63 0 ∙ (ap (bit_at s.bits) (sym k) ∙ one_of (bit_at s.bits (h.one.z - s.first.z)) among.here));
+                here = ap (bit (s.bits / 2 ^ 63)) difference_is ∙ is_one (bit_at (s.bits / 2 ^ 63) 0) (shifted_bit s.bits 63 0 ∙ (ap (bit_at s.bits) (sym difference_is_here) ∙ one_of (bit_at s.bits (h.one.z - s.first.z)) among.here));
               })
       by (behind x y z) = last x y z (cases_lt 0 (h.one.z - s.first.z))
         where
@@ -262,15 +262,15 @@ module _ (s : Stretch) (r : ℕ) (start : IsStart MOST_R s) (most : r ≤ MOST_R
               → ((0 < h.one.z - s.first.z) ⊎ (h.one.z - s.first.z ≤ 0)) → P d
           last x y z (inl l) =
               let among = h.among in
-              let t = among.to in
+              let among_to = among.to in
               let difference_is : h.one.z - s.first.z ≡ d.z - s.first.z + 1 = omega arith in
               p5 d (record { x = x ∙ among.x; y = y ∙ among.y; from = omega arith; to = omega arith; here = down s.bits (d.z - s.first.z) (ap (bit s.bits) (sym difference_is) ∙ among.here) })
           last x y z (inr l) =
               let among = h.among in
-              let f = among.from in
+              let among_from = among.from in
               let each = start.each in
-              let u = w.z in
-              let k : h.one.z - s.first.z ≡ 63 - 63 = omega arith in
+              let along_z = w.z in
+              let same_difference : h.one.z - s.first.z ≡ 63 - 63 = omega arith in
               let less : s.first.z ≡ word_less s.first.z + 64 = omega arith in
               let difference_is : d.z - word_less s.first.z ≡ 63 = omega arith in
               p7 d (record {
@@ -278,5 +278,5 @@ module _ (s : Stretch) (r : ℕ) (start : IsStart MOST_R s) (most : r ≤ MOST_R
                 y = y ∙ among.y;
                 from = omega arith;
                 to = omega arith;
-                here = ap (bit (s.bits * 2 ^ 63 % 2 ^ 64)) difference_is ∙ is_one (bit_at (s.bits * 2 ^ 63 % 2 ^ 64) 63) (raised_bit s.bits 63 63 (omega arith) (omega arith) ∙ (ap (bit_at s.bits) (sym k) ∙ one_of (bit_at s.bits (h.one.z - s.first.z)) among.here));
+                here = ap (bit (s.bits * 2 ^ 63 % 2 ^ 64)) difference_is ∙ is_one (bit_at (s.bits * 2 ^ 63 % 2 ^ 64) 63) (raised_bit s.bits 63 63 (omega arith) (omega arith) ∙ (ap (bit_at s.bits) (sym same_difference) ∙ one_of (bit_at s.bits (h.one.z - s.first.z)) among.here));
               })

@@ -85,7 +85,7 @@ module _ (number : ℕ) (tower : Tower) (r x y : ℕ) (x_low : 1 ≤ x) (x_high 
 
     changes : (z : ℕ) → 1 ≤ z → z + 1 < r → put_at (row_place r x y + z) ≡ full_inside z
     changes z l m =
-        let p : ℕ = row_place r x y + z in
+        let sum : ℕ = row_place r x y + z in
         let one : is_from from (length heights) (row_place r x y + z) ≡ true = one_of_these from (length heights) (row_place r x y + z) (omega arith) (omega arith) in
         let line : (row_place r x y + z + 1 == from + tower.z) ≡ (z == tower.z) = same_test (row_place r x y + z + 1) z (from + tower.z) tower.z (omega arith) in
         let index : row_place r x y + z - from ≡ z - 1 = omega arith in

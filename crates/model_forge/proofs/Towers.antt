@@ -118,9 +118,9 @@ module _ (number r : ℕ) where
   pub line_is : (found : Tower) → highest number r found [] ≡ highest number r none (columns r) → 0 < found.height
       → found.z ≡ line_of_tallest number r
   line_is found e l =
-      let t = tallest_of none (columns r) in
+      let is_tallest = tallest_of none (columns r) in
       let high : 0 < (highest number r none (columns r)).height = subst (λ (f : Tower). 0 < f.height) e l in
-      ap (λ (f : Tower). f.z) e ∙ (t.newer high ∙ ap (λ n. line n (columns r)) (t.height_is ∙ omega arith))
+      ap (λ (f : Tower). f.z) e ∙ (is_tallest.newer high ∙ ap (λ n. line n (columns r)) (is_tallest.height_is ∙ omega arith))
 
 -- ---- one column beside the tower
 

@@ -66,7 +66,7 @@ in_flat f x y (z ∷ xs) (inr h) k = in_right y (f z) (flat_map f xs) (in_flat f
 contained : {A : Type 0} (x : A) (xs : List A) → In x xs → Contains xs x
 contained x [] h = absurd h
 contained x (z ∷ xs) (inl e) = (0, omega arith, e)
-contained x (z ∷ xs) (inr h) = let c : Contains xs x = contained x xs h in (suc c.0, omega (arith, c.1), c.2)
+contained x (z ∷ xs) (inr h) = let contains : Contains xs x = contained x xs h in (suc contains.0, omega (arith, contains.1), contains.2)
 
 -- ---- numbers
 
@@ -300,16 +300,16 @@ two_read : (d e : Diff) → IsSmall d → IsSmall e
     → Contains (readings (difference_parts ++ difference_parts ++ Blanks ∷ []) (spaced d ++ spaced e))
     (d.dx ∷ d.dy ∷ d.dz ∷ e.dx ∷ e.dy ∷ e.dz ∷ [])
 two_read d e s t =
-    let h : In (e.dx ∷ e.dy ∷ e.dz ∷ []) (readings (difference_parts ++ Blanks ∷ []) (spaced e ++ [])) = reads_difference (Blanks ∷ []) e [] [] t (inl refl) in
-    let member : In (e.dx ∷ e.dy ∷ e.dz ∷ []) (readings (difference_parts ++ Blanks ∷ []) (spaced e)) = subst (λ (u : List ℕ). In (e.dx ∷ e.dy ∷ e.dz ∷ []) (readings (difference_parts ++ Blanks ∷ []) u)) (append_none (spaced e)) h in
+    let is_in : In (e.dx ∷ e.dy ∷ e.dz ∷ []) (readings (difference_parts ++ Blanks ∷ []) (spaced e ++ [])) = reads_difference (Blanks ∷ []) e [] [] t (inl refl) in
+    let member : In (e.dx ∷ e.dy ∷ e.dz ∷ []) (readings (difference_parts ++ Blanks ∷ []) (spaced e)) = subst (λ (u : List ℕ). In (e.dx ∷ e.dy ∷ e.dz ∷ []) (readings (difference_parts ++ Blanks ∷ []) u)) (append_none (spaced e)) is_in in
     contained (d.dx ∷ d.dy ∷ d.dz ∷ e.dx ∷ e.dy ∷ e.dz ∷ []) (readings (difference_parts ++ difference_parts ++ Blanks ∷ []) (spaced d ++ spaced e)) (reads_difference (difference_parts ++ Blanks ∷ []) d (spaced e) (e.dx ∷ e.dy ∷ e.dz ∷ []) s member)
 
 number_too : (d : Diff) (m : ℕ) → IsSmall d → m < 256
     → Contains (readings (difference_parts ++ Blanks ∷ Number ∷ Blanks ∷ []) ((spaced d ++ 32 ∷ []) ++ decimal m))
     (d.dx ∷ d.dy ∷ d.dz ∷ pos m ∷ [])
 number_too d m s l =
-    let h : In (pos m ∷ []) (readings (Number ∷ Blanks ∷ []) (decimal m ++ [])) = reads_number (Blanks ∷ []) (pos m) [] [] l (inl refl) in
-    let member : In (pos m ∷ []) (readings (Number ∷ Blanks ∷ []) (decimal m)) = subst (λ (u : List ℕ). In (pos m ∷ []) (readings (Number ∷ Blanks ∷ []) u)) (append_none (decimal m)) h in
+    let is_in : In (pos m ∷ []) (readings (Number ∷ Blanks ∷ []) (decimal m ++ [])) = reads_number (Blanks ∷ []) (pos m) [] [] l (inl refl) in
+    let member : In (pos m ∷ []) (readings (Number ∷ Blanks ∷ []) (decimal m)) = subst (λ (u : List ℕ). In (pos m ∷ []) (readings (Number ∷ Blanks ∷ []) u)) (append_none (decimal m)) is_in in
     let spaced_too : In (pos m ∷ []) (readings (Blanks ∷ Number ∷ Blanks ∷ []) (32 ∷ decimal m)) = reads_space (Number ∷ Blanks ∷ []) (decimal m) (pos m ∷ []) (reads_here (Number ∷ Blanks ∷ []) (decimal m) (pos m ∷ []) member) in
     let all : In (d.dx ∷ d.dy ∷ d.dz ∷ pos m ∷ []) (readings (difference_parts ++ Blanks ∷ Number ∷ Blanks ∷ []) (spaced d ++ (32 ∷ decimal m))) = reads_difference (Blanks ∷ Number ∷ Blanks ∷ []) d (32 ∷ decimal m) (pos m ∷ []) s spaced_too in
     contained (d.dx ∷ d.dy ∷ d.dz ∷ pos m ∷ []) (readings (difference_parts ++ Blanks ∷ Number ∷ Blanks ∷ []) ((spaced d ++ 32 ∷ []) ++ decimal m))
@@ -326,9 +326,9 @@ says_printed (SMove d) h =
     let small : IsSmall d = long_small d h in
     says (printed (SMove d)) (SMove d) (plain_append (codes "SMove") (spaced d) refl (plain_spaced d small)) refl (_, d.dx ∷ d.dy ∷ d.dz ∷ [], refl, one_read d small, refl, h)
 says_printed (LMove d e) h =
-    let s : IsSmall d = short_small d (first_of_two (is_short d) (is_short e) h) in
+    let is_small : IsSmall d = short_small d (first_of_two (is_short d) (is_short e) h) in
     let small : IsSmall e = short_small e (second_of_two (is_short d) (is_short e) h) in
-    says (printed (LMove d e)) (LMove d e) (plain_append (codes "LMove" ++ spaced d) (spaced e) (plain_append (codes "LMove") (spaced d) refl (plain_spaced d s)) (plain_spaced e small)) refl (_, d.dx ∷ d.dy ∷ d.dz ∷ e.dx ∷ e.dy ∷ e.dz ∷ [], refl, two_read d e s small, refl, h)
+    says (printed (LMove d e)) (LMove d e) (plain_append (codes "LMove" ++ spaced d) (spaced e) (plain_append (codes "LMove") (spaced d) refl (plain_spaced d is_small)) (plain_spaced e small)) refl (_, d.dx ∷ d.dy ∷ d.dz ∷ e.dx ∷ e.dy ∷ e.dz ∷ [], refl, two_read d e is_small small, refl, h)
 says_printed (FusionP d) h =
     let small : IsSmall d = near_small d h in
     says (printed (FusionP d)) (FusionP d) (plain_append (codes "FusionP") (spaced d) refl (plain_spaced d small)) refl (_, d.dx ∷ d.dy ∷ d.dz ∷ [], refl, one_read d small, refl, h)
@@ -347,13 +347,13 @@ says_printed (Void d) h =
     let small : IsSmall d = near_small d h in
     says (printed (Void d)) (Void d) (plain_append (codes "Void") (spaced d) refl (plain_spaced d small)) refl (_, d.dx ∷ d.dy ∷ d.dz ∷ [], refl, one_read d small, refl, h)
 says_printed (GFill d f) h =
-    let s : IsSmall d = near_small d (first_of_two (is_near d) (is_far f) h) in
+    let is_small : IsSmall d = near_small d (first_of_two (is_near d) (is_far f) h) in
     let small : IsSmall f = far_small f (second_of_two (is_near d) (is_far f) h) in
-    says (printed (GFill d f)) (GFill d f) (plain_append (codes "GFill" ++ spaced d) (spaced f) (plain_append (codes "GFill") (spaced d) refl (plain_spaced d s)) (plain_spaced f small)) refl (_, d.dx ∷ d.dy ∷ d.dz ∷ f.dx ∷ f.dy ∷ f.dz ∷ [], refl, two_read d f s small, refl, h)
+    says (printed (GFill d f)) (GFill d f) (plain_append (codes "GFill" ++ spaced d) (spaced f) (plain_append (codes "GFill") (spaced d) refl (plain_spaced d is_small)) (plain_spaced f small)) refl (_, d.dx ∷ d.dy ∷ d.dz ∷ f.dx ∷ f.dy ∷ f.dz ∷ [], refl, two_read d f is_small small, refl, h)
 says_printed (GVoid d f) h =
-    let s : IsSmall d = near_small d (first_of_two (is_near d) (is_far f) h) in
+    let is_small : IsSmall d = near_small d (first_of_two (is_near d) (is_far f) h) in
     let small : IsSmall f = far_small f (second_of_two (is_near d) (is_far f) h) in
-    says (printed (GVoid d f)) (GVoid d f) (plain_append (codes "GVoid" ++ spaced d) (spaced f) (plain_append (codes "GVoid") (spaced d) refl (plain_spaced d s)) (plain_spaced f small)) refl (_, d.dx ∷ d.dy ∷ d.dz ∷ f.dx ∷ f.dy ∷ f.dz ∷ [], refl, two_read d f s small, refl, h)
+    says (printed (GVoid d f)) (GVoid d f) (plain_append (codes "GVoid" ++ spaced d) (spaced f) (plain_append (codes "GVoid") (spaced d) refl (plain_spaced d is_small)) (plain_spaced f small)) refl (_, d.dx ∷ d.dy ∷ d.dz ∷ f.dx ∷ f.dy ∷ f.dz ∷ [], refl, two_read d f is_small small, refl, h)
 
 plain_printed : (c : Command) → IsCommand c → Plain (printed c)
 plain_printed Halt h = refl

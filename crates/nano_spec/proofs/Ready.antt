@@ -13,7 +13,7 @@ pub well_formed : (s : State) → IsReady s → (s.harmonics ≡ Low → FirstUn
     → All (λ a. IsFalse (is_full s.matrix a.pos)) s.bots → IsWellFormed s
 well_formed s h grounded void = record {
   grounded = grounded;
-  bids = λ i j d k l e. let r : (get_or s.bots i d).bid < (get_or s.bots j d).bid = h.rising i j d k l in omega arith;
+  bids = λ i j d k l e. let below_bid : (get_or s.bots i d).bid < (get_or s.bots j d).bid = h.rising i j d k l in omega arith;
   positions = h.positions;
   void = void;
   seeds = h.seeds;

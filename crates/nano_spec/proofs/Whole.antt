@@ -42,10 +42,10 @@ first_whole r bytes m h = by (nat_le 1 r && nat_le r 250) (nat_lt (length bytes)
     by true true c e k = cc
     by true false true e k = cc
     by true false false e k =
-        let l = between_by_tests r 1 250 e in
+        let between = between_by_tests r 1 250 e in
         subst (λ (n : Matrix). IsWhole n) (is_ok k) (record {
-          some = l.0;
-          most = omega (arith, l.1);
+          some = between.0;
+          most = omega (arith, between.1);
           whole = length-map (numbers_below (volume r)) (voxel_bit bytes) ∙ numbers_length 0 (volume r);
         })
 
@@ -60,9 +60,9 @@ unfolding sum_of
 voxels_length value [] = refl
 voxels_length value (run ∷ runs) =
     let same_length : length (replicate run value ++ voxels_of (not value) runs) ≡ length (replicate run value) + length (voxels_of (not value) runs) = length-append (replicate run value) (voxels_of (not value) runs) in
-    let f : length (replicate run value) ≡ run = length-replicate run value in
+    let replicate_length : length (replicate run value) ≡ run = length-replicate run value in
     let length_is : length (voxels_of (not value) runs) ≡ sum_of runs = voxels_length (not value) runs in
-    same_length ∙ (λ i. f i + length_is i)
+    same_length ∙ (λ i. replicate_length i + length_is i)
 
 within : (total index sum run : ℕ) → is_no_run total index sum run ≡ false → sum + run ≤ total
 within total index sum run h = grind (arith, nat_tests)
@@ -98,9 +98,9 @@ runs_sum (a ∷ b ∷ c ∷ d ∷ more) total index sum runs l h =
     by true true e rest later k = cc
     by true false e (Err w) later k = cc
     by true false e (Ok ns) later k =
-        let n = number_of_four a b c d in
-        let s : (sum + n) + sum_of ns ≡ total = later ns (within total index sum n e) refl in
-        ap (λ ks. sum + sum_of ks) (sym (is_ok k)) ∙ (let sum_is : sum + (n + sum_of ns) ≡ total = omega arith in sum_is)
+        let number_of_word = number_of_four a b c d in
+        let later_on : (sum + number_of_word) + sum_of ns ≡ total = later ns (within total index sum number_of_word e) refl in
+        ap (λ ks. sum + sum_of ks) (sym (is_ok k)) ∙ (let sum_is : sum + (number_of_word + sum_of ns) ≡ total = omega arith in sum_is)
 
 wide_whole : (r : ℕ) (bytes : List ℕ) (m : Matrix) → wide_model r bytes ≡ Ok m → IsWhole m
 unfolding sum_of
@@ -113,10 +113,10 @@ wide_whole r bytes m h = by (nat_le 251 r && nat_le r 400) (runs_in (volume r) 0
     by false runs e f k = cc
     by true (Err w) e f k = cc
     by true (Ok runs) e f k =
-        let s : 0 + sum_of runs ≡ volume r = runs_sum bytes (volume r) 0 0 runs (omega arith) f in
+        let runs_sum_here : 0 + sum_of runs ≡ volume r = runs_sum bytes (volume r) 0 0 runs (omega arith) f in
         let length_is : length (voxels_of false runs) ≡ sum_of runs = voxels_length false runs in
-        let l = between_by_tests r 251 400 e in
-        subst (λ (n : Matrix). IsWhole n) (is_ok k) (record { some = omega (arith, l.0); most = l.1; whole = length_is ∙ (let sum_is : sum_of runs ≡ volume r = omega arith in sum_is) })
+        let between = between_by_tests r 251 400 e in
+        subst (λ (n : Matrix). IsWhole n) (is_ok k) (record { some = omega (arith, between.0); most = between.1; whole = length_is ∙ (let sum_is : sum_of runs ≡ volume r = omega arith in sum_is) })
 
 form_whole : (bytes : List ℕ) (m : Matrix) → wide_form bytes ≡ Ok m → IsWhole m
 form_whole [] m h = cc

@@ -70,7 +70,7 @@ of_run : (profile : Profile) (source target : Matrix) (commands : List Command)
     → IsRowAnswered ⊤ (OfRun profile source target commands)
 of_run profile source target commands = record {
   one = λ laws files r s h k. verdict_told files h.0 r h.2 ∙ (ap (λ (v : Verdict). verdict_reply files v) (laws.verdicts source target commands profile h.0 k.0 h.1 k.1) ∙ sym (verdict_told files k.0 s k.2));
-  some = λ laws there files. let v = verdict_of source target commands profile in (verdict_reply files v.0, (v.0, v.1, tells_verdict files v.0 (verdict_reply files v.0) refl));
+  some = λ laws there files. let the_verdict = verdict_of source target commands profile in (verdict_reply files the_verdict.0, (the_verdict.0, the_verdict.1, tells_verdict files the_verdict.0 (verdict_reply files the_verdict.0) refl));
 }
 
 pub run_answered : (profile : Profile) (source target : Option (List ℕ)) (trace : List ℕ)

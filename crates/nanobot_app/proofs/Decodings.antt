@@ -31,17 +31,17 @@ begins : (bytes : List ℕ) → Begins bytes ⊎ (Begins bytes → ⊥)
 begins bytes = by (decoded bytes) refl
   where
     none : decoded bytes ≡ None → Begins bytes → ⊥
-    none e b = let f = sym (ap decoded b.3 ∙ decoded-spelling b.0 b.1 b.2) ∙ e in cc
+    none e b = let decoded_is = sym (ap decoded b.3 ∙ decoded-spelling b.0 b.1 b.2) ∙ e in cc
 
     same : (g : Got) → decoded bytes ≡ Some g → (b : Begins bytes) → g ≡ (b.0, b.1)
     same g e b = same_got g (b.0, b.1) (sym e ∙ (ap decoded b.3 ∙ decoded-spelling b.0 b.1 b.2))
 
     no_command : (g : Got) → decoded bytes ≡ Some g → is_command g.0 ≡ false → Begins bytes → ⊥
-    no_command g e c b = let f : false ≡ true = sym c ∙ (ap (λ (x : Got). is_command x.0) (same g e b) ∙ b.2) in cc
+    no_command g e c b = let false_is_true : false ≡ true = sym c ∙ (ap (λ (x : Got). is_command x.0) (same g e b) ∙ b.2) in cc
 
     no_spelling : (g : Got) → decoded bytes ≡ Some g → bytes_eq bytes (spelling g.0 ++ g.1) ≡ false → Begins bytes → ⊥
     no_spelling g e s b =
-        let f : false ≡ true = sym s ∙ (bytes_eq-Decides bytes (spelling g.0 ++ g.1)).1 (b.3 ∙ ap (λ (x : Got). spelling x.0 ++ x.1) (sym (same g e b))) in cc
+        let false_is_true : false ≡ true = sym s ∙ (bytes_eq-Decides bytes (spelling g.0 ++ g.1)).1 (b.3 ∙ ap (λ (x : Got). spelling x.0 ++ x.1) (sym (same g e b))) in cc
 
     of_tests : (g : Got) → decoded bytes ≡ Some g → (c s : Bool) → is_command g.0 ≡ c
         → bytes_eq bytes (spelling g.0 ++ g.1) ≡ s → Begins bytes ⊎ (Begins bytes → ⊥)
@@ -109,34 +109,34 @@ near_byte k d few h = let low = near_code_below d h in omega (arith, low)
 
 far_are : (f : Diff) → IsFar f → AreBytes (far_bytes f)
 far_are f h =
-    let b = far_bounds f h in
-    let x = raised_small f.dx 30 b.0 in
-    let y = raised_small f.dy 30 b.1 in
-    let z = raised_small f.dz 30 b.2 in
-    (omega (arith, x), (omega (arith, y), (omega (arith, z), tt)))
+    let bounds = far_bounds f h in
+    let small_raised_x = raised_small f.dx 30 bounds.0 in
+    let small_raised_y = raised_small f.dy 30 bounds.1 in
+    let small_raised_z = raised_small f.dz 30 bounds.2 in
+    (omega (arith, small_raised_x), (omega (arith, small_raised_y), (omega (arith, small_raised_z), tt)))
 
 byte_of : (m : ℕ) → IsTrue (nat_lt m 256) → m < 256
 byte_of m h = grind (arith, nat_tests)
 
 long_are : (d : Diff) → IsLong d → AreBytes (spelling (SMove d))
 long_are d h =
-    let l = linear d (long_is d h).0 in
+    let is_linear = linear d (long_is d h).0 in
     let most = (long_is d h).1 in
-    let high = l.high in
-    let second = raised_small (component d) 15 (omega (arith, l.small, most)) in
+    let high = is_linear.high in
+    let second = raised_small (component d) 15 (omega (arith, is_linear.small, most)) in
     (omega (arith, high), (omega (arith, second), tt))
 
 short_are : (d e : Diff) → IsShort d → IsShort e → AreBytes (spelling (LMove d e))
 short_are d e h k =
-    let l = linear d (short_is d h).0 in
-    let m = linear e (short_is e k).0 in
+    let is_linear = linear d (short_is d h).0 in
+    let linear_here = linear e (short_is e k).0 in
     let one = (short_is d h).1 in
     let two = (short_is e k).1 in
-    let low = l.high in
-    let high = m.high in
-    let a = raised_small (component d) 5 (omega (arith, l.small, one)) in
-    let b = raised_small (component e) 5 (omega (arith, m.small, two)) in
-    (omega (arith, low, high), (omega (arith, a, b), tt))
+    let low = is_linear.high in
+    let high = linear_here.high in
+    let small_raised = raised_small (component d) 5 (omega (arith, is_linear.small, one)) in
+    let is_small = raised_small (component e) 5 (omega (arith, linear_here.small, two)) in
+    (omega (arith, low, high), (omega (arith, small_raised, is_small), tt))
 
 are_bytes : (c : Command) → IsCommand c → AreBytes (spelling c)
 are_bytes Halt h = (omega arith, tt)
@@ -166,7 +166,7 @@ is_spelled bytes = by (begins bytes)
     of_rest : (c : Command) (more : List ℕ) → IsCommand c → bytes ≡ spelling c ++ more
         → IsSpelled bytes ⊎ (IsSpelled bytes → ⊥)
     of_rest c [] h e = inl (c, h, e ∙ append-nil (spelling c))
-    of_rest c (m ∷ more) h e = inr (λ s. let f = (one_spelling s.0 c [] (m ∷ more) s.1 h (append-nil (spelling s.0) ∙ (sym s.2 ∙ e))).1 in cc)
+    of_rest c (m ∷ more) h e = inr (λ s. let same_spelling = (one_spelling s.0 c [] (m ∷ more) s.1 h (append-nil (spelling s.0) ∙ (sym s.2 ∙ e))).1 in cc)
 
     by : Begins bytes ⊎ (Begins bytes → ⊥) → IsSpelled bytes ⊎ (IsSpelled bytes → ⊥)
     by (inl b) = of_rest b.0 b.1 b.2 b.3
@@ -265,7 +265,7 @@ module _ (bytes : List ℕ) (c : Cut bytes) where
   size = ap length c.bytes_are ∙ length-append (spellings c.commands) c.rest
 
   some_rest : (x : ℕ) (xs : List ℕ) → c.rest ≡ x ∷ xs → c.rest ≢ []
-  some_rest x xs e f = let g = sym e ∙ f in cc
+  some_rest x xs e f = let impossible = sym e ∙ f in cc
 
   of_part : c.rest ≢ [] → BeginsSpelling c.rest ⊎ (BeginsSpelling c.rest → ⊥)
       → (d : Result (List Command) NoTrace) × Decoding bytes d
@@ -277,4 +277,4 @@ module _ (bytes : List ℕ) (c : Cut bytes) where
   of_rest (x ∷ xs) e = of_part (some_rest x xs e) (is_part c.rest (let size = ap length e in omega (arith, size)))
 
 pub decoding_of : (bytes : List ℕ) → (d : Result (List Command) NoTrace) × Decoding bytes d
-decoding_of bytes = let c = cut (length bytes) bytes (omega arith) in of_rest bytes c c.rest refl
+decoding_of bytes = let is_cut = cut (length bytes) bytes (omega arith) in of_rest bytes is_cut is_cut.rest refl

@@ -114,7 +114,7 @@ module _ (may : Type 0) {A : Type 0} where
   of_said says X one some each = record {
     fine = λ files found h. (each h.0).fine files found h.2;
     one = λ laws files a b h k. (each k.0).one laws files a b (subst (λ w. X w files a) (one laws h.0 k.0 h.1 k.1) h.2) k.2;
-    some = λ laws there files. let w = some laws there in let found = (each w.0).some laws there files in (found.0, (w.0, w.1, found.1));
+    some = λ laws there files. let some_here = some laws there in let found = (each some_here.0).some laws there files in (found.0, (some_here.0, some_here.1, found.1));
   }
 
 module _ (may : Type 0) {A B : Type 0} (X : Finding A) (p : A → Finding B) where

@@ -56,8 +56,8 @@ named_of files (Some a) target found h = tt
 pub done_models : (files : Files) (source target : Option (List ℕ)) (p : Matrix × Matrix → Answers) (reply : Reply) → reply.status ≡ is.Done → Upon (ModelsOf source target) p files reply
     → (s : Matrix) × (t : Matrix) × AreModels source target files s t × HasName source target × p (s, t) files reply
 done_models files source target p reply done h =
-    let m = done_says (ModelsOf source target) p files reply (models_once ⊥ source target (λ never. absurd never)).fine done h in
-    (m.0.0, m.0.1, models_found files source target m.0.0 m.0.1 m.1, named_of files source target (Ok m.0) m.1, m.2)
+    let what_done_says = done_says (ModelsOf source target) p files reply (models_once ⊥ source target (λ never. absurd never)).fine done h in
+    (what_done_says.0.0, what_done_says.0.1, models_found files source target what_done_says.0.0 what_done_says.0.1 what_done_says.1, named_of files source target (Ok what_done_says.0) what_done_says.1, what_done_says.2)
 
 -- a verdict that is told with status 0
 accepted : (files : Files) (v : Verdict) (reply : Reply) → reply ≡ verdict_reply files v → reply.status ≡ is.Done
@@ -72,20 +72,20 @@ module _ (files : Files) (source target : Matrix) (reply : Reply) (done : reply.
       let commands = done_says (TraceOf run_limit trace) (OfRun full_profile source target) files reply (trace_once ⊥ run_limit trace).fine done h in
       let file = trace_found run_limit files trace commands.0 commands.1 in
       let told = verdict_told files commands.2.0 reply commands.2.2 in
-      let a = accepted files commands.2.0 reply told done in (
-        a.0,
-        a.1,
-        subst (λ (o : Option (List ℕ)). IsSomeAnd o (λ bytes. TakesBytes source target bytes a.0 a.1)) (sym file.1)
-            (file.2, (commands.0, file.3, subst (λ (v : Verdict). VerdictOf source target commands.0 full_profile v) a.2 commands.2.1)),
-        told ∙ ap (λ (v : Verdict). verdict_reply files v) a.2,
+      let is_accepted = accepted files commands.2.0 reply told done in (
+        is_accepted.0,
+        is_accepted.1,
+        subst (λ (o : Option (List ℕ)). IsSomeAnd o (λ bytes. TakesBytes source target bytes is_accepted.0 is_accepted.1)) (sym file.1)
+            (file.2, (commands.0, file.3, subst (λ (v : Verdict). VerdictOf source target commands.0 full_profile v) is_accepted.2 commands.2.1)),
+        told ∙ ap (λ (v : Verdict). verdict_reply files v) is_accepted.2,
       )
 
 pub takes_done : (files : Files) (source target : Option (List ℕ)) (trace : List ℕ) (reply : Reply) → reply.status ≡ is.Done → AnswerOf (run Full source target trace) files reply
     → (energy : ℤ) × (steps : ℕ) × MachineTakes files source target trace energy steps × (reply ≡ reply_of files (report.Accepted energy steps))
 takes_done files source target trace reply done h =
-    let m = done_models files source target (λ models. AnswerOfTrace full_profile models.0 models.1 trace) reply done h in
-    let t = done_trace files m.0 m.1 reply done trace m.4 in
-    (t.0, t.1, record { named = m.3; from = m.0; to = m.1; models = m.2; taken = t.2 }, t.3)
+    let the_models = done_models files source target (λ models. AnswerOfTrace full_profile models.0 models.1 trace) reply done h in
+    let the_trace = done_trace files the_models.0 the_models.1 reply done trace the_models.4 in
+    (the_trace.0, the_trace.1, record { named = the_models.3; from = the_models.0; to = the_models.1; models = the_models.2; taken = the_trace.2 }, the_trace.3)
 
 -- the row of the words answers
 of_the_row : RowLaw → (words : List (List ℕ)) (row : Row) (files : Files) (reply : Reply) → IsRow words row
@@ -133,16 +133,16 @@ module _ {stores : List ℕ → Type 0} (one : RowLaw) (statuses : StatusLaw) (l
           → (result ≡ is.Done) ⊎ (result ≡ is.Memory) → IsDoneWith result old.written new.written energy steps
       done_with files told energy steps reply cost answer (inr m) = absurd (no_memory m)
       done_with files told energy steps reply cost answer (inl done) =
-          let s = stood files told (subst IsAnswer (sym done) tt) in
-          let same = law words files s.0 (reply_of files (report.Accepted energy steps)) (run_is_no_plan one words source target trace is_row) s.1 answer in
-          (done, cost, s.3.1 ∙ ap (λ (r : Reply). append_known old.written r.line) same)
+          let where_stood = stood files told (subst IsAnswer (sym done) tt) in
+          let same = law words files where_stood.0 (reply_of files (report.Accepted energy steps)) (run_is_no_plan one words source target trace is_row) where_stood.1 answer in
+          (done, cost, where_stood.3.1 ∙ ap (λ (r : Reply). append_known old.written r.line) same)
 
   pub headline_only : result ≡ is.Done
       → IfSome old.files (λ files. (energy : ℤ) × (steps : ℕ) × MachineTakes files source target trace energy steps × IsDoneWith result old.written new.written energy steps)
   headline_only done = if_some old.files (λ files told.
-      let s = stood files told (subst IsAnswer (sym done) tt) in
-      let t = takes_done files source target trace s.0 (s.3.0 ∙ done) (of_the_row one words (run Full source target trace) files s.0 is_row s.1) in
-      (t.0, t.1, t.2, (done, small files source target trace t.0 t.1 t.2, s.3.1 ∙ ap (λ (r : Reply). append_known old.written r.line) t.3)))
+      let where_stood = stood files told (subst IsAnswer (sym done) tt) in
+      let the_taking = takes_done files source target trace where_stood.0 (where_stood.3.0 ∙ done) (of_the_row one words (run Full source target trace) files where_stood.0 is_row where_stood.1) in
+      (the_taking.0, the_taking.1, the_taking.2, (done, small files source target trace the_taking.0 the_taking.1 the_taking.2, where_stood.3.1 ∙ ap (λ (r : Reply). append_known old.written r.line) the_taking.3)))
 
   -- what was answered, whatever it is
   pub refusal : IsAnswer result

@@ -87,9 +87,9 @@ cost_fits energy steps is = (fits_of energy is.0, omega (arith, is.1))
 pub cost_apart : (energy energy' : ℤ) (steps steps' : ℕ) → IsCost energy steps → IsCost energy' steps'
     → accepted_line energy steps ≡ accepted_line energy' steps' → (energy ≡ energy') × (steps ≡ steps')
 cost_apart energy energy' steps steps' is is' =
-    let a = cost_fits energy steps is in
-    let b = cost_fits energy' steps' is' in
-    line_apart energy energy' steps steps' a.0 b.0 a.1 b.1
+    let fits = cost_fits energy steps is in
+    let fits_here = cost_fits energy' steps' is' in
+    line_apart energy energy' steps steps' fits.0 fits_here.0 fits.1 fits_here.1
 
 -- ---- those of an accepted run are small
 
@@ -126,7 +126,7 @@ module _ (laws : CostLaws) (source target : Matrix) (profile : Profile) (command
   counted : (before rest : List Command) (s : State) (done : ℕ) (v : Verdict) → commands ≡ before ++ rest → Reaches source profile before s done → s.matrix.resolution ≡ source.resolution → IsBounded s.energy done
       → Run target s rest done v → v ≡ Accepted energy steps → IsBounded energy steps × (steps ≤ done + length rest)
   counted before rest s done v e r same b (ends none f) g = at_end s rest done b (sym f ∙ g)
-  counted before rest s done v e r same b (breaks some_bot next f) g = absurd (let h = sym f ∙ g in cc)
+  counted before rest s done v e r same b (breaks some_bot next f) g = absurd (let impossible = sym f ∙ g in cc)
   counted before rest s done v e r same b (goes {bot = bot} {bots = bots} {t = t} some_bot next run) g =
       let count = length s.bots in
       let step = take count rest in
@@ -150,8 +150,8 @@ module _ (laws : CostLaws) (source target : Matrix) (profile : Profile) (command
   pub verdict_is_small : length commands ≤ run_limit → VerdictOf source target commands profile (Accepted energy steps)
       → IsCost energy steps
   verdict_is_small few h =
-      let c = counted [] commands (opening source profile) 0 (Accepted energy steps) refl (starts refl refl refl) refl (record { low = omega (arith, ints); high = omega (arith, ints) }) h refl in
-      small energy steps c.0 (omega (arith, c.1, few))
+      let counted_here = counted [] commands (opening source profile) 0 (Accepted energy steps) refl (starts refl refl refl) refl (record { low = omega (arith, ints); high = omega (arith, ints) }) h refl in
+      small energy steps counted_here.0 (omega (arith, counted_here.1, few))
 
 -- ---- of a run of files
 
@@ -179,7 +179,7 @@ module _ (laws : CostLaws) (files : Files) where
   source_has : (source target : Option (List ℕ)) (s t : Matrix) → HasName source target
       → AreModels source target files s t → HasVoxels s
   source_has (Some name) target s t named m = model_has name s m.source_is
-  source_has None (Some name) s t named m = let h = model_has name t m.target_is in subst HasVoxels (sym m.source_is) (empty_has t.resolution h.some h.most)
+  source_has None (Some name) s t named m = let has_voxels = model_has name t m.target_is in subst HasVoxels (sym m.source_is) (empty_has t.resolution has_voxels.some has_voxels.most)
   source_has None None s t named m = absurd named
 
   -- the energy and the number of steps of a run that takes its whole trace

@@ -63,14 +63,14 @@ module _ {answers : Answers} {stores : List ℕ → Type 0} (old new : Outside) 
           ⊎ ((result ≡ is.Sink) × SinkRose old new × ((n : ℕ) × (new.written ≡ append_known old.written (take n line))))
           → CallOutcome answers stores old new result
       by (inl done) =
-          let b : IsAnswer result = subst IsAnswer (sym done.0) a in
+          let answer_here : IsAnswer result = subst IsAnswer (sym done.0) a in
           record {
             answer = λ _. weaker old.files (λ files s. (record { status = status; line = line; after = s.0 }, s.1, s.2, (sym done.0, done.1))) stands;
-            depot = λ e. absurd (not_depot result b e);
-            sink = λ e. absurd (not_sink result b e);
-            after_depot = λ e. absurd (not_depot result b e);
-            after_sink = λ e. absurd (not_sink result b e);
-            after_memory = λ e. absurd (not_memory result b e);
+            depot = λ e. absurd (not_depot result answer_here e);
+            sink = λ e. absurd (not_sink result answer_here e);
+            after_depot = λ e. absurd (not_depot result answer_here e);
+            after_sink = λ e. absurd (not_sink result answer_here e);
+            after_memory = λ e. absurd (not_memory result answer_here e);
           }
       by (inr part) = record {
         answer = λ b. absurd (not_sink result b part.0);
@@ -169,7 +169,7 @@ outcome_of_row words row old new result written o = record {
   answer = λ a. weaker old.files (λ files s. (s.0, inr (row, written, s.1), s.2, s.3)) (o.answer a);
   depot = λ e. cause (o.depot e);
   sink = o.sink;
-  after_depot = λ e. let s = o.after_depot e in (s.0, spared s.1);
+  after_depot = λ e. let its_after_depot = o.after_depot e in (its_after_depot.0, spared its_after_depot.1);
   after_sink = λ e. weaker old.files (λ files s. (s.0, inr (row, written, s.1), s.2, s.3)) (o.after_sink e);
   after_memory = o.after_memory;
 }

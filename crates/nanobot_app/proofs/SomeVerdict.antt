@@ -28,7 +28,7 @@ legality_of m = by (first_outside m) refl
     inside e (Some c) u = (Some (Floating c), floats_inside c e u refl)
 
     by : (o : Option Coord) → first_outside m ≡ o → (answer : Option NotLegal) × Legality m answer
-    by None e = let f = first_ungrounded m in inside e f.0 f.1
+    by None e = let ungrounded_first = first_ungrounded m in inside e ungrounded_first.0 ungrounded_first.1
     by (Some c) e = (Some (Border c), leaves_box c e refl)
 
 -- ---- commands have a verdict
@@ -40,7 +40,7 @@ module _ (target : Matrix) where
   by_bots : (s : State) (commands : List Command) (steps : ℕ) (all : List Bot) → s.bots ≡ all
       → ((bot : Bot) (bots : List Bot) → s.bots ≡ bot ∷ bots → (t : State) → Next s (take (length s.bots) commands) (steps + 1) (Goes t) → HasVerdict t (drop (length s.bots) commands) (steps + 1)) → HasVerdict s commands steps
   by_bots s commands steps [] e later = (ending target s commands steps, ends e refl)
-  by_bots s commands steps (bot ∷ bots) e later = let o = next_of s (take (length s.bots) commands) (steps + 1) in by o.0 o.1
+  by_bots s commands steps (bot ∷ bots) e later = let following = next_of s (take (length s.bots) commands) (steps + 1) in by following.0 following.1
     where
       by : (o : Outcome) → Next s (take (length s.bots) commands) (steps + 1) o → HasVerdict s commands steps
       by (Goes t) next = let more = later bot bots e t next in (more.0, goes {bot = bot} {bots = bots} {t = t} e next more.1)

@@ -29,7 +29,7 @@ none_rose rose = omega arith
 pub gave_not_memory : (status : ℕ) (bytes old new : List ℕ) (size result : ℕ) → (IsMemory status → ⊥)
     → Gave status bytes old new size result → IsMemory result → ⊥
 gave_not_memory status bytes old new size result other gave memory = elim (cases_lt (length old) (length bytes)) [
-  | inl small ↦ let e = (gave.small small).0 in absurd (omega arith)
+  | inl small ↦ let gave_small = (gave.small small).0 in absurd (omega arith)
   | inr fits ↦ other (subst IsMemory (gave.fits fits).0 memory)
 ]
 
@@ -37,7 +37,7 @@ gave_not_memory status bytes old new size result other gave memory = elim (cases
 pub gave_done : (status : ℕ) (bytes old new : List ℕ) (size result : ℕ) → Gave status bytes old new size result
     → IsDone result → IsDone status
 gave_done status bytes old new size result gave done = elim (cases_lt (length old) (length bytes)) [
-  | inl small ↦ let e = (gave.small small).0 in absurd (omega arith)
+  | inl small ↦ let gave_small = (gave.small small).0 in absurd (omega arith)
   | inr fits ↦ subst IsDone (gave.fits fits).0 done
 ]
 

@@ -49,15 +49,15 @@ some_run total index sum run h e = grind (arith, nat_tests)
 later_same : (total index sum left : ℕ) (xs ys : List ℕ) → 0 < index → total ≤ sum + left → 4 * left < length xs
     → runs_in total index sum (xs ++ ys) ≡ runs_in total index sum xs
 later_same total index sum left [] ys i t h = absurd (omega arith)
-later_same total index sum left (a ∷ []) ys i t h = let e = full total sum (omega arith) in ended total index sum a ys e ∙ sym (ended total index sum a [] e)
-later_same total index sum left (a ∷ b ∷ []) ys i t h = let e = full total sum (omega arith) in ended total index sum a (b ∷ ys) e ∙ sym (ended total index sum a (b ∷ []) e)
-later_same total index sum left (a ∷ b ∷ c ∷ []) ys i t h = let e = full total sum (omega arith) in ended total index sum a (b ∷ c ∷ ys) e ∙ sym (ended total index sum a (b ∷ c ∷ []) e)
+later_same total index sum left (a ∷ []) ys i t h = let full_here = full total sum (omega arith) in ended total index sum a ys full_here ∙ sym (ended total index sum a [] full_here)
+later_same total index sum left (a ∷ b ∷ []) ys i t h = let full_here = full total sum (omega arith) in ended total index sum a (b ∷ ys) full_here ∙ sym (ended total index sum a (b ∷ []) full_here)
+later_same total index sum left (a ∷ b ∷ c ∷ []) ys i t h = let full_here = full total sum (omega arith) in ended total index sum a (b ∷ c ∷ ys) full_here ∙ sym (ended total index sum a (b ∷ c ∷ []) full_here)
 later_same total index sum left (a ∷ b ∷ c ∷ d ∷ more) ys i t h =
     let run = number_of_four a b c d in
     where_both (nat_lt sum total) (is_no_run total index sum run) (Err (WideRun index)) (Err WideLong)
     (with_first run (runs_in total (index + 1) (sum + run) (more ++ ys))) (with_first run (runs_in total (index + 1) (sum + run) more))
-    (λ e f. let w = wanting total sum e in
-    let s = some_run total index sum run i f in
+    (λ e f. let wanting_here = wanting total sum e in
+    let run_positive = some_run total index sum run i f in
     ap (with_first run) (later_same total (index + 1) (sum + run) (left - 1) more ys (omega arith) (omega arith) (omega arith)))
 
 first_same : (total left : ℕ) (xs ys : List ℕ) → total ≤ left → 4 * left + 4 < length xs

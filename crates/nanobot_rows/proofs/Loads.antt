@@ -53,16 +53,16 @@ module _ (told : Option Files) (name v : List ℕ) (limit most : ℕ) (status : 
   too_long l = with_file told name _ loaded (λ files file _ there e. exceeds files name file limit status line there (more file e))
     where
       more : (file : List ℕ) → v ≡ take most file → limit < length file
-      more file e = let n = ap length e ∙ length-take most file in omega arith
+      more file e = let length_is = ap length e ∙ length-take most file in omega arith
 
   pub is_whole : length v ≤ limit → IfSome told (λ files. FileUpTo limit status line name files (Ok v))
   is_whole l = with_file told name _ loaded (λ files file _ there e. subst (λ (bytes : List ℕ). FileUpTo limit status line name files (Ok bytes)) (sym (e ∙ take_all most file (less file e))) (fits files name file limit status line there (few file e)))
     where
       few : (file : List ℕ) → v ≡ take most file → length file ≤ limit
-      few file e = let n = ap length e ∙ length-take most file in omega arith
+      few file e = let length_is = ap length e ∙ length-take most file in omega arith
 
       less : (file : List ℕ) → v ≡ take most file → length file ≤ most
-      less file e = let n = few file e in omega arith
+      less file e = let few_enough = few file e in omega arith
 
 -- ---- a file that was not loaded, or is too long, ends the call
 
@@ -153,4 +153,4 @@ no_more (c ∷ more) =
 -- bytes spell no more commands than they are
 pub few_commands : (bytes : List ℕ) (commands : List Command) (n : ℕ) → Cutting bytes commands → length bytes ≤ n
     → length commands ≤ n
-few_commands bytes commands n cutting few = let m = no_more commands in let e = ap length cutting.1 in omega (arith, m, e, few)
+few_commands bytes commands n cutting few = let no_longer = no_more commands in let length_is = ap length cutting.1 in omega (arith, no_longer, length_is, few)

@@ -107,15 +107,15 @@ goes_on : (given commands : List Command) (tail rest : List ℕ) → AreCommands
     → (more : List Command) × (commands ≡ given ++ more)
 goes_on [] commands tail rest g h e l = (commands, refl)
 goes_on (c ∷ given) [] tail rest g h e l =
-    let k : length rest ≡ length ((spelling c ++ spellings given) ++ tail) = ap length e in
-    let a = length-append (spelling c ++ spellings given) tail in
-    let b = length-append (spelling c) (spellings given) in
-    let n = spelling_some c in
-    absurd (omega (arith, k, a, b, n, l))
+    let same_length : length rest ≡ length ((spelling c ++ spellings given) ++ tail) = ap length e in
+    let length_is = length-append (spelling c ++ spellings given) tail in
+    let joined_length = length-append (spelling c) (spellings given) in
+    let some_spelling = spelling_some c in
+    absurd (omega (arith, same_length, length_is, joined_length, some_spelling, l))
 goes_on (c ∷ given) (d ∷ commands) tail rest g h e l =
-    let o = one_spelling d c (spellings commands ++ rest) (spellings given ++ tail) h.0 g.0 (sym (append_assoc (spelling d) (spellings commands) rest) ∙ (e ∙ append_assoc (spelling c) (spellings given) tail)) in
-    let r = goes_on given commands tail rest g.1 h.1 o.1 l in
-    (r.0, (λ i. o.0 i ∷ r.1 i))
+    let same_spelling = one_spelling d c (spellings commands ++ rest) (spellings given ++ tail) h.0 g.0 (sym (append_assoc (spelling d) (spellings commands) rest) ∙ (e ∙ append_assoc (spelling c) (spellings given) tail)) in
+    let goes = goes_on given commands tail rest g.1 h.1 same_spelling.1 l in
+    (goes.0, (λ i. same_spelling.0 i ∷ goes.1 i))
 
 -- what was touched for the given commands
 within : (law : WholeLaw) (source : Matrix) (profile : Profile) (bytes : List ℕ) (given : List Command) (p : Progress)
@@ -123,8 +123,8 @@ within : (law : WholeLaw) (source : Matrix) (profile : Profile) (bytes : List �
     (n : ℕ) → AreInFront bytes commands → Work source commands profile n
     → now ≤ start + 100 * n + volume source.resolution
 within law source profile bytes given p start now b paid commands n front work =
-    let r = goes_on given commands b.rest front.0 b.are_commands front.2 (sym front.3 ∙ b.bytes_are) (front.1.1 b.rest (given, b.are_commands, b.bytes_are)) in
-    law source profile given r.0 p start now n paid (subst (λ (xs : List Command). Work source xs profile n) r.1 work)
+    let goes = goes_on given commands b.rest front.0 b.are_commands front.2 (sym front.3 ∙ b.bytes_are) (front.1.1 b.rest (given, b.are_commands, b.bytes_are)) in
+    law source profile given goes.0 p start now n paid (subst (λ (xs : List Command). Work source xs profile n) goes.1 work)
 
 -- ---- a trace that is fetched piece by piece
 
@@ -149,10 +149,10 @@ module _ (told : Option Files) (name : List ℕ) (source : Matrix) (profile : Pr
       → IsPaying told name source profile (at + n) next start later
   paying_next n buf next later piece fits fed = record {
     front = λ files file t c.
-        let p : IsPiece file at n buf = from_told told name _ piece files file t c in
+        let is_piece : IsPiece file at n buf = from_told told name _ piece files file t c in
         let old = so_far.front files file t c in
-        let joined : take at file ++ take n buf ≡ take (at + n) file = ap (λ b. take at file ++ b) p.same ∙ sym (take-add at n file) in
-        (piece_has file buf at n fits p old.0, subst (λ (b : List ℕ). HasPaid source profile b next start later) joined (fed (take at file) old.1));
+        let joined : take at file ++ take n buf ≡ take (at + n) file = ap (λ b. take at file ++ b) is_piece.same ∙ sym (take-add at n file) in
+        (piece_has file buf at n fits is_piece old.0, subst (λ (b : List ℕ). HasPaid source profile b next start later) joined (fed (take at file) old.1));
   }
 
   -- the run ends here, after few touches more
@@ -161,17 +161,17 @@ module _ (told : Option Files) (name : List ℕ) (source : Matrix) (profile : Pr
       → IsWithinFile profile source told name first last
   paying_within law works first last few more = λ files file t c.
       let old = so_far.front files file t c in
-      let b : BeginWith file old.1.commands = subst (λ (b : List ℕ). BeginWith b old.1.commands) (take-append-drop at file) (begins_more (take at file) (drop at file) old.1.commands (begins (take at file) old.1.commands run.decoder old.1.given)) in
+      let begin_with : BeginWith file old.1.commands = subst (λ (b : List ℕ). BeginWith b old.1.commands) (take-append-drop at file) (begins_more (take at file) (drop at file) old.1.commands (begins (take at file) old.1.commands run.decoder old.1.given)) in
       record {
         longest = λ commands front.
-            let n = works source commands profile in
-            let w = within law source profile file old.1.commands run.run.progress start now b old.1.paid commands n.0 front n.1 in
-            (n.0, n.1, omega (arith, w, few, more));
+            let works_here = works source commands profile in
+            let within_here = within law source profile file old.1.commands run.run.progress start now begin_with old.1.paid commands works_here.0 front works_here.1 in
+            (works_here.0, works_here.1, omega (arith, within_here, few, more));
         given =
-            let n = works source (old.1.commands ++ []) profile in
+            let works_here = works source (old.1.commands ++ []) profile in
             let same : old.1.commands ++ [] ≡ old.1.commands = append-nil old.1.commands in
-            let w = law source profile old.1.commands [] run.run.progress start now n.0 old.1.paid n.1 in
-            (old.1.commands, b, (n.0, subst (λ (xs : List Command). Work source xs profile n.0) same n.1, omega (arith, w, few, more)));
+            let law_here = law source profile old.1.commands [] run.run.progress start now works_here.0 old.1.paid works_here.1 in
+            (old.1.commands, begin_with, (works_here.0, subst (λ (xs : List Command). Work source xs profile works_here.0) same works_here.1, omega (arith, law_here, few, more)));
       }
 
 -- ---- the files of a run
@@ -206,8 +206,8 @@ module _ (profile : Profile) (told : Option Files) (source target : Option (List
   pub run_untouched : (works : WorkLaw) (before now : ℕ) → now ≡ before
       → IsRunWithin profile source target trace told before now
   run_untouched works before now same = λ files from to e these others bytes t c.
-      let n = works from [] profile in
+      let works_here = works from [] profile in
       record {
-        longest = λ commands front. let k = works from commands profile in (k.0, k.1, omega (arith, same));
-        given = ([], record { are_commands = tt; rest = bytes; bytes_are = refl }, (n.0, n.1, omega (arith, same)));
+        longest = λ commands front. let works_here_too = works from commands profile in (works_here_too.0, works_here_too.1, omega (arith, same));
+        given = ([], record { are_commands = tt; rest = bytes; bytes_are = refl }, (works_here.0, works_here.1, omega (arith, same)));
       }

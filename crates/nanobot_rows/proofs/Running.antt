@@ -88,10 +88,10 @@ module _ (source : Matrix) (profile : Profile) (bytes piece : List ℕ) (s : Run
 pub longer : (d : DecoderState) (piece : List ℕ) (command : Command) (used : ℕ)
     → AnswersPiece d piece (Got command used) → 1 ≤ length (spelling command)
 longer d piece command used a =
-    let e = ap length a.spelling_is in
-    let l = length-append d.held (take used piece) in
-    let t = length-take used piece in
-    omega (arith, e, l, t, a.some, a.within)
+    let length_is = ap length a.spelling_is in
+    let joined_length = length-append d.held (take used piece) in
+    let length_taken = length-take used piece in
+    omega (arith, length_is, joined_length, length_taken, a.some, a.within)
 
 -- ---- the end
 

@@ -24,7 +24,7 @@ module _ (got : GotLaw) (all : AllLaw) (bad : BadLaw) (push : PushLaw) (d : Deco
       → Takes old (take used piece) (record { decoder = decoder_after d piece (Got command used); run = new }) began ended
   takes_got command used new began ended answers g = record {
     run = λ source profile before run. got_step source profile before piece old run got command used new answers g.progress;
-    offset = (let e = ap length answers.spelling_is in let l = length-append d.held (take used piece) in omega (arith, e, l));
+    offset = (let length_is = ap length answers.spelling_is in let joined_length = length-append d.held (take used piece) in omega (arith, length_is, joined_length));
     resolution = g.resolution;
     stands = g.stands;
     paid = λ source profile before start same paid. paid_got source profile before piece old start began paid got push command used new ended same answers g.progress g.touches;
@@ -34,7 +34,7 @@ module _ (got : GotLaw) (all : AllLaw) (bad : BadLaw) (push : PushLaw) (d : Deco
       → Takes old piece (record { decoder = decoder_after d piece All; run = r }) began began
   takes_all began answers = record {
     run = λ source profile before run. all_step source profile before piece old run all answers;
-    offset = (let l = length-append d.held piece in omega (arith, l));
+    offset = (let length_is = length-append d.held piece in omega (arith, length_is));
     resolution = refl;
     stands = stands;
     paid = λ source profile before start same paid. paid_all source profile before piece old start began paid all answers;
@@ -105,7 +105,7 @@ takes_more : (s t u : RunState) (xs ys : List ℕ) (i j k : ℕ) → Takes s xs 
     → Takes s (xs ++ ys) u i k
 takes_more s t u xs ys i j k a b = record {
   run = λ source profile before run. subst (λ (bytes : List ℕ). HasRun source profile bytes u) (append_assoc before xs ys) (b.run source profile (before ++ xs) (a.run source profile before run));
-  offset = (let l = length-append xs ys in omega (arith, l, a.offset, b.offset));
+  offset = (let length_is = length-append xs ys in omega (arith, length_is, a.offset, b.offset));
   resolution = b.resolution ∙ a.resolution;
   stands = b.stands;
   paid = λ source profile before start same paid.

@@ -30,11 +30,11 @@ underway told name source profile run h = record { front = λ files file t c. (o
 pub piece_has : (file buf : List ℕ) (at n : ℕ) → n ≤ length buf → IsPiece file at n buf → at ≤ length file
     → at + n ≤ length file
 piece_has file buf at n fits p h =
-    let e = ap length p.same in
-    let a = length-take n buf in
-    let b = length-take n (drop at file) in
-    let d = length-drop at file in
-    omega (arith, e, a, b, d)
+    let length_is = ap length p.same in
+    let length_taken = length-take n buf in
+    let taken_length = length-take n (drop at file) in
+    let length_dropped = length-drop at file in
+    omega (arith, length_is, length_taken, taken_length, length_dropped)
 
 module _ (told : Option Files) (name : List ℕ) (source : Matrix) (profile : Profile) (at n : ℕ) (buf : List ℕ) (run : RunState)
     (so_far : IsUnderway told name source profile at run) (piece : IfTold told name (λ file. IsPiece file at n buf)) (room_is : n ≤ length buf) where
@@ -44,10 +44,10 @@ module _ (told : Option Files) (name : List ℕ) (source : Matrix) (profile : Pr
       → IsUnderway told name source profile (at + n) next
   underway_next next fed = record {
     front = λ files file t c.
-        let p : IsPiece file at n buf = from_told told name _ piece files file t c in
+        let is_piece : IsPiece file at n buf = from_told told name _ piece files file t c in
         let old = so_far.front files file t c in
-        let joined : take at file ++ take n buf ≡ take (at + n) file = ap (λ b. take at file ++ b) p.same ∙ sym (take-add at n file) in
-        (piece_has file buf at n room_is p old.0, subst (λ (b : List ℕ). HasRun source profile b next) joined (fed (take at file) old.1));
+        let joined : take at file ++ take n buf ≡ take (at + n) file = ap (λ b. take at file ++ b) is_piece.same ∙ sym (take-add at n file) in
+        (piece_has file buf at n room_is is_piece old.0, subst (λ (b : List ℕ). HasRun source profile b next) joined (fed (take at file) old.1));
   }
 
   -- no byte came: the trace is whole

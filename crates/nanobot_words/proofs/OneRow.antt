@@ -16,7 +16,7 @@ first_word (w ∷ ws) = w
 -- rows whose first words differ are written otherwise
 other_heads : (row row' : Row) → IsTrue (bytes_eq (first_word (row_words row)) (first_word (row_words row)))
     → IsFalse (bytes_eq (first_word (row_words row)) (first_word (row_words row'))) → row_words row ≡ row_words row' → ⊥
-other_heads row row' same other e = let t = subst (λ ws. IsTrue (bytes_eq (first_word (row_words row)) (first_word ws))) e same in cc
+other_heads row row' same other e = let bytes_equal = subst (λ ws. IsTrue (bytes_eq (first_word (row_words row)) (first_word ws))) e same in cc
 
 check_check : (m m' : List ℕ) → row_words (check m) ≡ row_words (check m') → check m ≡ check m'
 check_check m m' e = cc

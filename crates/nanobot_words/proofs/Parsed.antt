@@ -86,7 +86,7 @@ trace_last (Some x) (Some y) b h = to_the_end x y b h
 
 -- a planner whose word is that of another is the same
 other_words : (a b : List ℕ) → IsTrue (bytes_eq a a) → IsFalse (bytes_eq a b) → a ≡ b → ⊥
-other_words a b same other e = let t = subst (λ w. IsTrue (bytes_eq a w)) e same in cc
+other_words a b same other e = let bytes_equal = subst (λ w. IsTrue (bytes_eq a w)) e same in cc
 
 pub same_planner : (p q : Planner) → planner_word p ≡ planner_word q → p ≡ q
 same_planner Layer Layer e = refl
@@ -103,7 +103,7 @@ module _ (words : List (List ℕ)) (w x y z : List ℕ) (are : words ≡ w ∷ x
   same_words = sym are ∙ row.written
 
   pub run_operands : AreOperands x y z s t b
-  run_operands = let e = same_words in record { source_is = cc; target_is = cc; trace_is = cc; named = row.named; of_table = row.of_table }
+  run_operands = let words_same = same_words in record { source_is = cc; target_is = cc; trace_is = cc; named = row.named; of_table = row.of_table }
 
 -- five words
 module _ (words : List (List ℕ)) (f g x y z : List ℕ) (are : words ≡ f ∷ g ∷ x ∷ y ∷ z ∷ []) (s t : Option (List ℕ)) (b : List ℕ) where
@@ -118,11 +118,11 @@ module _ (words : List (List ℕ)) (f g x y z : List ℕ) (are : words ≡ f ∷
     plan_words = sym are ∙ row.written
 
     pub planned_word : planner_word p ≡ g
-    planned_word = let e = plan_words in cc
+    planned_word = let plan_words_here = plan_words in cc
 
     -- those of a plan
     pub plan_operands : AreOperands x y z s t b
-    plan_operands = let e = plan_words in record {
+    plan_operands = let plan_words_here = plan_words in record {
       source_is = cc;
       target_is = cc;
       trace_is = cc;

@@ -47,7 +47,7 @@ pub in_turn : (source target : Matrix) (profile : Profile) (most : Bounds) (plan
     → MayStandFor source target profile most plan it
 in_turn source target profile most plan first it a b = record {
   accepted = b.accepted;
-  energy = let x = a.energy in let y = b.energy in omega (arith, ints, x, y);
+  energy = let its_energy = a.energy in let energy_here = b.energy in omega (arith, ints, its_energy, energy_here);
   steps = λ h. b.steps (a.steps h);
   commands = λ h. b.commands (a.commands h);
   bytes = λ h. b.bytes (a.bytes h);

@@ -14,8 +14,8 @@ pub record AreCounted (commands : List Command) (i bytes : ℕ) : Type 0 where
 pub counted_more : (commands : List Command) (i bytes : ℕ) (k : Command) → i < length commands → k ≡ get_or commands i k
     → AreCounted commands i bytes → AreCounted commands (i + 1) (bytes + length (spelling k))
 counted_more commands i bytes k l e h = record {
-  value = let v = h.value in let n = longer in omega (arith, v, n);
-  few = let f = h.few in let s = spelling_short k in omega (arith, f, s);
+  value = let v = h.value in let longer_here = longer in omega (arith, v, longer_here);
+  few = let its_few = h.few in let short_spelling = spelling_short k in omega (arith, its_few, short_spelling);
 }
   where
     one_more : take (i + 1) commands ≡ take i commands ++ k ∷ []

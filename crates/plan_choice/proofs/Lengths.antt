@@ -42,7 +42,7 @@ module _ (source target : Matrix) (profile : Profile) (commands : List Command) 
       → Reaches source profile before s done → Run target s rest done v → v ≡ Accepted energy steps
       → length rest + n * done ≤ n * steps
   counted before rest s done v e r (ends none f) g = at_end s rest done (sym f ∙ g)
-  counted before rest s done v e r (breaks some next f) g = absurd (let h = sym f ∙ g in cc)
+  counted before rest s done v e r (breaks some next f) g = absurd (let impossible = sym f ∙ g in cc)
   counted before rest s done v e r (goes {bot = bot} {bots = bots} {t = t} some next run) g =
       let count = length s.bots in
       let step = take count rest in
@@ -59,7 +59,7 @@ module _ (source target : Matrix) (profile : Profile) (commands : List Command) 
       one_more (length rest) (length step) (length left) done sum most later
 
   pub few_commands : VerdictOf source target commands profile (Accepted energy steps) → length commands ≤ n * steps
-  few_commands h = let c = counted [] commands (opening source profile) 0 (Accepted energy steps) refl (starts refl refl refl) h refl in omega (arith, c)
+  few_commands h = let counted_here = counted [] commands (opening source profile) 0 (Accepted energy steps) refl (starts refl refl refl) h refl in omega (arith, counted_here)
 
 -- ---- bytes
 

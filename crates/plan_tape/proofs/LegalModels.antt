@@ -53,15 +53,15 @@ pub full_in_box : (m : Matrix) (c : Coord) → IsLegal m → is_full m c ≡ tru
 full_in_box m c h f =
     let resolution = m.resolution in
     let inside = second_by_and_not (is_full m c) (in_legal_box resolution c) (find_none (λ d. is_full m d && not (in_legal_box resolution d)) c (all_of m) (legal_is m h).0 (in_coordinates resolution c (full_within m c f))) f in
-    let t = five (nat_le 1 c.x) (nat_lt (c.x + 1) resolution) (nat_lt (c.y + 1) resolution) (nat_le 1 c.z) (nat_lt (c.z + 1) resolution) inside in
-    record { x = at_most_by_test 1 c.x t.0; x_end = less_by_test (c.x + 1) resolution t.1; y_end = less_by_test (c.y + 1) resolution t.2; z = at_most_by_test 1 c.z t.3; z_end = less_by_test (c.z + 1) resolution t.4 }
+    let five_here = five (nat_le 1 c.x) (nat_lt (c.x + 1) resolution) (nat_lt (c.y + 1) resolution) (nat_le 1 c.z) (nat_lt (c.z + 1) resolution) inside in
+    record { x = at_most_by_test 1 c.x five_here.0; x_end = less_by_test (c.x + 1) resolution five_here.1; y_end = less_by_test (c.y + 1) resolution five_here.2; z = at_most_by_test 1 c.z five_here.3; z_end = less_by_test (c.z + 1) resolution five_here.4 }
 
 -- so a voxel that cannot be there is void
 pub outside_is_void : (m : Matrix) (c : Coord) → IsLegal m → (IsInBox m.resolution c → ⊥) → is_full m c ≡ false
 outside_is_void m c h out = false_by (is_full m c) (λ f. absurd (out (full_in_box m c h f)))
 
 pub void_at_border : (m : Matrix) → IsLegal m → (c : Coord) → c.x ≡ 0 → is_full m c ≡ false
-void_at_border m h c e = outside_is_void m c h (λ b. let x = b.x in omega arith)
+void_at_border m h c e = outside_is_void m c h (λ b. let along_x = b.x in omega arith)
 
 pub void_at_top : (m : Matrix) → IsLegal m → IsVoidFrom m (m.resolution - 1)
 void_at_top m h = λ c l. outside_is_void m c h (λ b. let y_end = b.y_end in omega arith)
@@ -82,7 +82,7 @@ void_is_grounded m v = all (all_of m)
   where
     all : (cs : List Coord) → FirstFailing (λ c. IsTrue (is_full m c) → Grounded m c) cs None
     all [] = tt
-    all (c ∷ cs) = ((λ t. absurd (let e = sym (v c) ∙ t in cc)), all cs)
+    all (c ∷ cs) = ((λ t. absurd (let impossible = sym (v c) ∙ t in cc)), all cs)
 
 -- and legal
 pub void_is_legal : (m : Matrix) → ((c : Coord) → is_full m c ≡ false) → IsLegal m

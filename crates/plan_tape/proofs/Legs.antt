@@ -66,9 +66,9 @@ far : (u v : ℕ) → unsigned_abs (pos v -ℤ pos u) ≡ gap u v
 far u v = omega (arith, ints)
 
 pub mlen-along : (axis : Axis) (u v : ℕ) → mlen (along axis (pos v -ℤ pos u)) ≡ gap u v
-mlen-along X u v = let e = far u v in omega arith
-mlen-along Y u v = let e = far u v in omega arith
-mlen-along Z u v = let e = far u v in omega arith
+mlen-along X u v = let far_here = far u v in omega arith
+mlen-along Y u v = let far_here = far u v in omega arith
+mlen-along Z u v = let far_here = far u v in omega arith
 
 -- ---- a part of a way
 

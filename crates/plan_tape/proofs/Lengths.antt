@@ -14,7 +14,7 @@ legs_length p q to m =
     let legs = m.legs in
     let added = ap length m.added ∙ length-append p.commands m.commands in
     let joined = ap length legs.joined ∙ (length-append (legs.x ++ legs.y) legs.z ∙ ap (λ n. n + length legs.z) (length-append legs.x legs.y)) in
-    let x = legs.along_x.least in
-    let y = legs.along_y.least in
+    let along_x_least = legs.along_x.least in
+    let along_y_least = legs.along_y.least in
     let least = legs.along_z.least in
-    omega (arith, added, joined, x, y, least)
+    omega (arith, added, joined, along_x_least, along_y_least, least)

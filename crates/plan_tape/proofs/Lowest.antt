@@ -68,7 +68,7 @@ lowest_at m n y c l below h = record {
 
 pub all_same : (m n : Matrix) (y : ℕ) → IsWhole m → IsWhole n → m.resolution ≡ n.resolution → m.resolution ≤ y
     → ((c : Coord) → c.y < y → is_full m c ≡ is_full n c) → m ≡ n
-all_same m n y v w e l h = alike_is_same m n v w e (λ c i. let y = i.y in h c (omega arith))
+all_same m n y v w e l h = alike_is_same m n v w e (λ c i. let along_y = i.y in h c (omega arith))
 
 -- models that differ somewhere are not the same
 pub not_same : (m n : Matrix) (y : ℕ) → IsLowest m n y → m ≢ n

@@ -53,7 +53,7 @@ first_seeds profile k e = (above, below)
     above = of side
       where
         of : (k < 2) ⊎ ((profile.seeds + 2 ≤ k) ⊎ ((2 ≤ k) × (k < profile.seeds + 2))) → 1 ≤ k
-        of (inl h) = let f = sym here ∙ none_below 2 (numbers_from 2 profile.seeds) (numbers_rise 2 profile.seeds) k h in cc
+        of (inl h) = let impossible = sym here ∙ none_below 2 (numbers_from 2 profile.seeds) (numbers_rise 2 profile.seeds) k h in cc
         of (inr (inl h)) = omega arith
         of (inr (inr h)) = omega arith
 
@@ -62,7 +62,7 @@ first_seeds profile k e = (above, below)
       where
         of : (k < 2) ⊎ ((profile.seeds + 2 ≤ k) ⊎ ((2 ≤ k) × (k < profile.seeds + 2))) → k ≤ profile.seeds + 1
         of (inl h) = omega arith
-        of (inr (inl h)) = let f = sym here ∙ none_above 2 profile.seeds k (omega arith) in cc
+        of (inr (inl h)) = let impossible = sym here ∙ none_above 2 profile.seeds k (omega arith) in cc
         of (inr (inr h)) = omega arith
 
 first_numbered : (profile : Profile) → AreNumbered (profile.seeds + 1) (first_bot profile ∷ [])
@@ -107,8 +107,8 @@ record IsMade (n : ℕ) (s : State) : Type 0 where
 stays_made : (n : ℕ) (s t : State) (commands : List Command) (step : ℕ) → AreCommands commands → IsMade n s
     → Next s commands step (Goes t) → IsMade n t
 stays_made n s t commands step are m next =
-    let a = accepted_step s t commands step next in
-    subst (IsMade n) (sym a.is) (record { ready = ready_is s commands step are m.ready a.keeps; numbered = numbered_after n s commands step m.ready a.keeps m.numbered })
+    let accepted = accepted_step s t commands step next in
+    subst (IsMade n) (sym accepted.is) (record { ready = ready_is s commands step are m.ready accepted.keeps; numbered = numbered_after n s commands step m.ready accepted.keeps m.numbered })
 
 -- ---- all steps
 
@@ -140,6 +140,6 @@ few_rise (b ∷ bots) low n up h l =
 pub has_at_most : (source : Matrix) (profile : Profile) (commands : List Command) → IsWhole source
     → AreCommands commands → HasAtMost source profile commands (profile.seeds + 1)
 has_at_most source profile commands whole are before rest s steps e r =
-    let m = made source profile before s steps whole (first_part before rest (subst AreCommands e are)) r in
-    let few = few_rise s.bots 0 (profile.seeds + 1) (rising_is s.bots m.ready.rising) (λ b i. (let h = (m.numbered b i).0.0 in omega (arith, h), (m.numbered b i).0.1)) (omega arith) in
+    let made_so = made source profile before s steps whole (first_part before rest (subst AreCommands e are)) r in
+    let few = few_rise s.bots 0 (profile.seeds + 1) (rising_is s.bots made_so.ready.rising) (λ b i. (let h = (made_so.numbered b i).0.0 in omega (arith, h), (made_so.numbered b i).0.1)) (omega arith) in
     omega (arith, few)

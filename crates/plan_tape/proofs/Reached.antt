@@ -132,7 +132,7 @@ module _ (source target : Matrix) (profile : Profile) (energy : ℤ) (steps : �
   pub accepted : (commands : List Command)
       → (VerdictOf source target commands profile (Accepted energy steps) ↔ ReachesTarget source target profile commands energy steps)
   accepted commands = (
-    λ run. let d = decided source target profile [] commands (opening source profile) 0 (Accepted energy steps) (starts refl refl refl) run in there commands d d.falls,
+    λ run. let decided_here = decided source target profile [] commands (opening source profile) 0 (Accepted energy steps) (starts refl refl refl) run in there commands decided_here decided_here.falls,
     λ r.
         let told : Accepted energy steps ≡ ending target r.last [] steps = ap (λ (e : ℤ). Accepted e steps) (sym r.energy_is) ∙ ap (compared r.last.energy steps) (sym r.same) in
         subst (λ (k : List Command). VerdictOf source target k profile (Accepted energy steps)) (append-nil commands) (run_of target [] (Accepted energy steps) r.reaches (ends r.no_bot told)),

@@ -104,21 +104,21 @@ module _ (p : TapeState) (w : IsWhole p.matrix) (alone : length p.bots ≡ 1) wh
   pub flips : IsAllowed p Flip → IsHeld (flipped p.harmonics) p.matrix
       → Does p (only_bot p.bots alone).0 Flip p.matrix (flipped p.harmonics) p.bots (pos 0)
   flips a g =
-      let o = only_bot p.bots alone in
-      record { faultless = flip_faults p.matrix p.harmonics o.0 p.energy p.profile a; matrix_is = untouched p.matrix (lone o.0 Flip) w refl refl; harmonics_are = refl; bots_are = sym o.1; cost_is = cost_is p.matrix o.0 Flip; held = g }
+      let only = only_bot p.bots alone in
+      record { faultless = flip_faults p.matrix p.harmonics only.0 p.energy p.profile a; matrix_is = untouched p.matrix (lone only.0 Flip) w refl refl; harmonics_are = refl; bots_are = sym only.1; cost_is = cost_is p.matrix only.0 Flip; held = g }
 
   pub fills : (d : Diff) → IsAllowed p (Fill d) → IsReachable p d
       → IsHeld p.harmonics (with_voxel p.matrix (beside p d) true) → Does p (only_bot p.bots alone).0 (Fill d)
       (with_voxel p.matrix (beside p d) true) p.harmonics p.bots (cond (is_full p.matrix (beside p d)) (pos 6) (pos 12))
   fills d a i g =
-      let o = only_bot p.bots alone in
-      let j = in_place p o.0 d o.2 i in
+      let only = only_bot p.bots alone in
+      let place = in_place p only.0 d only.2 i in
       record {
-        faultless = fill_faults p.matrix p.harmonics o.0 p.energy p.profile d a j;
-        matrix_is = subst (λ (q : Coord). matrix_after p.matrix (lone o.0 (Fill d) ∷ []) ≡ with_voxel p.matrix (coordinate (plus (point q) d)) true) (sym o.2) (matrix_filled p.matrix o.0 d j);
+        faultless = fill_faults p.matrix p.harmonics only.0 p.energy p.profile d a place;
+        matrix_is = subst (λ (q : Coord). matrix_after p.matrix (lone only.0 (Fill d) ∷ []) ≡ with_voxel p.matrix (coordinate (plus (point q) d)) true) (sym only.2) (matrix_filled p.matrix only.0 d place);
         harmonics_are = refl;
-        bots_are = sym o.1;
-        cost_is = subst (λ (q : Coord). groups_cost p.matrix (lone o.0 (Fill d) ∷ []) ≡ cond (is_full p.matrix (coordinate (plus (point q) d))) (pos 6) (pos 12)) (sym o.2) (fill_cost p.matrix o.0 d j);
+        bots_are = sym only.1;
+        cost_is = subst (λ (q : Coord). groups_cost p.matrix (lone only.0 (Fill d) ∷ []) ≡ cond (is_full p.matrix (coordinate (plus (point q) d))) (pos 6) (pos 12)) (sym only.2) (fill_cost p.matrix only.0 d place);
         held = g;
       }
 
@@ -126,14 +126,14 @@ module _ (p : TapeState) (w : IsWhole p.matrix) (alone : length p.bots ≡ 1) wh
       → IsHeld p.harmonics (with_voxel p.matrix (beside p d) false) → Does p (only_bot p.bots alone).0 (Void d)
       (with_voxel p.matrix (beside p d) false) p.harmonics p.bots (cond (is_full p.matrix (beside p d)) (negsuc 11) (pos 3))
   voids d a i g =
-      let o = only_bot p.bots alone in
-      let j = in_place p o.0 d o.2 i in
+      let only = only_bot p.bots alone in
+      let place = in_place p only.0 d only.2 i in
       record {
-        faultless = void_faults p.matrix p.harmonics o.0 p.energy p.profile d a j;
-        matrix_is = subst (λ (q : Coord). matrix_after p.matrix (lone o.0 (Void d) ∷ []) ≡ with_voxel p.matrix (coordinate (plus (point q) d)) false) (sym o.2) (matrix_voided p.matrix o.0 d j);
+        faultless = void_faults p.matrix p.harmonics only.0 p.energy p.profile d a place;
+        matrix_is = subst (λ (q : Coord). matrix_after p.matrix (lone only.0 (Void d) ∷ []) ≡ with_voxel p.matrix (coordinate (plus (point q) d)) false) (sym only.2) (matrix_voided p.matrix only.0 d place);
         harmonics_are = refl;
-        bots_are = sym o.1;
-        cost_is = subst (λ (q : Coord). groups_cost p.matrix (lone o.0 (Void d) ∷ []) ≡ cond (is_full p.matrix (coordinate (plus (point q) d))) (negsuc 11) (pos 3)) (sym o.2) (void_cost p.matrix o.0 d j);
+        bots_are = sym only.1;
+        cost_is = subst (λ (q : Coord). groups_cost p.matrix (lone only.0 (Void d) ∷ []) ≡ cond (is_full p.matrix (coordinate (plus (point q) d))) (negsuc 11) (pos 3)) (sym only.2) (void_cost p.matrix only.0 d place);
         held = g;
       }
 
@@ -141,22 +141,22 @@ module _ (p : TapeState) (w : IsWhole p.matrix) (alone : length p.bots ≡ 1) wh
       → IsVoid p.matrix (between (point (spot p.bots)) (plus (point (spot p.bots)) d)) → IsHeld p.harmonics p.matrix
       → Does p (only_bot p.bots alone).0 (SMove d) p.matrix p.harmonics (bots_at p.bots (beside p d)) (pos (2 * mlen d))
   goes d a i v g =
-      let o = only_bot p.bots alone in
+      let only = only_bot p.bots alone in
       record {
-        faultless = move_faults p.matrix p.harmonics o.0 p.energy p.profile d a (in_place p o.0 d o.2 i) (subst (λ (q : Coord). IsVoid p.matrix (between (point q) (plus (point q) d))) o.2 v);
-        matrix_is = untouched p.matrix (lone o.0 (SMove d)) w refl refl;
+        faultless = move_faults p.matrix p.harmonics only.0 p.energy p.profile d a (in_place p only.0 d only.2 i) (subst (λ (q : Coord). IsVoid p.matrix (between (point q) (plus (point q) d))) only.2 v);
+        matrix_is = untouched p.matrix (lone only.0 (SMove d)) w refl refl;
         harmonics_are = refl;
-        bots_are = all_moved p.bots o.0 (beside p d) (coordinate (plus (point o.0.pos) d)) o.1 (ap (λ (q : Coord). coordinate (plus (point q) d)) o.2);
-        cost_is = cost_is p.matrix o.0 (SMove d);
+        bots_are = all_moved p.bots only.0 (beside p d) (coordinate (plus (point only.0.pos) d)) only.1 (ap (λ (q : Coord). coordinate (plus (point q) d)) only.2);
+        cost_is = cost_is p.matrix only.0 (SMove d);
         held = g;
       }
 
   pub halts : IsAllowed p Halt → spot p.bots ≡ origin → p.harmonics ≡ Low → IsHeld p.harmonics p.matrix
       → Does p (only_bot p.bots alone).0 Halt p.matrix p.harmonics [] (pos 0)
   halts a at low g =
-      let o = only_bot p.bots alone in
-      let home : o.0.pos ≡ origin = sym o.2 ∙ at in
-      record { faultless = halt_faults p.matrix p.harmonics o.0 p.energy p.profile a (rw home refl) low; matrix_is = untouched p.matrix (lone o.0 Halt) w refl refl; harmonics_are = refl; bots_are = refl; cost_is = cost_is p.matrix o.0 Halt; held = g }
+      let only = only_bot p.bots alone in
+      let home : only.0.pos ≡ origin = sym only.2 ∙ at in
+      record { faultless = halt_faults p.matrix p.harmonics only.0 p.energy p.profile a (rw home refl) low; matrix_is = untouched p.matrix (lone only.0 Halt) w refl refl; harmonics_are = refl; bots_are = refl; cost_is = cost_is p.matrix only.0 Halt; held = g }
 
 -- ---- many moves along an axis
 
@@ -244,7 +244,7 @@ walked (k ∷ more) p axis a b w g alone i at l may v leg r =
       where
         below : IsOnward a u b → u < p.matrix.resolution
         below (inl h) = omega arith
-        below (inr h) = let m = component_below axis p.matrix.resolution (spot p.bots) i in omega (arith, at, m)
+        below (inr h) = let in_range = component_below axis p.matrix.resolution (spot p.bots) i in omega (arith, at, in_range)
 
     q : TapeState
     q = progress_after p (SMove d) p.matrix p.harmonics (bots_at p.bots (beside p d)) (pos (2 * mlen d))
@@ -254,10 +254,10 @@ walked (k ∷ more) p axis a b w g alone i at l may v leg r =
 
     run : IsRun q
     run =
-        let o = only_bot p.bots alone in
+        let only = only_bot p.bots alone in
         let reaches : IsReachable p d = ap (in_space p.matrix.resolution) to_is ∙ in_space_is p.matrix.resolution (put axis (spot p.bots) u) (put_in_space axis p.matrix.resolution (spot p.bots) u i u_below) in
         let void : IsVoid p.matrix (between (point (spot p.bots)) (plus (point (spot p.bots)) d)) = subst (λ (x : Point). IsVoid p.matrix (between (point (spot p.bots)) x)) (sym to_is) (subst (λ (c : Coord). IsVoid p.matrix (between (point c) (point (put axis (spot p.bots) u)))) from_is (first_void p.matrix axis (spot p.bots) a u b leg.2.onward from_here)) in
-        one_more p o.0 (SMove d) p.matrix p.harmonics (bots_at p.bots (beside p d)) (pos (2 * mlen d)) o.1 r (goes p w alone d (may d) reaches void g)
+        one_more p only.0 (SMove d) p.matrix p.harmonics (bots_at p.bots (beside p d)) (pos (2 * mlen d)) only.1 r (goes p w alone d (may d) reaches void g)
 
     after_all : progress_along q axis u b more ≡ progress_along p axis a b (k ∷ more)
     after_all =
@@ -274,7 +274,7 @@ walked (k ∷ more) p axis a b w g alone i at l may v leg r =
 
 length-joined : (x y z : List Command) → length (x ++ y ++ z) ≡ length x + length y + length z
 length-joined x y z =
-    let a : length (x ++ y ++ z) ≡ length (x ++ y) + length z = length-append (x ++ y) z in
+    let length_sum : length (x ++ y ++ z) ≡ length (x ++ y) + length z = length-append (x ++ y) z in
     let same_length : length (x ++ y) ≡ length x + length y = length-append x y in
     omega arith
 
@@ -301,22 +301,22 @@ paid_all e a b c u g h i = omega (arith, ints)
 module _ (p : TapeState) (to : Coord) (moves : List Command) (legs : AreLegs (spot p.bots) to moves) where
   pub legs_length : length moves ≡ moves_to (spot p.bots) to
   legs_length =
-      let a = legs.along_x.least in
-      let b = legs.along_y.least in
+      let along_x_least = legs.along_x.least in
+      let along_y_least = legs.along_y.least in
       let least = legs.along_z.least in
-      let l = length-joined legs.x legs.y legs.z in
+      let joined_length = length-joined legs.x legs.y legs.z in
       ap length legs.joined ∙ (let length_is : length (legs.x ++ legs.y ++ legs.z) ≡ moves_to (spot p.bots) to = omega arith in length_is)
 
   pub legs_bytes : length (spellings moves) ≡ 2 * moves_to (spot p.bots) to
   legs_bytes =
-      let a = move_bytes X (spot p.bots).x to.x legs.x legs.along_x.leg in
-      let b = move_bytes Y (spot p.bots).y to.y legs.y legs.along_y.leg in
-      let c = move_bytes Z (spot p.bots).z to.z legs.z legs.along_z.leg in
-      let d = legs.along_x.least in
-      let e = legs.along_y.least in
+      let bytes_of_moves = move_bytes X (spot p.bots).x to.x legs.x legs.along_x.leg in
+      let two_bytes_each = move_bytes Y (spot p.bots).y to.y legs.y legs.along_y.leg in
+      let bytes_of_moves_here = move_bytes Z (spot p.bots).z to.z legs.z legs.along_z.leg in
+      let along_x_least = legs.along_x.least in
+      let along_y_least = legs.along_y.least in
       let least = legs.along_z.least in
-      let l = spellings-joined (legs.x ++ legs.y) legs.z in
-      let m = spellings-joined legs.x legs.y in
+      let spellings_length = spellings-joined (legs.x ++ legs.y) legs.z in
+      let spellings_length_here = spellings-joined legs.x legs.y in
       ap (λ (xs : List Command). length (spellings xs)) legs.joined ∙ (let length_is : length (spellings (legs.x ++ legs.y ++ legs.z)) ≡ 2 * moves_to (spot p.bots) to = omega arith in length_is)
 
   module _ (w : IsWhole p.matrix) (g : IsHeld p.harmonics p.matrix) (alone : length p.bots ≡ 1) (i : IsInSpace p.matrix.resolution (spot p.bots)) (t : IsInSpace p.matrix.resolution to) (may : MayMove p) (v : AreVoidTo p.matrix (spot p.bots) to) where

@@ -63,13 +63,13 @@ pub fills_stand : (bots : List Bot) (commands : List Command) → length command
     → AllByRecursion FillsOrWaits commands → map gone (acts bots commands) ≡ bots
 fills_stand [] commands l h = refl
 fills_stand (b ∷ bots) [] l h = absurd (omega arith)
-fills_stand (b ∷ bots) (k ∷ commands) l h = let e = fill_stands b k h.0 in let more = fills_stand bots commands (omega arith) h.1 in λ i. e i ∷ more i
+fills_stand (b ∷ bots) (k ∷ commands) l h = let bot_stands = fill_stands b k h.0 in let more = fills_stand bots commands (omega arith) h.1 in λ i. bot_stands i ∷ more i
 
 none_voided : (c : Coord) (bots : List Bot) (commands : List Command) → AllByRecursion FillsOrWaits commands
     → is_voided (acts bots commands) c ≡ false
 none_voided c [] commands h = refl
 none_voided c (b ∷ bots) [] h = refl
-none_voided c (b ∷ bots) (k ∷ commands) h = let e = fill_voids_none (point b.pos) k h.0 in let more = none_voided c bots commands h.1 in λ i. list_any (λ (s : Span). is_within s (point c)) (e i) || more i
+none_voided c (b ∷ bots) (k ∷ commands) h = let voids_none = fill_voids_none (point b.pos) k h.0 in let more = none_voided c bots commands h.1 in λ i. list_any (λ (s : Span). is_within s (point c)) (voids_none i) || more i
 
 and_all : (b : Bool) → (b && not false) ≡ b
 and_all true = refl
@@ -112,7 +112,7 @@ all_parts : (all : List Act) (bots : List Bot) (commands : List Command) → All
     ≡ flat_map (λ a. parts a a.command) (acts bots commands)
 all_parts all [] commands h = refl
 all_parts all (b ∷ bots) [] h = refl
-all_parts all (b ∷ bots) (k ∷ commands) h = let e = split_parts all (record { bot = b; command = k }) k h.0 in let more = all_parts all bots commands h.1 in λ i. e i ++ more i
+all_parts all (b ∷ bots) (k ∷ commands) h = let parts_of_split = split_parts all (record { bot = b; command = k }) k h.0 in let more = all_parts all bots commands h.1 in λ i. parts_of_split i ++ more i
 
 pub splits_part : (bots : List Bot) (commands : List Command) → AllByRecursion SplitsOrWaits commands
     → bots_after (acts bots commands) ≡ bots_split bots commands
@@ -153,7 +153,7 @@ bid_stays all a _ x h i = absurd h
 fused_first : (all : List Act) (a : Act) (k : Command) (rest : List Bot) → FusesOrWaits k
     → ((c : Bot) → In c rest → a.bot.bid < c.bid) → Rising rest → Rising (successors all a k ++ rest)
 fused_first all a Wait rest h later up = (later, up)
-fused_first all a (FusionP d) rest h later up = ((λ c i. let l = later c i in let e = fused_bid a (find (is_pair a) all) in omega arith), up)
+fused_first all a (FusionP d) rest h later up = ((λ c i. let later_on = later c i in let same_bid = fused_bid a (find (is_pair a) all) in omega arith), up)
 fused_first all a (FusionS d) rest h later up = up
 fused_first all a _ rest h later up = absurd h
 
@@ -164,10 +164,10 @@ fused_rise all (a ∷ more) h up = fused_first all a a.command (flat_map (λ b. 
   where
     later : (c : Bot) → In c (flat_map (λ b. successors all b b.command) more) → a.bot.bid < c.bid
     later c i =
-        let w = flat_in (λ (b : Act). successors all b b.command) c more i in
-        let e = bid_stays all w.0 w.0.command c (all_by (λ (b : Act). FusesOrWaits b.command) more w.0 h.1 w.1) w.2 in
-        let l = up.0 w.0.bot (in_map (λ (b : Act). b.bot) w.0 more w.1) in
-        subst (λ (n : ℕ). a.bot.bid < n) (sym e) l
+        let origin = flat_in (λ (b : Act). successors all b b.command) c more i in
+        let same_bid = bid_stays all origin.0 origin.0.command c (all_by (λ (b : Act). FusesOrWaits b.command) more origin.0 h.1 origin.1) origin.2 in
+        let l = up.0 origin.0.bot (in_map (λ (b : Act). b.bot) origin.0 more origin.1) in
+        subst (λ (n : ℕ). a.bot.bid < n) (sym same_bid) l
 
 bots_of : (bots : List Bot) (commands : List Command) → length commands ≡ length bots
     → map (λ a. a.bot) (acts bots commands) ≡ bots

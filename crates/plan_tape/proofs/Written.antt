@@ -120,9 +120,9 @@ module _ (inside old : TapeState) (e : inside ≡ old) (r : IsReached inside) (c
       → Makes old (now_of inside commands inside.matrix harmonics inside.bots energy 1) Flip old.matrix (flipped old.harmonics) old.bots (pos 0)
   flip_makes harmonics = subst (λ (o : TapeState). length o.bots ≡ 1 → IsAllowed o Flip → IsHeld (flipped o.harmonics) o.matrix → o.steps < 1073741824 → commands ≡ inside.commands ++ Flip ∷ [] → harmonics ≡ flipped inside.harmonics → IsCharged o 1 (pos 0) energy → Makes o (now_of inside commands inside.matrix harmonics inside.bots energy 1) Flip o.matrix (flipped o.harmonics) o.bots (pos 0)) e
       (λ l a g n ec eh ee.
-      let o = only_bot inside.bots l in
-      let w = made inside Flip inside.matrix (flipped inside.harmonics) inside.bots (pos 0) commands inside.matrix harmonics inside.bots energy ec refl eh refl ee in
-      record { reached = reached inside _ o.0 Flip inside.matrix (flipped inside.harmonics) inside.bots (pos 0) o.1 r (flips inside r.whole l a g) r.whole r.placed n w ee.bounded; writes = w })
+      let only = only_bot inside.bots l in
+      let made_so = made inside Flip inside.matrix (flipped inside.harmonics) inside.bots (pos 0) commands inside.matrix harmonics inside.bots energy ec refl eh refl ee in
+      record { reached = reached inside _ only.0 Flip inside.matrix (flipped inside.harmonics) inside.bots (pos 0) only.1 r (flips inside r.whole l a g) r.whole r.placed n made_so ee.bounded; writes = made_so })
 
   pub fill_makes : (d : Diff) (matrix : Matrix) → length old.bots ≡ 1 → IsAllowed old (Fill d) → IsReachable old d
       → IsHeld old.harmonics (with_voxel old.matrix (beside old d) true) → old.steps < 1073741824
@@ -132,9 +132,9 @@ module _ (inside old : TapeState) (e : inside ≡ old) (r : IsReached inside) (c
       (with_voxel old.matrix (beside old d) true) old.harmonics old.bots (cond (is_full old.matrix (beside old d)) (pos 6) (pos 12))
   fill_makes d matrix = subst (λ (o : TapeState). length o.bots ≡ 1 → IsAllowed o (Fill d) → IsReachable o d → IsHeld o.harmonics (with_voxel o.matrix (beside o d) true) → o.steps < 1073741824 → commands ≡ inside.commands ++ Fill d ∷ [] → matrix ≡ with_voxel inside.matrix (beside o d) true → IsWhole matrix → IsCharged o 1 (cond (is_full o.matrix (beside o d)) (pos 6) (pos 12)) energy → Makes o (now_of inside commands matrix inside.harmonics inside.bots energy 1) (Fill d) (with_voxel o.matrix (beside o d) true) o.harmonics o.bots (cond (is_full o.matrix (beside o d)) (pos 6) (pos 12))) e
       (λ l a i g n ec em w ee.
-      let o = only_bot inside.bots l in
-      let s = made inside (Fill d) (with_voxel inside.matrix (beside inside d) true) inside.harmonics inside.bots (cond (is_full inside.matrix (beside inside d)) (pos 6) (pos 12)) commands matrix inside.harmonics inside.bots energy ec em refl refl ee in
-      record { reached = reached inside _ o.0 (Fill d) _ inside.harmonics inside.bots _ o.1 r (fills inside r.whole l d a i g) w r.placed n s ee.bounded; writes = s })
+      let only = only_bot inside.bots l in
+      let made_so = made inside (Fill d) (with_voxel inside.matrix (beside inside d) true) inside.harmonics inside.bots (cond (is_full inside.matrix (beside inside d)) (pos 6) (pos 12)) commands matrix inside.harmonics inside.bots energy ec em refl refl ee in
+      record { reached = reached inside _ only.0 (Fill d) _ inside.harmonics inside.bots _ only.1 r (fills inside r.whole l d a i g) w r.placed n made_so ee.bounded; writes = made_so })
 
   pub void_makes : (d : Diff) (matrix : Matrix) → length old.bots ≡ 1 → IsAllowed old (Void d) → IsReachable old d
       → IsHeld old.harmonics (with_voxel old.matrix (beside old d) false) → old.steps < 1073741824
@@ -144,9 +144,9 @@ module _ (inside old : TapeState) (e : inside ≡ old) (r : IsReached inside) (c
       (with_voxel old.matrix (beside old d) false) old.harmonics old.bots (cond (is_full old.matrix (beside old d)) (negsuc 11) (pos 3))
   void_makes d matrix = subst (λ (o : TapeState). length o.bots ≡ 1 → IsAllowed o (Void d) → IsReachable o d → IsHeld o.harmonics (with_voxel o.matrix (beside o d) false) → o.steps < 1073741824 → commands ≡ inside.commands ++ Void d ∷ [] → matrix ≡ with_voxel inside.matrix (beside o d) false → IsWhole matrix → IsCharged o 1 (cond (is_full o.matrix (beside o d)) (negsuc 11) (pos 3)) energy → Makes o (now_of inside commands matrix inside.harmonics inside.bots energy 1) (Void d) (with_voxel o.matrix (beside o d) false) o.harmonics o.bots (cond (is_full o.matrix (beside o d)) (negsuc 11) (pos 3))) e
       (λ l a i g n ec em w ee.
-      let o = only_bot inside.bots l in
-      let s = made inside (Void d) (with_voxel inside.matrix (beside inside d) false) inside.harmonics inside.bots (cond (is_full inside.matrix (beside inside d)) (negsuc 11) (pos 3)) commands matrix inside.harmonics inside.bots energy ec em refl refl ee in
-      record { reached = reached inside _ o.0 (Void d) _ inside.harmonics inside.bots _ o.1 r (voids inside r.whole l d a i g) w r.placed n s ee.bounded; writes = s })
+      let only = only_bot inside.bots l in
+      let made_so = made inside (Void d) (with_voxel inside.matrix (beside inside d) false) inside.harmonics inside.bots (cond (is_full inside.matrix (beside inside d)) (negsuc 11) (pos 3)) commands matrix inside.harmonics inside.bots energy ec em refl refl ee in
+      record { reached = reached inside _ only.0 (Void d) _ inside.harmonics inside.bots _ only.1 r (voids inside r.whole l d a i g) w r.placed n made_so ee.bounded; writes = made_so })
 
   pub halt_makes : (bots : List Bot) → length old.bots ≡ 1 → IsAllowed old Halt → spot old.bots ≡ origin
       → old.harmonics ≡ Low → old.steps < 1073741824 → commands ≡ inside.commands ++ Halt ∷ [] → bots ≡ []
@@ -154,6 +154,6 @@ module _ (inside old : TapeState) (e : inside ≡ old) (r : IsReached inside) (c
       → Makes old (now_of inside commands inside.matrix inside.harmonics bots energy 1) Halt old.matrix old.harmonics [] (pos 0)
   halt_makes bots = subst (λ (o : TapeState). length o.bots ≡ 1 → IsAllowed o Halt → spot o.bots ≡ origin → o.harmonics ≡ Low → o.steps < 1073741824 → commands ≡ inside.commands ++ Halt ∷ [] → bots ≡ [] → IsCharged o 1 (pos 0) energy → Makes o (now_of inside commands inside.matrix inside.harmonics bots energy 1) Halt o.matrix o.harmonics [] (pos 0)) e
       (λ l a i g n ec eb ee.
-      let o = only_bot inside.bots l in
-      let w = made inside Halt inside.matrix inside.harmonics [] (pos 0) commands inside.matrix inside.harmonics bots energy ec refl refl eb ee in
-      record { reached = reached inside _ o.0 Halt inside.matrix inside.harmonics [] (pos 0) o.1 r (halts inside r.whole l a i g r.held) r.whole (λ k c m. absurd (omega arith)) n w ee.bounded; writes = w })
+      let only = only_bot inside.bots l in
+      let made_so = made inside Halt inside.matrix inside.harmonics [] (pos 0) commands inside.matrix inside.harmonics bots energy ec refl refl eb ee in
+      record { reached = reached inside _ only.0 Halt inside.matrix inside.harmonics [] (pos 0) only.1 r (halts inside r.whole l a i g r.held) r.whole (λ k c m. absurd (omega arith)) n made_so ee.bounded; writes = made_so })

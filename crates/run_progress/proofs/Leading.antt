@@ -60,8 +60,8 @@ module _ (target : Matrix) (p : Progress) (rest : List Command) (v : Verdict) (w
   gone : (t : State) → Next p.state p.pending (p.steps + 1) (Goes t) → Run target t rest (p.steps + 1) v
       → Run target p.state (p.pending ++ rest) p.steps v
   gone t next run =
-      let b = some_bot p.state.bots 0 some in
-      goes {bot = b.0} {bots = b.1} {t = t} b.2
+      let first_bot = some_bot p.state.bots 0 some in
+      goes {bot = first_bot.0} {bots = first_bot.1} {t = t} first_bot.2
       (subst (λ (k : List Command). Next p.state k (p.steps + 1) (Goes t)) (sym front) next)
       (subst (λ (k : List Command). Run target t k (p.steps + 1) v) (sym back) run)
 
@@ -106,9 +106,9 @@ one_more target p q command rest v keeps pushes leads = by p.mark refl keeps pus
   where
     by : (m : Mark) → p.mark ≡ m → KeepsAt m p → PushesAt m p command q → LeadsAt m target p (command ∷ rest) v
     by Running e keeps joins =
-        let n = more p command in
+        let more_here = more p command in
         subst (λ (k : List Command). Run target p.state k p.steps v) (append_assoc p.pending (command ∷ []) rest)
-        (joined target (with_command p command) q rest v e (omega (arith, n)) (omega (arith, n, keeps)) joins leads)
+        (joined target (with_command p command) q rest v e (omega (arith, more_here)) (omega (arith, more_here, keeps)) joins leads)
     by (Refused b) e keeps same = subst (λ (m : Mark). LeadsAt m target p rest v) e (subst (λ (x : Progress). Leads target x rest v) same leads)
     by Halted e keeps followed = subst (λ (x : Progress). Leads target x rest v) followed leads
     by Followed e keeps same = subst (λ (m : Mark). LeadsAt m target p rest v) e (subst (λ (x : Progress). Leads target x rest v) same leads)
@@ -137,7 +137,7 @@ keeps_pushed : (p q : Progress) (command : Command) → Keeps p → Pushes p com
 keeps_pushed p q command keeps pushes = by p.mark refl keeps pushes
   where
     by : (m : Mark) → p.mark ≡ m → KeepsAt m p → PushesAt m p command q → Keeps q
-    by Running e keeps joins = let n = more p command in keeps_joined (with_command p command) q e (omega (arith, n, keeps)) joins
+    by Running e keeps joins = let more_here = more p command in keeps_joined (with_command p command) q e (omega (arith, more_here, keeps)) joins
     by (Refused b) e keeps same = subst Keeps (sym same) (subst (λ (m : Mark). KeepsAt m p) (sym e) tt)
     by Halted e keeps followed = subst Keeps (sym followed) tt
     by Followed e keeps same = subst Keeps (sym same) (subst (λ (m : Mark). KeepsAt m p) (sym e) tt)

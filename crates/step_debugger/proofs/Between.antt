@@ -59,24 +59,24 @@ module _ (s : State) (all : List Act) (good : IsGood s all) (begun : List ℕ) (
 
   in_done : (l : Act) → In l (acts_of all begun) → In l all × (leads_in begun l ≡ true)
   in_done l i =
-      let r = flat_in (λ k. filter (λ (a : Act). a.bot.bid == k) all) l begun i in
-      let f = filter_in (λ (a : Act). a.bot.bid == r.0) l all r.2 in
-      (f.0, in_any (λ k. k == l.bot.bid) r.0 begun r.1 (same_test r.0 l.bot.bid (sym (test_is l.bot.bid r.0 f.1))))
+      let origin = flat_in (λ k. filter (λ (a : Act). a.bot.bid == k) all) l begun i in
+      let passed = filter_in (λ (a : Act). a.bot.bid == origin.0) l all origin.2 in
+      (passed.0, in_any (λ k. k == l.bot.bid) origin.0 begun origin.1 (same_test origin.0 l.bot.bid (sym (test_is l.bot.bid origin.0 passed.1))))
 
   done_in : (l : Act) → In l all → leads_in begun l ≡ true → In l (acts_of all begun)
   done_in l i h =
-      let r = any_in (λ k. k == l.bot.bid) begun h in
-      in_flat (λ k. filter (λ (a : Act). a.bot.bid == k) all) r.0 l begun r.1 (in_filter (λ (a : Act). a.bot.bid == r.0) l all i (same_test l.bot.bid r.0 (sym (test_is r.0 l.bot.bid r.2))))
+      let witness = any_in (λ k. k == l.bot.bid) begun h in
+      in_flat (λ k. filter (λ (a : Act). a.bot.bid == k) all) witness.0 l begun witness.1 (in_filter (λ (a : Act). a.bot.bid == witness.0) l all i (same_test l.bot.bid witness.0 (sym (test_is witness.0 l.bot.bid witness.2))))
 
   -- a leader that edits what some act of the begun groups edits
   leader_of_edit : (full : Bool) → is_changed full (taken_acts all (acts_of all begun)) c ≡ true
       → (l : Act) × In l all × (leads_in begun l ≡ true) × (is_edited full l c ≡ true)
   leader_of_edit full h =
-      let a = any_in (λ (x : Act). is_edited full x c) (taken_acts all (acts_of all begun)) h in
-      let f = filter_in (is_taken (acts_of all begun)) a.0 all a.1 in
-      let l = any_in (λ (d : Act). are_together d a.0) (acts_of all begun) f.1 in
-      let k = in_done l.0 l.1 in
-      (l.0, k.0, k.1, same_edit full l.0 a.0 c (λ e. good.apart.bids l.0 a.0 k.0 f.0 e) (together_is l.0 a.0 l.2) a.2)
+      let witness = any_in (λ (x : Act). is_edited full x c) (taken_acts all (acts_of all begun)) h in
+      let passed = filter_in (is_taken (acts_of all begun)) witness.0 all witness.1 in
+      let its_witness = any_in (λ (d : Act). are_together d witness.0) (acts_of all begun) passed.1 in
+      let in_list = in_done its_witness.0 its_witness.1 in
+      (its_witness.0, in_list.0, in_list.1, same_edit full its_witness.0 witness.0 c (λ e. good.apart.bids its_witness.0 witness.0 in_list.0 passed.0 e) (together_is its_witness.0 witness.0 its_witness.2) witness.2)
 
   edit_of_leader : (full : Bool) (l : Act) → In l all → leads_in begun l ≡ true → is_edited full l c ≡ true
       → is_changed full (taken_acts all (acts_of all begun)) c ≡ true
@@ -86,7 +86,9 @@ module _ (s : State) (all : List Act) (good : IsGood s all) (begun : List ℕ) (
 
   some_edit : (full : Bool) → is_changed full (taken_acts all (acts_of all begun)) c ≡ true
       → is_changed full all c ≡ true
-  some_edit full h = let l = leader_of_edit full h in in_any (λ (x : Act). is_edited full x c) l.0 all l.1 l.3
+  some_edit full h =
+      let editing_leader = leader_of_edit full h in
+      in_any (λ (x : Act). is_edited full x c) editing_leader.0 all editing_leader.1 editing_leader.3
 
   full_is : is_full (matrix_after s.matrix (taken_acts all (acts_of all begun))) c
       ≡ (is_filled (taken_acts all (acts_of all begun)) c || (is_full s.matrix c && not (is_voided (taken_acts all (acts_of all begun)) c)))
@@ -97,7 +99,7 @@ module _ (s : State) (all : List Act) (good : IsGood s all) (begun : List ℕ) (
   untouched h = full_is ∙ ((λ i. filled i || (is_full s.matrix c && not (voided i))) ∙ stays_so (is_full s.matrix c))
     where
       none : (full : Bool) → is_changed full (taken_acts all (acts_of all begun)) c ≡ false
-      none full = false_by (is_changed full (taken_acts all (acts_of all begun)) c) (λ g. let l = leader_of_edit full g in not_both l.3 (h l.0 l.1 l.2 full))
+      none full = false_by (is_changed full (taken_acts all (acts_of all begun)) c) (λ g. let editing_leader = leader_of_edit full g in not_both editing_leader.3 (h editing_leader.0 editing_leader.1 editing_leader.2 full))
 
       filled : is_filled (taken_acts all (acts_of all begun)) c ≡ false
       filled = none false
@@ -160,30 +162,30 @@ act_at (x ∷ bots) (y ∷ commands) (suc i) b k a l m = act_at bots commands i 
 pub acts_short : (bots : List Bot) (commands : List Command) → length (acts bots commands) ≤ length commands
 acts_short [] commands = omega arith
 acts_short (b ∷ bots) [] = omega arith
-acts_short (b ∷ bots) (k ∷ commands) = let r = acts_short bots commands in omega arith
+acts_short (b ∷ bots) (k ∷ commands) = let acts_bound = acts_short bots commands in omega arith
 
 acts_long : (bots : List Bot) (commands : List Command) (i : ℕ) → i < length bots → i < length commands
     → i < length (acts bots commands)
 acts_long [] commands i l m = absurd (omega arith)
 acts_long (x ∷ bots) [] i l m = absurd (omega arith)
 acts_long (x ∷ bots) (y ∷ commands) zero l m = omega arith
-acts_long (x ∷ bots) (y ∷ commands) (suc i) l m = let r = acts_long bots commands i (omega arith) (omega arith) in omega (arith, r)
+acts_long (x ∷ bots) (y ∷ commands) (suc i) l m = let place_in_acts = acts_long bots commands i (omega arith) (omega arith) in omega (arith, place_in_acts)
 
 acts_many : (bots : List Bot) (commands : List Command) → length (acts bots commands) ≤ length bots
 acts_many [] commands = omega arith
 acts_many (b ∷ bots) [] = omega arith
-acts_many (b ∷ bots) (k ∷ commands) = let r = acts_many bots commands in omega arith
+acts_many (b ∷ bots) (k ∷ commands) = let acts_bound = acts_many bots commands in omega arith
 
 module _ (s : State) (next : List Command) (step : ℕ) (ready : IsReady s) (keeps : broken s next step ≡ None) (begun : List ℕ) (c : Coord) (within : IsInSpace s.matrix.resolution c) where
   as_many : length (acts s.bots next) ≡ length s.bots
   as_many = sym (length-map (acts s.bots next) (λ (a : Act). a.bot)) ∙ ap length (bots_of s next step ready keeps)
 
   pub has_command : (i : ℕ) → i < length s.bots → i < length next
-  has_command i l = let m = as_many in let n = acts_short s.bots next in omega (arith, l, m, n)
+  has_command i l = let same_length = as_many in let acts_bound = acts_short s.bots next in omega (arith, l, same_length, acts_bound)
 
   module _ (bots : List Bot) (same : bots ≡ s.bots) (i : ℕ) (below : i < length bots) (b d : Bot) (k e : Command) (bot : b ≡ get_or bots i d) (command : k ≡ get_or next i e) where
     here_below : i < length s.bots
-    here_below = let n = ap length same in omega (arith, below, n)
+    here_below = let length_is = ap length same in omega (arith, below, length_is)
 
     act_here : (a : Act) → get_or (acts s.bots next) i a ≡ act b k
     act_here a = act_at s.bots next i d e a here_below (has_command i here_below) ∙ (λ j. act (sym (bot ∙ ap (λ (bs : List Bot). get_or bs i d) same) j) (sym command j))
@@ -220,19 +222,19 @@ module _ (s : State) (next : List Command) (step : ℕ) (ready : IsReady s) (kee
   pub all_kept : (i : ℕ) → length s.bots ≤ i → AreKeptBy begun c (acts s.bots next) i
       → is_full (matrix_after_some s next begun) c ≡ is_full s.matrix c
   all_kept i past h = untouched s (acts s.bots next) (good_is s next step ready keeps) begun c within (λ a j.
-      let p = in_place a a (acts s.bots next) j in
-      subst (λ (x : Act). IsKeptBy begun c x) p.2 (h p.0 a (let l = p.1 in let m = acts_many s.bots next in omega (arith, l, m, past)) p.1))
+      let place = in_place a a (acts s.bots next) j in
+      subst (λ (x : Act). IsKeptBy begun c x) place.2 (h place.0 a (let l = place.1 in let acts_bound = acts_many s.bots next in omega (arith, l, acts_bound, past)) place.1))
 
 -- ---- which bids stand in a list
 
 pub unfound : (bids : List ℕ) (bid : ℕ) (place : Option ℕ) (none : Bool) → is_some place ≡ not none → none ≡ true
     → IfNone place (list_any (λ k. k == bid) bids ≡ false) → list_any (λ k. k == bid) bids ≡ false
 unfound bids bid None none e f h = h
-unfound bids bid (Some i) none e f h = absurd (let g : true ≡ not true = e ∙ ap not f in cc)
+unfound bids bid (Some i) none e f h = absurd (let not_holds : true ≡ not true = e ∙ ap not f in cc)
 
 pub found : (bids : List ℕ) (bid : ℕ) (place : Option ℕ) (none : Bool) → is_some place ≡ not none → none ≡ false
     → IfSome place (λ i. (i < length bids) × (get_or bids i 0 ≡ bid)) → list_any (λ k. k == bid) bids ≡ true
-found bids bid None none e f h = absurd (let g : false ≡ not false = e ∙ ap not f in cc)
+found bids bid None none e f h = absurd (let not_not : false ≡ not false = e ∙ ap not f in cc)
 found bids bid (Some i) none e f h = any_here bids i bid h.0 h.1
 
 -- ---- the voxel of the middle state

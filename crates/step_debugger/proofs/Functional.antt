@@ -69,7 +69,7 @@ goes_back_once (b ∷ begun) s t u r q h k = both_are t u _ r q _ h k
 
 same_some : (o : Option State) (m n : State) → o ≡ Some m → o ≡ Some n → m ≡ n
 same_some None m n e f = cc
-same_some (Some x) m n e f = let a : x ≡ m = cc in let b : x ≡ n = cc in sym a ∙ b
+same_some (Some x) m n e f = let x_is_m : x ≡ m = cc in let x_is_n : x ≡ n = cc in sym x_is_m ∙ x_is_n
 
 pub answered_once : (commands : List Command) (line : DebugLine) (s t u : Session) (r q : DebugReport)
     → AnswersLine commands line s t r → AnswersLine commands line s u q → AreOne t u r q

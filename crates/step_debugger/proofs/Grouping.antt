@@ -41,10 +41,10 @@ count_differ : {X : Type 0} (key : X → ℕ) (xs : List X) (bid : ℕ) → Diff
     → count_by (λ k. k == bid) (map key xs) ≤ 1
 count_differ key [] bid h = omega arith
 count_differ {X} key (x ∷ xs) bid h =
-    let e : count_by (λ k. k == bid) (key x ∷ map key xs) ≡ cond (key x == bid) 1 0 + count_by (λ k. k == bid) (map key xs) = sum_by-cons (λ k. cond {A = ℕ} (k == bid) 1 0) (key x) (map key xs) in
-    let r = count_differ key xs bid h.1 in
-    let one : cond (key x == bid) 1 0 + count_by (λ k. k == bid) (map key xs) ≤ 1 = by (key x == bid) refl r in
-    omega (arith, e, one)
+    let sum_is : count_by (λ k. k == bid) (key x ∷ map key xs) ≡ cond (key x == bid) 1 0 + count_by (λ k. k == bid) (map key xs) = sum_by-cons (λ k. cond {A = ℕ} (k == bid) 1 0) (key x) (map key xs) in
+    let count_bound = count_differ key xs bid h.1 in
+    let one : cond (key x == bid) 1 0 + count_by (λ k. k == bid) (map key xs) ≤ 1 = by (key x == bid) refl count_bound in
+    omega (arith, sum_is, one)
   where
     test_is : (a b : ℕ) → (a == b) ≡ true → a ≡ b
     test_is a b t = grind (arith, nat_tests)
@@ -52,10 +52,10 @@ count_differ {X} key (x ∷ xs) bid h =
     none : (ys : List ℕ) → ((y : ℕ) → In y ys → (y == bid) ≡ true → ⊥) → count_by (λ k. k == bid) ys ≡ 0
     none [] n = refl
     none (y ∷ ys) n =
-        let e : count_by (λ k. k == bid) (y ∷ ys) ≡ cond (y == bid) 1 0 + count_by (λ k. k == bid) ys = sum_by-cons (λ k. cond {A = ℕ} (k == bid) 1 0) y ys in
-        let r = none ys (λ z i. n z (inr i)) in
-        let z : cond {A = ℕ} (y == bid) 1 0 ≡ 0 = zero_of (y == bid) (n y (inl refl)) in
-        omega (arith, e, r, z)
+        let sum_is : count_by (λ k. k == bid) (y ∷ ys) ≡ cond (y == bid) 1 0 + count_by (λ k. k == bid) ys = sum_by-cons (λ k. cond {A = ℕ} (k == bid) 1 0) y ys in
+        let none_there = none ys (λ z i. n z (inr i)) in
+        let choice_zero : cond {A = ℕ} (y == bid) 1 0 ≡ 0 = zero_of (y == bid) (n y (inl refl)) in
+        omega (arith, sum_is, none_there, choice_zero)
       where
         zero_of : (b : Bool) → (b ≡ true → ⊥) → cond {A = ℕ} b 1 0 ≡ 0
         zero_of true m = absurd (m refl)
@@ -65,8 +65,8 @@ count_differ {X} key (x ∷ xs) bid h =
         → cond b 1 0 + count_by (λ k. k == bid) (map key xs) ≤ 1
     by false t r = omega arith
     by true t r =
-        let n = none (map key xs) (λ y i f. let m = map_in key y xs i in h.0 m.0 m.1 (test_is (key x) bid t ∙ (sym (test_is y bid f) ∙ m.2))) in
-        omega (arith, n)
+        let none_there = none (map key xs) (λ y i f. let origin = map_in key y xs i in h.0 origin.0 origin.1 (test_is (key x) bid t ∙ (sym (test_is y bid f) ∙ origin.2))) in
+        omega (arith, none_there)
 
 pub leaders_differ : (bots : List Bot) (commands : List Command) (ready : Rising bots) → length commands ≡ length bots
     → (bid : ℕ) → count_by (λ k. k == bid) (leader_bids (acts bots commands)) ≤ 1
@@ -86,14 +86,14 @@ differ_seen s d e ready all bid =
 counted : (xs : List ℕ) (bid : ℕ) → list_any (λ k. k == bid) xs ≡ true → 1 ≤ count_by (λ k. k == bid) xs
 counted [] bid h = cc
 counted (x ∷ xs) bid h =
-    let e : count_by (λ k. k == bid) (x ∷ xs) ≡ cond (x == bid) 1 0 + count_by (λ k. k == bid) xs = sum_by-cons (λ k. cond {A = ℕ} (k == bid) 1 0) x xs in
-    let l : 1 ≤ cond (x == bid) 1 0 + count_by (λ k. k == bid) xs = by (x == bid) refl (λ f. counted xs bid f) h in
-    omega (arith, e, l)
+    let sum_is : count_by (λ k. k == bid) (x ∷ xs) ≡ cond (x == bid) 1 0 + count_by (λ k. k == bid) xs = sum_by-cons (λ k. cond {A = ℕ} (k == bid) 1 0) x xs in
+    let some_sum : 1 ≤ cond (x == bid) 1 0 + count_by (λ k. k == bid) xs = by (x == bid) refl (λ f. counted xs bid f) h in
+    omega (arith, sum_is, some_sum)
   where
     by : (b : Bool) → (x == bid) ≡ b → (list_any (λ k. k == bid) xs ≡ true → 1 ≤ count_by (λ k. k == bid) xs)
         → (b || list_any (λ k. k == bid) xs) ≡ true → 1 ≤ cond b 1 0 + count_by (λ k. k == bid) xs
     by true t later f = omega arith
-    by false t later f = let l = later f in omega (arith, l)
+    by false t later f = let later_on = later f in omega (arith, later_on)
 
 any_append : (p : ℕ → Bool) (xs ys : List ℕ) → list_any p (xs ++ ys) ≡ (list_any p xs || list_any p ys)
 any_append p [] ys = refl
@@ -118,7 +118,7 @@ any_here (x ∷ xs) (suc i) bid l e = or_true (x == bid) (list_any (λ k. k == b
 -- a bid that stands at no place
 pub not_found : (xs : List ℕ) (bid i : ℕ) → length xs ≤ i → ((k : ℕ) → k < i → get_or xs k 0 ≡ bid → ⊥)
     → list_any (λ k. k == bid) xs ≡ false
-not_found xs bid i past none = none_any (λ k. k == bid) xs (λ x m t. let p = in_place x 0 xs m in none p.0 (let l = p.1 in omega (arith, l, past)) (p.2 ∙ same x t))
+not_found xs bid i past none = none_any (λ k. k == bid) xs (λ x m t. let place = in_place x 0 xs m in none place.0 (let l = place.1 in omega (arith, l, past)) (place.2 ∙ same x t))
   where
     same : (a : ℕ) → (a == bid) ≡ true → a ≡ bid
     same a t = grind (arith, nat_tests)
@@ -135,16 +135,16 @@ module _ (commands : List Command) (s : Session) (left : List ℕ) (perm : IsPer
 
   count_is : (bid : ℕ) → count_by (λ k. k == bid) s.begun + count_by (λ k. k == bid) left ≤ 1
   count_is bid =
-      let e : count_by (λ k. k == bid) (s.begun ++ left) ≡ count_by (λ k. k == bid) (next_leaders commands s.point) = sum_by-IsPermutation (λ k. cond {A = ℕ} (k == bid) 1 0) (next_leaders commands s.point) (s.begun ++ left) perm in
-      let a : count_by (λ k. k == bid) (s.begun ++ left) ≡ count_by (λ k. k == bid) s.begun + count_by (λ k. k == bid) left = sum_by-append (λ k. cond {A = ℕ} (k == bid) 1 0) s.begun left in
-      let d = differ bid in
-      omega (arith, e, a, d)
+      let same_count : count_by (λ k. k == bid) (s.begun ++ left) ≡ count_by (λ k. k == bid) (next_leaders commands s.point) = sum_by-IsPermutation (λ k. cond {A = ℕ} (k == bid) 1 0) (next_leaders commands s.point) (s.begun ++ left) perm in
+      let count_sum : count_by (λ k. k == bid) (s.begun ++ left) ≡ count_by (λ k. k == bid) s.begun + count_by (λ k. k == bid) left = sum_by-append (λ k. cond {A = ℕ} (k == bid) 1 0) s.begun left in
+      let they_differ = differ bid in
+      omega (arith, same_count, count_sum, they_differ)
 
   pub may_begin_is : (bid i : ℕ) → i < length left → get_or left i 0 ≡ bid → may_begin commands s bid ≡ true
   may_begin_is bid i l e =
       let there = any_here left i bid l e in
       (λ j. any_is bid j && not (list_any (λ k. k == bid) s.begun))
-      ∙ on (list_any (λ k. k == bid) s.begun) (list_any (λ k. k == bid) left) there (λ f. let c = counted s.begun bid f in let k = counted left bid there in let m = count_is bid in omega (arith, c, k, m))
+      ∙ on (list_any (λ k. k == bid) s.begun) (list_any (λ k. k == bid) left) there (λ f. let counted_here = counted s.begun bid f in let counted_here_too = counted left bid there in let counts_bound = count_is bid in omega (arith, counted_here, counted_here_too, counts_bound))
     where
       on : (x y : Bool) → y ≡ true → (x ≡ true → ⊥) → ((x || y) && not x) ≡ true
       on true y f n = absurd (n refl)
@@ -158,16 +158,16 @@ module _ (commands : List Command) (s : Session) (left : List ℕ) (perm : IsPer
       on false y g = ap (λ z. z && true) g
 
   length_is : length (next_leaders commands s.point) ≡ length s.begun + length left
-  length_is = let p = length_permutation (next_leaders commands s.point) (s.begun ++ left) perm in let a = length-append s.begun left in omega (arith, p, a)
+  length_is = let same_length = length_permutation (next_leaders commands s.point) (s.begun ++ left) perm in let joined_length = length-append s.begun left in omega (arith, same_length, joined_length)
 
   pub is_last_is : length left ≡ 1 → is_last commands s ≡ true
-  is_last_is e = let l = length_is in same (length s.begun + 1) (length (next_leaders commands s.point)) (omega (arith, l, e))
+  is_last_is e = let length_here = length_is in same (length s.begun + 1) (length (next_leaders commands s.point)) (omega (arith, length_here, e))
     where
       same : (a b : ℕ) → a ≡ b → (a == b) ≡ true
       same a b f = grind (arith, nat_tests)
 
   pub is_not_last : 1 < length left → is_last commands s ≡ false
-  is_not_last m = let l = length_is in other (length s.begun + 1) (length (next_leaders commands s.point)) (omega (arith, l, m))
+  is_not_last m = let length_here = length_is in other (length s.begun + 1) (length (next_leaders commands s.point)) (omega (arith, length_here, m))
     where
       other : (a b : ℕ) → a < b → (a == b) ≡ false
       other a b f = grind (arith, nat_tests)

@@ -25,12 +25,12 @@ use Rattle.step_debugger.proofs.Notes.{lead_drop, lead_more, points_latest, poin
 use Rattle.step_debugger.proofs.Returning.{fit}
 
 take_long : (n : ℕ) (xs : List Command) → length (take n xs) ≡ n → n ≤ length xs
-take_long n xs e = let l = length-take n xs in omega (arith, l)
+take_long n xs e = let length_taken = length-take n xs in omega (arith, length_taken)
 
 halted_is : (b : Bool) (bots : List Bot) → (b ≡ true ↔ bots ≡ []) → b ≡ none_left bots
 halted_is b [] h = h.1 refl
 halted_is false (x ∷ bots) h = refl
-halted_is true (x ∷ bots) h = let e : x ∷ bots ≡ [] = h.0 refl in cc
+halted_is true (x ∷ bots) h = let list_empty : x ∷ bots ≡ [] = h.0 refl in cc
 
 pub refused_other : (rule : Rule) (s : Session) → (rule ≡ Ungrounded → ⊥) → refused rule s ≡ s
 refused_other Ungrounded s h = absurd (h refl)
@@ -64,12 +64,12 @@ module _ (v : Situation) (notes : Buffer Undo) (commands : List Command) (taken 
     module _ (all : length next ≡ length v.state.bots) (some : 1 ≤ length v.state.bots) where
       pub taken_most : taken + n ≤ length commands
       taken_most =
-          let l = take_long n (drop taken commands) (sym (ap length next_is) ∙ (all ∙ sym count)) in
-          let r = length-drop taken commands in
-          let s = some in
-          let c = count in
-          let t = within in
-          omega (arith, l, r, s, c, t)
+          let long_enough = take_long n (drop taken commands) (sym (ap length next_is) ∙ (all ∙ sym count)) in
+          let length_dropped = length-drop taken commands in
+          let some_here = some in
+          let count_here = count in
+          let within_here = within in
+          omega (arith, long_enough, length_dropped, some_here, count_here, within_here)
 
       -- the step was made
       module _ (w : Situation) (undo : Undo) (ok : StepOk) (began ended : ℕ) (stepped : Stepped v w next (Ok ok) began ended) (before : state_before w.state undo ≡ v.state) (counted : undo.steps ≡ v.steps) (may : IsWellFormed v.state → MayUndo w.state undo)
@@ -81,14 +81,14 @@ module _ (v : Situation) (notes : Buffer Undo) (commands : List Command) (taken 
         point_is = λ i. record { state = before i; steps = counted i; taken = less i }
           where
             less : taken + n - length undo.crew ≡ taken
-            less = let c = crew_is in omega (arith, c)
+            less = let crew_count = crew_is in omega (arith, crew_count)
 
         leads : LeadsTo (point_of w (taken + n)) undo
         leads = record {
           may = may formed;
-          counted = let c = stepped.counted in omega (arith, c, counted);
-          some = let c = crew_is in let k = count in let s = some in omega (arith, c, k, s);
-          taken = let c = crew_is in let h = here.counted in omega (arith, c, h, counted);
+          counted = let stepped_counted = stepped.counted in omega (arith, stepped_counted, counted);
+          some = let crew_count = crew_is in let count_here = count in let some_here = some in omega (arith, crew_count, count_here, some_here);
+          taken = let crew_count = crew_is in let here_counted = here.counted in omega (arith, crew_count, here_counted, counted);
         }
 
         latest_is : rest.items ≡ latest most_past (notes.items ++ undo ∷ [])
@@ -112,7 +112,7 @@ module _ (v : Situation) (notes : Buffer Undo) (commands : List Command) (taken 
           capacity = ap (λ (b : Buffer Undo). b.capacity) pushed ∙ kept.capacity;
           fit = λ _. record {
             well_formed = stepped.well_formed formed;
-            counted = let c = stepped.counted in let h = here.counted in let k = count in let s = some in omega (arith, c, h, k, s);
+            counted = let stepped_counted = stepped.counted in let here_counted = here.counted in let count_here = count in let some_here = some in omega (arith, stepped_counted, here_counted, count_here, some_here);
             taken = taken_most;
             notes_lead = leads_all;
             begin = begins now f standing g;
@@ -176,7 +176,7 @@ module _ (v : Situation) (notes : Buffer Undo) (commands : List Command) (taken 
         session_refused free = subst (λ (x : Debugging). TriesStep x.commands x.session (debugging_of w notes.items commands taken begun).session (Refused b)) e (
           Breaks b,
           breaks,
-          (session_stays ∙ sym (refused_other b.rule (debugging_of v notes.items commands taken begun).session (λ f. let g = stepped.ungrounded.1 f in not_spent free g)), refl),
+          (session_stays ∙ sym (refused_other b.rule (debugging_of v notes.items commands taken begun).session (λ f. let ungrounded = stepped.ungrounded.1 f in not_spent free ungrounded)), refl),
         )
           where
             not_spent : w.spent ≡ false → w.spent ≡ true → ⊥

@@ -30,7 +30,7 @@ lead_more p (n ∷ notes) u h l = (subst (λ (q : Moment). LeadsTo q n) (sym (ea
 pub lead_less : (p : Moment) (notes : List Undo) (u : Undo) → LeadTo p (notes ++ u ∷ [])
     → LeadsTo p u × LeadTo (point_before p u) notes
 lead_less p [] u h = (h.0, tt)
-lead_less p (n ∷ notes) u h = let r = lead_less p notes u h.1 in (r.0, (subst (λ (q : Moment). LeadsTo q n) (earliest_more p notes u) h.0, r.1))
+lead_less p (n ∷ notes) u h = let leads_less = lead_less p notes u h.1 in (leads_less.0, (subst (λ (q : Moment). LeadsTo q n) (earliest_more p notes u) h.0, leads_less.1))
 
 -- ---- without the oldest
 
@@ -53,7 +53,7 @@ points_latest p k notes = points_drop p (length notes - k) notes ∙ ap (λ n. d
 pub last_split : {X : Type 0} (xs : List X) (x : X) → slice_get xs (length xs - 1) ≡ Some x
     → xs ≡ take (length xs - 1) xs ++ x ∷ []
 last_split [] x h = cc
-last_split (y ∷ []) x h = let e : y ≡ x = cc in ap (λ z. z ∷ []) e
+last_split (y ∷ []) x h = let y_is_x : y ≡ x = cc in ap (λ z. z ∷ []) y_is_x
 last_split {X} (y ∷ z ∷ xs) x h =
     let less : length (y ∷ z ∷ xs) - 1 ≡ suc (length (z ∷ xs) - 1) = omega arith in
     ap (λ (ys : List X). y ∷ ys) (last_split (z ∷ xs) x (subst (λ (n : ℕ). slice_get (y ∷ z ∷ xs) n ≡ Some x) less h)) ∙ ap (λ n. take n (y ∷ z ∷ xs) ++ x ∷ []) (sym less)

@@ -139,12 +139,12 @@ some_leader s commands step ready keeps some = by (acts s.bots commands) refl (a
     by : (xs : List Act) → acts s.bots commands ≡ xs
         → length (map (λ (a : Act). a.bot) (acts s.bots commands)) ≡ length s.bots
         → 1 ≤ length (leader_bids (acts s.bots commands))
-    by [] e n = absurd (let f = ap (λ (ys : List Act). length (map (λ (a : Act). a.bot) ys)) e in omega (arith, f, n, some))
+    by [] e n = absurd (let length_is = ap (λ (ys : List Act). length (map (λ (a : Act). a.bot) ys)) e in omega (arith, length_is, n, some))
     by (x ∷ xs) e n =
-        let l = led (acts s.bots commands) (good_is s commands step ready keeps).apart x (subst (λ (ys : List Act). In x ys) (sym e) (inl refl)) in
-        let m = member (leaders (acts s.bots commands)) l.0 l.1 in
-        let k = length-map (leaders (acts s.bots commands)) (λ (a : Act). a.bot.bid) in
-        omega (arith, m, k)
+        let led_by = led (acts s.bots commands) (good_is s commands step ready keeps).apart x (subst (λ (ys : List Act). In x ys) (sym e) (inl refl)) in
+        let some_member = member (leaders (acts s.bots commands)) led_by.0 led_by.1 in
+        let mapped_length = length-map (leaders (acts s.bots commands)) (λ (a : Act). a.bot.bid) in
+        omega (arith, some_member, mapped_length)
 
 pub makes_the_step : (commands : List Command) (order : List ℕ) (s t : Session) → IsReady s.point.state → s.begun ≡ []
     → IsPermutation (next_leaders commands s.point) order → BeginEach commands order s t
@@ -173,19 +173,19 @@ makes_the_step commands order s t ready none perm h = by s.point.state.bots refl
 
         made_of : (xs : List ℕ) → IsPermutation (next_leaders commands s.point) xs
             → BeginEach commands xs (record s { begun = [] }) t → (r : DebugReport) × AnswersLine commands Step s t r
-        made_of [] p g = absurd (let l = some_leader s.point.state (next_commands commands s.point) (s.point.steps + 1) ready e some in let n = length_permutation (next_leaders commands s.point) [] p in omega (arith, l, n))
+        made_of [] p g = absurd (let leader_there = some_leader s.point.state (next_commands commands s.point) (s.point.steps + 1) ready e some in let same_length = length_permutation (next_leaders commands s.point) [] p in omega (arith, leader_there, same_length))
         made_of (bid ∷ more) p g =
-            let r = rest_of commands s none e some differ [] bid more t p g in
-            (r.0, unless_active s.point.state.bots s t r.0 _ some r.1)
+            let the_rest = rest_of commands s none e some differ [] bid more t p g in
+            (the_rest.0, unless_active s.point.state.bots s t the_rest.0 _ some the_rest.1)
 
     by : (bots : List Bot) → s.point.state.bots ≡ bots → (r : DebugReport) × AnswersLine commands Step s t r
     by [] e = (Ended, subst (λ (u : Session). AnswersLine commands Step s u Ended) (sym (ended_each commands s e order t h)) (unready_step commands s fault.Ended e))
-    by (b ∷ bots) e = tried (let n = ap length e in omega (arith, n)) (broken s.point.state (next_commands commands s.point) (s.point.steps + 1)) refl
+    by (b ∷ bots) e = tried (let length_is = ap length e in omega (arith, length_is)) (broken s.point.state (next_commands commands s.point) (s.point.steps + 1)) refl
 
 pub one_end : (commands : List Command) (first second : List ℕ) (s t u : Session) → IsReady s.point.state → s.begun ≡ []
     → IsPermutation (next_leaders commands s.point) first → IsPermutation (next_leaders commands s.point) second
     → BeginEach commands first s t → BeginEach commands second s u → t ≡ u
 one_end commands first second s t u ready none p q h k =
-    let a = makes_the_step commands first s t ready none p h in
-    let b = makes_the_step commands second s u ready none q k in
-    (answered_once commands Step s t u a.0 b.0 a.1 b.1).0
+    let step_made = makes_the_step commands first s t ready none p h in
+    let step_made_here = makes_the_step commands second s u ready none q k in
+    (answered_once commands Step s t u step_made.0 step_made_here.0 step_made.1 step_made_here.1).0

@@ -85,8 +85,8 @@ drop_push (suc k) (y ∷ xs) x l = drop_push k xs x (omega arith)
 
 latest_push : (xs : List Moment) (x : Moment) → latest most_past (xs ++ x ∷ []) ≡ latest 4095 xs ++ x ∷ []
 latest_push xs x =
-    let n = length-append xs (x ∷ []) in
-    let same : length (xs ++ x ∷ []) - 4096 ≡ length xs - 4095 = omega (arith, n) in
+    let length_is = length-append xs (x ∷ []) in
+    let same : length (xs ++ x ∷ []) - 4096 ≡ length xs - 4095 = omega (arith, length_is) in
     ap (λ k. drop k (xs ++ x ∷ [])) same ∙ drop_push (length xs - 4095) xs x (omega arith)
 
 -- ---- what is taken back
@@ -107,12 +107,12 @@ restored_begun : (begun : List ℕ) (s t u : Session) (r : DebugReport) → begu
     → GoesBack begun t u r
     → (u ≡ record { point = s.point; past = latest 4095 s.past; begun = [] }) × (r ≡ is_returned s.point)
 restored_begun [] s t u r b v e h = restored_past t.past s t u r refl v e h
-restored_begun (x ∷ begun) s t u r b v e h = absurd (let f : x ∷ begun ≡ [] = b ∙ ap (λ (y : Session). y.begun) e in cc)
+restored_begun (x ∷ begun) s t u r b v e h = absurd (let list_empty : x ∷ begun ≡ [] = b ∙ ap (λ (y : Session). y.begun) e in cc)
 
 restored : (commands : List Command) (line : DebugLine) (s t u : Session) (n : ℕ) (energy : ℤ) (ended : Bool)
     (r : DebugReport) → AnswersLine commands line s t (Made n energy ended) → AnswersLine commands Back t u r
     → (u ≡ record { point = s.point; past = latest 4095 s.past; begun = [] }) × (r ≡ is_returned s.point)
-restored commands line s t u n energy ended r h k = let m = was_made commands line s t (Made n energy ended) refl h in restored_begun t.begun s t u r refl m.0 m.1 k
+restored commands line s t u n energy ended r h k = let made_before = was_made commands line s t (Made n energy ended) refl h in restored_begun t.begun s t u r refl made_before.0 made_before.1 k
 
 pub restored_session : (commands : List Command) (line : DebugLine) (s t u : Session) (n : ℕ) (energy : ℤ)
     (ended : Bool) (r : DebugReport) → AnswersLine commands line s t (Made n energy ended)

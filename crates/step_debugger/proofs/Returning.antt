@@ -29,7 +29,7 @@ none_begun [] empty e h = refl
 none_begun (x ∷ begun) empty e h = absurd no_zero
   where
     no_zero : ⊥
-    no_zero = let n : 1 ≤ length (x ∷ begun) = omega arith in let f : (length (x ∷ begun) == 0) ≡ true = sym e ∙ h in grind (arith, nat_tests)
+    no_zero = let some_length : 1 ≤ length (x ∷ begun) = omega arith in let length_is_zero : (length (x ∷ begun) == 0) ≡ true = sym e ∙ h in grind (arith, nat_tests)
 
 module _ (v : Situation) (notes : Buffer Undo) (commands : List Command) (taken : ℕ) (begun left : List ℕ) (bots : List Bot) (d : Debugging)
     (e : debugging_of v notes.items commands taken begun ≡ d) (kept : IsKept v notes commands taken begun left bots) (stands : d.spent ≡ false) where
@@ -51,7 +51,7 @@ module _ (v : Situation) (notes : Buffer Undo) (commands : List Command) (taken 
     may_go_back = leads.0.may
 
     pub fewer_taken : (n : ℕ) → n ≡ length undo.crew → n ≤ taken
-    fewer_taken n c = let t = leads.0.taken in omega (arith, t)
+    fewer_taken n c = let leads_taken = leads.0.taken in omega (arith, leads_taken)
 
     module _ (w : Situation) (n : ℕ) (is : w ≡ record { state = state_before v.state undo; steps = undo.steps; spent = false }) (count : n ≡ length undo.crew) (rest : Buffer Undo) (popped : rest ≡ record { items = take (length notes.items - 1) notes.items; capacity = notes.capacity }) where
       point_is : point_before (point_of v taken) undo ≡ point_of w (taken - n)
@@ -68,8 +68,8 @@ module _ (v : Situation) (notes : Buffer Undo) (commands : List Command) (taken 
         capacity = ap (λ (b : Buffer Undo). b.capacity) popped ∙ kept.capacity;
         fit = λ _. subst (λ (q : Moment). Fit q rest.items commands begun left now) point_is (subst (λ (us : List Undo). Fit (point_before (point_of v taken) undo) us commands begun left now) (sym (ap (λ (b : Buffer Undo). b.items) popped)) (record {
           well_formed = leads.0.may.before.well_formed;
-          counted = let t = leads.0.taken in omega (arith, t);
-          taken = let t = fit.taken in omega (arith, t);
+          counted = let leads_taken = leads.0.taken in omega (arith, leads_taken);
+          taken = let fit_taken = fit.taken in omega (arith, fit_taken);
           notes_lead = leads.1;
           begin = begins begun none now (g ∙ ap (λ (x : Situation). x.state.bots) is);
           within = subst (λ (bs : List Bot). All (λ b. IsInSpace v.state.matrix.resolution b.pos) bs) (sym (g ∙ ap (λ (x : Situation). x.state.bots) is)) leads.0.may.before.within;

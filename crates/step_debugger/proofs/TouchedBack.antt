@@ -21,7 +21,7 @@ use Rattle.step_debugger.specs.Touches.{IsTouchedBack, common}
 
 apart_of : {X : Type 0} (xs : List X) → AllPairs ◌≢◌ xs → Apart xs
 apart_of [] h = tt
-apart_of {X} (x ∷ xs) h = ((λ i. let p = in_place x x xs i in h zero (suc p.0) x (omega arith) (let l : p.0 < length xs = p.1 in omega arith) (sym p.2)), apart_of xs (λ i j d l k e. h (suc i) (suc j) d (omega arith) (omega arith) e))
+apart_of {X} (x ∷ xs) h = ((λ i. let place = in_place x x xs i in h zero (suc place.0) x (omega arith) (let below_length : place.0 < length xs = place.1 in omega arith) (sym place.2)), apart_of xs (λ i j d l k e. h (suc i) (suc j) d (omega arith) (omega arith) e))
 
 module _ (old : Matrix) (undo : Undo) (h : HaveChanged old undo) where
   filled_is : (c : Coord) → In c undo.filled.items → IsInSpace old.resolution c × (is_full old c ≡ true)
@@ -62,29 +62,29 @@ module _ (old : Matrix) (undo : Undo) (h : HaveChanged old undo) where
   filled_differs : (c : Coord) → In c undo.filled.items
       → differ_at old (matrix_before old undo.filled.items undo.voided.items) c ≡ true
   filled_differs c i =
-      let w = filled_is c i in
-      let a = among undo.filled.items c i in
-      let v = not_among undo.voided.items c (λ j. not_both w.1 (voided_is c j).1) in
-      let e : is_full (matrix_before old undo.filled.items undo.voided.items) c ≡ false = new_at c w.0 ∙ (λ k. cond (v k) true (cond (a k) false (is_full old c))) in
-      or_by_first (is_full old c && not (is_full (matrix_before old undo.filled.items undo.voided.items) c)) (is_full (matrix_before old undo.filled.items undo.voided.items) c && not (is_full old c)) (both w.1 (ap not e))
+      let filled_facts = filled_is c i in
+      let one_among = among undo.filled.items c i in
+      let not_listed = not_among undo.voided.items c (λ j. not_both filled_facts.1 (voided_is c j).1) in
+      let not_full : is_full (matrix_before old undo.filled.items undo.voided.items) c ≡ false = new_at c filled_facts.0 ∙ (λ k. cond (not_listed k) true (cond (one_among k) false (is_full old c))) in
+      or_by_first (is_full old c && not (is_full (matrix_before old undo.filled.items undo.voided.items) c)) (is_full (matrix_before old undo.filled.items undo.voided.items) c && not (is_full old c)) (both filled_facts.1 (ap not not_full))
 
   voided_differs : (c : Coord) → In c undo.voided.items
       → differ_at old (matrix_before old undo.filled.items undo.voided.items) c ≡ true
   voided_differs c i =
-      let w = voided_is c i in
-      let a = among undo.voided.items c i in
-      let e : is_full (matrix_before old undo.filled.items undo.voided.items) c ≡ true = new_at c w.0 ∙ ap (λ b. cond b true (cond (is_cell undo.filled.items c) false (is_full old c))) a in
-      or_by_second (is_full old c && not (is_full (matrix_before old undo.filled.items undo.voided.items) c)) (is_full (matrix_before old undo.filled.items undo.voided.items) c && not (is_full old c)) (both e (ap not w.1))
+      let voided_facts = voided_is c i in
+      let one_among = among undo.voided.items c i in
+      let full : is_full (matrix_before old undo.filled.items undo.voided.items) c ≡ true = new_at c voided_facts.0 ∙ ap (λ b. cond b true (cond (is_cell undo.filled.items c) false (is_full old c))) one_among in
+      or_by_second (is_full old c && not (is_full (matrix_before old undo.filled.items undo.voided.items) c)) (is_full (matrix_before old undo.filled.items undo.voided.items) c && not (is_full old c)) (both full (ap not voided_facts.1))
 
   all_differ : length undo.filled.items + length undo.voided.items
       ≤ changed_count old (matrix_before old undo.filled.items undo.voided.items)
   all_differ =
-      let l = no_more (undo.filled.items ++ undo.voided.items) (filter (differ_at old (matrix_before old undo.filled.items undo.voided.items)) (all_of old))
+      let no_longer = no_more (undo.filled.items ++ undo.voided.items) (filter (differ_at old (matrix_before old undo.filled.items undo.voided.items)) (all_of old))
       (apart_append undo.filled.items undo.voided.items (apart_of undo.filled.items h.filled_differ) (apart_of undo.voided.items h.voided_differ) (λ c i j. not_both (filled_is c i).1 (voided_is c j).1))
       (λ c i. by c (in_either c undo.filled.items undo.voided.items i)) in
-      let n = length-append undo.filled.items undo.voided.items in
-      let e = length-filter (differ_at old (matrix_before old undo.filled.items undo.voided.items)) (all_of old) in
-      omega (arith, l, n, e)
+      let length_is = length-append undo.filled.items undo.voided.items in
+      let filtered_length = length-filter (differ_at old (matrix_before old undo.filled.items undo.voided.items)) (all_of old) in
+      omega (arith, no_longer, length_is, filtered_length)
     where
       by : (c : Coord) → In c undo.filled.items ⊎ In c undo.voided.items
           → In c (filter (differ_at old (matrix_before old undo.filled.items undo.voided.items)) (all_of old))

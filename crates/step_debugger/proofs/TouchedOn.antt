@@ -17,7 +17,7 @@ use Rattle.step_debugger.specs.Touches.{IfRefused, IsRefusedWithin, IsWithinWork
 -- the work of a step that breaks no rule at its start is no less than what is volatile
 volatile_most : (s : State) (commands : List Command) (step n : ℕ) → broken s commands step ≡ None
     → WorkOfStep s commands step n → volatile_total s.matrix (acts s.bots commands) ≤ n
-volatile_most s commands step n keeps work = let e = (acts_work s commands step n keeps work).1 in omega (arith, e)
+volatile_most s commands step n keeps work = let acts_work_here = (acts_work s commands step n keeps work).1 in omega (arith, acts_work_here)
 
 -- where the next step cannot be judged nothing is touched
 pub untouched_at : (T : Type 0) (most : ℕ) (commands : List Command) (p : Moment) (r : DebugFault) (began : ℕ)

@@ -56,14 +56,14 @@ unready_step commands s fault.Memory h = absurd h
 
 leaders_few : (bots : List Bot) (commands : List Command) → length (leader_bids (acts bots commands)) ≤ length bots
 leaders_few bots commands =
-    let n = length-map (leaders (acts bots commands)) (λ (a : Act). a.bot.bid) in
-    let l = leaders_most (acts bots commands) in
-    let a = acts_most bots commands in
-    omega (arith, n, l, a)
+    let mapped_length = length-map (leaders (acts bots commands)) (λ (a : Act). a.bot.bid) in
+    let leaders_bound = leaders_most (acts bots commands) in
+    let acts_bound = acts_most bots commands in
+    omega (arith, mapped_length, leaders_bound, acts_bound)
 
 -- something is begun where the list is said not to be empty
 pub begun_some : (begun : List ℕ) (empty : Bool) → empty ≡ (length begun == 0) → empty ≡ false → begun ≡ [] → ⊥
-begun_some begun empty e h f = let n = ap (λ (xs : List ℕ). length xs) f in let g : (length begun == 0) ≡ false = sym e ∙ h in grind (arith, nat_tests)
+begun_some begun empty e h f = let length_is = ap (λ (xs : List ℕ). length xs) f in let length_not_zero : (length begun == 0) ≡ false = sym e ∙ h in grind (arith, nat_tests)
 
 module _ (v : Situation) (notes : Buffer Undo) (commands : List Command) (taken : ℕ) (begun left : List ℕ) (bots : List Bot) (d : Debugging)
     (e : debugging_of v notes.items commands taken begun ≡ d) (kept : IsKept v notes commands taken begun left bots) (stands : d.spent ≡ false) where
@@ -81,7 +81,7 @@ module _ (v : Situation) (notes : Buffer Undo) (commands : List Command) (taken 
 
   pub order_fits : (begun ≡ [] → ⊥) → length v.state.bots ≤ 40 → length begun + length left ≤ 40
   order_fits n most =
-      let p = length_permutation (next_leaders commands (point_of v taken)) (begun ++ left) (begun_are n).leaders in
-      let a = length-append begun left in
-      let f = leaders_few v.state.bots (next_commands commands (point_of v taken)) in
-      omega (arith, p, a, f, most)
+      let same_length = length_permutation (next_leaders commands (point_of v taken)) (begun ++ left) (begun_are n).leaders in
+      let length_is = length-append begun left in
+      let leaders_bound = leaders_few v.state.bots (next_commands commands (point_of v taken)) in
+      omega (arith, same_length, length_is, leaders_bound, most)

@@ -51,15 +51,15 @@ pub single_members : (b : Bot) (k : Command)
     → members (record { bot = b; command = k } ∷ []) (record { bot = b; command = k })
     ≡ record { bot = b; command = k } ∷ []
 single_members b k =
-    let a : Act = record { bot = b; command = k } in
-    ap (λ t. cond ((t || are_partners a a) || share_region (position a) k (position a) k) (a ∷ []) []) (test_itself b.bid)
+    let act : Act = record { bot = b; command = k } in
+    ap (λ t. cond ((t || are_partners act act) || share_region (position act) k (position act) k) (act ∷ []) []) (test_itself b.bid)
 
 pub single_leaders : (b : Bot) (k : Command)
     → leaders (record { bot = b; command = k } ∷ []) ≡ record { bot = b; command = k } ∷ []
 single_leaders b k =
-    let a : Act = record { bot = b; command = k } in
-    ap (λ ms. cond (list_all (λ c. nat_le b.bid c.bot.bid) ms) (a ∷ []) []) (single_members b k)
-    ∙ ap (λ t. cond (t && true) (a ∷ []) []) (least b.bid)
+    let act : Act = record { bot = b; command = k } in
+    ap (λ ms. cond (list_all (λ c. nat_le b.bid c.bot.bid) ms) (act ∷ []) []) (single_members b k)
+    ∙ ap (λ t. cond (t && true) (act ∷ []) []) (least b.bid)
 
 -- the bot leads, and its group is the bot
 pub single_leads : (bots : List Bot) (commands : List Command) → length bots ≡ 1 → length commands ≡ length bots

@@ -93,10 +93,10 @@ no_block step bid m = ap (broken_by step Blocked bid) (no_way m (all_of m))
 pub halt : (s : State) (all : List Act) (step : ℕ) (bot : Bot) → first_fault s all step (act bot Halt) later_rules
     ≡ first_value (broken_by step HaltAlone bot.bid (here (act bot Halt) (nat_lt 1 (length s.bots))) ∷ broken_by step HaltOrigin bot.bid (here (act bot Halt) (not (same_point (point bot.pos) (point origin)))) ∷ broken_by step HaltLow bot.bid (here (act bot Halt) (is_high s.harmonics)) ∷ [])
 halt s all step bot =
-    let x : Option Broken = broken_by step HaltAlone bot.bid (here (act bot Halt) (nat_lt 1 (length s.bots))) in
-    let y : Option Broken = broken_by step HaltOrigin bot.bid (here (act bot Halt) (not (same_point (point bot.pos) (point origin)))) in
-    let z : Option Broken = broken_by step HaltLow bot.bid (here (act bot Halt) (is_high s.harmonics)) in
-    mute (x ∷ y ∷ z ∷ None ∷ []) (None ∷ None ∷ None ∷ None ∷ []) _ (no_block step bot.bid s.matrix) ∙ three x y z
+    let halt_alone : Option Broken = broken_by step HaltAlone bot.bid (here (act bot Halt) (nat_lt 1 (length s.bots))) in
+    let halt_origin : Option Broken = broken_by step HaltOrigin bot.bid (here (act bot Halt) (not (same_point (point bot.pos) (point origin)))) in
+    let halt_low : Option Broken = broken_by step HaltLow bot.bid (here (act bot Halt) (is_high s.harmonics)) in
+    mute (halt_alone ∷ halt_origin ∷ halt_low ∷ None ∷ []) (None ∷ None ∷ None ∷ None ∷ []) _ (no_block step bot.bid s.matrix) ∙ three halt_alone halt_origin halt_low
   where
     three : (x y z : Option Broken)
         → first_value (x ∷ y ∷ z ∷ None ∷ None ∷ None ∷ None ∷ None ∷ []) ≡ first_value (x ∷ y ∷ z ∷ [])
@@ -113,8 +113,8 @@ pub near : (s : State) (all : List Act) (step : ℕ) (bot : Bot) (d : Diff)
     → first_fault s all step (act bot (Fill d)) later_rules
     ≡ broken_by step OutOfSpace bot.bid (here (act bot (Fill d)) (not (in_space s.matrix.resolution (plus (point bot.pos) d) && true)))
 near s all step bot d =
-    let x : Option Broken = broken_by step OutOfSpace bot.bid (here (act bot (Fill d)) (not (in_space s.matrix.resolution (plus (point bot.pos) d) && true))) in
-    mute (x ∷ []) (None ∷ None ∷ None ∷ None ∷ []) _ (no_block step bot.bid s.matrix) ∙ lone x
+    let out_of_space : Option Broken = broken_by step OutOfSpace bot.bid (here (act bot (Fill d)) (not (in_space s.matrix.resolution (plus (point bot.pos) d) && true))) in
+    mute (out_of_space ∷ []) (None ∷ None ∷ None ∷ None ∷ []) _ (no_block step bot.bid s.matrix) ∙ lone out_of_space
 
 -- a command that stays in space is not out of space
 pub stays : (step : ℕ) (a : Act) (r : ℕ) (p : Point) → IsTrue (in_space r p)
@@ -149,27 +149,27 @@ pub lmove : (s : State) (all : List Act) (step : ℕ) (bot : Bot) (d e : Diff) (
     → y ≡ find (λ c. is_full s.matrix c && is_within (span l) (point c)) (all_of s.matrix)
     → first_fault s all step (act bot (LMove d e)) later_rules ≡ broken_by step Blocked bot.bid (earlier x y)
 lmove s all step bot d e k l mid to x y i j a b p q u v =
-    let P : Point = plus (point bot.pos) d in
-    let Q : Point = plus P e in
-    let r : ℕ = s.matrix.resolution in
-    let j2 : IsTrue (in_space r Q) = subst (λ (w : Point). IsTrue (in_space r (plus w e))) a j in
-    let b2 : point to ≡ Q = b ∙ ap (λ w. plus w e) a in
-    let cover1 : (w : Point) → is_within (span k) w ≡ is_within (between (point bot.pos) P) w = λ w. p w ∙ ap (λ z. is_within (between (point bot.pos) z) w) a in
-    let cover2 : (w : Point) → is_within (span l) w ≡ is_within (between P Q) w = λ w. q w ∙ (λ n. is_within (between (a n) (b2 n)) w) in
-    let blocked : Option Broken = broken_by step Blocked bot.bid (find (λ c. is_full s.matrix c && (is_within (between (point bot.pos) P) (point c) || (is_within (between P Q) (point c) || false))) (all_of s.matrix)) in
-    (skip step bot.bid OutOfSpace (act bot (LMove d e)) (not (in_space r P && (in_space r Q && true))) (blocked ∷ None ∷ None ∷ None ∷ None ∷ []) (within_two (in_space r P) (in_space r Q) i j2) ∙ lone blocked)
-    ∙ ap (broken_by step Blocked bot.bid) (two_ways s.matrix k l (between (point bot.pos) P) (between P Q) x y cover1 cover2 u v)
+    let reached : Point = plus (point bot.pos) d in
+    let place_reached : Point = plus reached e in
+    let resolution : ℕ = s.matrix.resolution in
+    let j2 : IsTrue (in_space resolution place_reached) = subst (λ (w : Point). IsTrue (in_space resolution (plus w e))) a j in
+    let b2 : point to ≡ place_reached = b ∙ ap (λ w. plus w e) a in
+    let cover1 : (w : Point) → is_within (span k) w ≡ is_within (between (point bot.pos) reached) w = λ w. p w ∙ ap (λ z. is_within (between (point bot.pos) z) w) a in
+    let cover2 : (w : Point) → is_within (span l) w ≡ is_within (between reached place_reached) w = λ w. q w ∙ (λ n. is_within (between (a n) (b2 n)) w) in
+    let blocked : Option Broken = broken_by step Blocked bot.bid (find (λ c. is_full s.matrix c && (is_within (between (point bot.pos) reached) (point c) || (is_within (between reached place_reached) (point c) || false))) (all_of s.matrix)) in
+    (skip step bot.bid OutOfSpace (act bot (LMove d e)) (not (in_space resolution reached && (in_space resolution place_reached && true))) (blocked ∷ None ∷ None ∷ None ∷ None ∷ []) (within_two (in_space resolution reached) (in_space resolution place_reached) i j2) ∙ lone blocked)
+    ∙ ap (broken_by step Blocked bot.bid) (two_ways s.matrix k l (between (point bot.pos) reached) (between reached place_reached) x y cover1 cover2 u v)
 
 pub lmove_out : (s : State) (all : List Act) (step : ℕ) (bot : Bot) (d e : Diff) (mid : Coord)
     → point mid ≡ plus (point bot.pos) d → IsFalse (in_space s.matrix.resolution (plus (point mid) e))
     → first_fault s all step (act bot (LMove d e)) later_rules ≡ broken_by step OutOfSpace bot.bid (Some bot.pos)
 lmove_out s all step bot d e mid a j =
-    let P : Point = plus (point bot.pos) d in
-    let Q : Point = plus P e in
-    let r : ℕ = s.matrix.resolution in
-    let j2 : IsFalse (in_space r Q) = subst (λ (w : Point). IsFalse (in_space r (plus w e))) a j in
-    let blocked : Option Broken = broken_by step Blocked bot.bid (find (λ c. is_full s.matrix c && (is_within (between (point bot.pos) P) (point c) || (is_within (between P Q) (point c) || false))) (all_of s.matrix)) in
-    ap (λ t. first_value (broken_by step OutOfSpace bot.bid (here (act bot (LMove d e)) t) ∷ blocked ∷ None ∷ None ∷ None ∷ None ∷ [])) (out_two (in_space r P) (in_space r Q) j2)
+    let reached : Point = plus (point bot.pos) d in
+    let place_reached : Point = plus reached e in
+    let resolution : ℕ = s.matrix.resolution in
+    let j2 : IsFalse (in_space resolution place_reached) = subst (λ (w : Point). IsFalse (in_space resolution (plus w e))) a j in
+    let blocked : Option Broken = broken_by step Blocked bot.bid (find (λ c. is_full s.matrix c && (is_within (between (point bot.pos) reached) (point c) || (is_within (between reached place_reached) (point c) || false))) (all_of s.matrix)) in
+    ap (λ t. first_value (broken_by step OutOfSpace bot.bid (here (act bot (LMove d e)) t) ∷ blocked ∷ None ∷ None ∷ None ∷ None ∷ [])) (out_two (in_space resolution reached) (in_space resolution place_reached) j2)
 
 pub fission : (s : State) (all : List Act) (step : ℕ) (bot : Bot) (d : Diff) (n : ℕ) (k : Corners) (to : Coord)
     (x : Option Coord) → IsTrue (in_space s.matrix.resolution (plus (point bot.pos) d))

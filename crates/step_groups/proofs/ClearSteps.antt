@@ -113,9 +113,9 @@ module _ (from to : Coord) (d : Diff) (sum : point to ≡ plus (point from) d) (
   -- a coordinate of the way is one of its ends
   one_of_ends : (c : Coord) → is_within (span (corners from to)) (point c) ≡ true → (c ≡ from) ⊎ (c ≡ to)
   one_of_ends c t =
-      let p = parts_of_three _ _ _ t in
+      let three_parts = parts_of_three _ _ _ t in
       at_an_end from to c (unsigned_abs d.dx) (unsigned_abs d.dy) (unsigned_abs d.dz)
-      (along from.x to.x c.x d.dx (ap (λ (q : Point). q.x) sum) p.0) (along from.y to.y c.y d.dy (ap (λ (q : Point). q.y) sum) p.1) (along from.z to.z c.z d.dz (ap (λ (q : Point). q.z) sum) p.2) one
+      (along from.x to.x c.x d.dx (ap (λ (q : Point). q.x) sum) three_parts.0) (along from.y to.y c.y d.dy (ap (λ (q : Point). q.y) sum) three_parts.1) (along from.z to.z c.z d.dz (ap (λ (q : Point). q.z) sum) three_parts.2) one
 
   -- where both ends are void the way is clear
   pub clear_step : (m : Matrix) → is_full m from ≡ false → is_full m to ≡ false
@@ -152,7 +152,7 @@ module _ (from to : Coord) (d : Diff) (sum : point to ≡ plus (point from) d) (
 
       two : (x y z : ℕ) → x ≡ unsigned_abs d.dx + 1 → y ≡ unsigned_abs d.dy + 1 → z ≡ unsigned_abs d.dz + 1
           → 2 ≤ x * y * z
-      two x y z e f g = let p = product (unsigned_abs d.dx) (unsigned_abs d.dy) (unsigned_abs d.dz) one in subst (λ n. 2 ≤ n) (sym (λ i. e i * f i * g i)) p
+      two x y z e f g = let product_bound = product (unsigned_abs d.dx) (unsigned_abs d.dy) (unsigned_abs d.dz) one in subst (λ n. 2 ≤ n) (sym (λ i. e i * f i * g i)) product_bound
 
 pub ordered_corners : (a b : Coord) → IsOrdered (corners a b)
 ordered_corners a b = record { x = omega arith; y = omega arith; z = omega arith }

@@ -40,11 +40,11 @@ group_rest : (s : State) (step : ℕ) (bot : Bot) (a : Act) (inside x y t u : Bo
     → first_value (broken_by step OutOfSpace bot.bid (here a (not inside)) ∷ broken_by step Blocked bot.bid (find (λ c. is_full s.matrix c && false) (all_of s.matrix)) ∷ None ∷ broken_by step InRegion bot.bid (cond (x || false) (Some bot.pos) None) ∷ None ∷ broken_by step GroupShape bot.bid (cond (y || false) (Some bot.pos) None) ∷ [])
     ≡ first_value (broken_by step InRegion bot.bid (cond t (Some bot.pos) None) ∷ broken_by step GroupShape bot.bid (cond u (Some bot.pos) None) ∷ [])
 group_rest s step bot a inside x y t u i g h =
-    let B : Option Broken = broken_by step Blocked bot.bid (find (λ c. is_full s.matrix c && false) (all_of s.matrix)) in
-    let I : Option Broken = broken_by step InRegion bot.bid (cond (x || false) (Some bot.pos) None) in
-    let G : Option Broken = broken_by step GroupShape bot.bid (cond (y || false) (Some bot.pos) None) in
-    (skip step bot.bid OutOfSpace a (not inside) (B ∷ None ∷ I ∷ None ∷ G ∷ []) (ap not i)
-    ∙ (unblocked step bot.bid s.matrix (all_of s.matrix) (None ∷ I ∷ None ∷ G ∷ []) ∙ last_two I G))
+    let blocked : Option Broken = broken_by step Blocked bot.bid (find (λ c. is_full s.matrix c && false) (all_of s.matrix)) in
+    let in_region : Option Broken = broken_by step InRegion bot.bid (cond (x || false) (Some bot.pos) None) in
+    let group_shape : Option Broken = broken_by step GroupShape bot.bid (cond (y || false) (Some bot.pos) None) in
+    (skip step bot.bid OutOfSpace a (not inside) (blocked ∷ None ∷ in_region ∷ None ∷ group_shape ∷ []) (ap not i)
+    ∙ (unblocked step bot.bid s.matrix (all_of s.matrix) (None ∷ in_region ∷ None ∷ group_shape ∷ []) ∙ last_two in_region group_shape))
     ∙ (λ n. first_value (broken_by step InRegion bot.bid (cond ((or_false x ∙ g) n) (Some bot.pos) None) ∷ broken_by step GroupShape bot.bid (cond ((or_false y ∙ h) n) (Some bot.pos) None) ∷ []))
 
 axis : (a b : ℕ) → differs (pos (min a b)) (pos (max a b)) ≡ differs (pos a) (pos b)

@@ -31,9 +31,9 @@ place r all [] (f ∷ groups) j g h lt e = absurd h
 place r all (a ∷ leaders) [] j g h lt e = absurd h
 place r all (a ∷ leaders) (f ∷ groups) zero g h lt e = record { leader = a; here = refl; group = subst (λ (x : Group). IsGroup r all a x) (sym e) h.0 }
 place r all (a ∷ leaders) (f ∷ groups) (suc j) g h lt e =
-    let p : Place r all leaders j g = place r all leaders groups j g h.1 (omega arith) e in
+    let place_here : Place r all leaders j g = place r all leaders groups j g h.1 (omega arith) e in
     let successor_is : suc (j + 1) ≡ suc j + 1 = omega arith in
-    record { leader = p.leader; here = p.here ∙ ap (λ k. p.leader ∷ drop k (a ∷ leaders)) successor_is; group = p.group }
+    record { leader = place_here.leader; here = place_here.here ∙ ap (λ k. place_here.leader ∷ drop k (a ∷ leaders)) successor_is; group = place_here.group }
 
 pub past : (r : ℕ) (all leaders : List Act) (groups : List Group) (j : ℕ) → AreGroups r all leaders groups
     → length groups ≤ j → drop j leaders ≡ []

@@ -53,9 +53,9 @@ one_at_most p (x ∷ xs) up h = by (p x) refl (one_at_most p xs up.1 (λ y z i j
   where
     none : p x ≡ true → filter p xs ≡ []
     none e = no_filter p xs (false_by (list_any p xs) (λ (f : list_any p xs ≡ true).
-        let r = any_in p xs f in
-        let same : x.bot.bid ≡ r.0.bot.bid = h x r.0 (inl refl) (inr r.1) e r.2 in
-        let below_bid : x.bot.bid < r.0.bot.bid = up.0 r.0.bot (in_map (λ (a : Act). a.bot) r.0 xs r.1) in
+        let witness = any_in p xs f in
+        let same : x.bot.bid ≡ witness.0.bot.bid = h x witness.0 (inl refl) (inr witness.1) e witness.2 in
+        let below_bid : x.bot.bid < witness.0.bot.bid = up.0 witness.0.bot (in_map (λ (a : Act). a.bot) witness.0 xs witness.1) in
         absurd (omega arith)))
 
     by : (b : Bool) → p x ≡ b → length (filter p xs) ≤ 1 → length (cond b (x ∷ filter p xs) (filter p xs)) ≤ 1
@@ -114,10 +114,10 @@ corners_most (suc (suc (suc (suc n)))) h = absurd (omega arith)
 
 dimension_most : (s : Span) → dimension s ≤ 3
 dimension_most s =
-    let x = differs_most s.from.x s.to.x in
-    let y = differs_most s.from.y s.to.y in
-    let z = differs_most s.from.z s.to.z in
-    omega (arith, x, y, z)
+    let differs_little_x = differs_most s.from.x s.to.x in
+    let differs_little_y = differs_most s.from.y s.to.y in
+    let differs_little_z = differs_most s.from.z s.to.z in
+    omega (arith, differs_little_x, differs_little_y, differs_little_z)
 
 -- a group that fits its region
 shaped : (n d : ℕ) (t : Bool) → ((not (n == d) || t) || false) ≡ false → n ≡ d

@@ -27,12 +27,12 @@ pub widened : (a k : Corners) (l h : Coord) → IsOrdered a → l.x ≤ a.low.x 
     → ((p : Point) → is_within (span k) p ≡ is_within (between (point l) (point h)) p) → (c : Coord)
     → IsTrue (is_within (span a) (point c)) → IsTrue (is_within (span k) (point c))
 widened a k l h o lx ly lz hx hy hz covers c t =
-    let x : Bool = is_between (pos a.low.x) (pos a.high.x) (pos c.x) in
-    let y : Bool = is_between (pos a.low.y) (pos a.high.y) (pos c.y) in
-    let z : Bool = is_between (pos a.low.z) (pos a.high.z) (pos c.z) in
-    let wx : IsTrue (is_between (pos l.x) (pos h.x) (pos c.x)) = wider a.low.x a.high.x l.x h.x c.x o.x lx hx (first_of_two x y (first_of_two (x && y) z t)) in
-    let wy : IsTrue (is_between (pos l.y) (pos h.y) (pos c.y)) = wider a.low.y a.high.y l.y h.y c.y o.y ly hy (second_of_two x y (first_of_two (x && y) z t)) in
-    let wz : IsTrue (is_between (pos l.z) (pos h.z) (pos c.z)) = wider a.low.z a.high.z l.z h.z c.z o.z lz hz (second_of_two (x && y) z t) in
+    let between_x : Bool = is_between (pos a.low.x) (pos a.high.x) (pos c.x) in
+    let between_y : Bool = is_between (pos a.low.y) (pos a.high.y) (pos c.y) in
+    let between_z : Bool = is_between (pos a.low.z) (pos a.high.z) (pos c.z) in
+    let wx : IsTrue (is_between (pos l.x) (pos h.x) (pos c.x)) = wider a.low.x a.high.x l.x h.x c.x o.x lx hx (first_of_two between_x between_y (first_of_two (between_x && between_y) between_z t)) in
+    let wy : IsTrue (is_between (pos l.y) (pos h.y) (pos c.y)) = wider a.low.y a.high.y l.y h.y c.y o.y ly hy (second_of_two between_x between_y (first_of_two (between_x && between_y) between_z t)) in
+    let wz : IsTrue (is_between (pos l.z) (pos h.z) (pos c.z)) = wider a.low.z a.high.z l.z h.z c.z o.z lz hz (second_of_two (between_x && between_y) between_z t) in
     covers (point c)
     ∙ both_true (is_between (pos l.x) (pos h.x) (pos c.x) && is_between (pos l.y) (pos h.y) (pos c.y)) (is_between (pos l.z) (pos h.z) (pos c.z)) (both_true (is_between (pos l.x) (pos h.x) (pos c.x)) (is_between (pos l.y) (pos h.y) (pos c.y)) wx wy) wz
 

@@ -26,7 +26,7 @@ use Rattle.step_groups.proofs.Mates.{group, leads, volatile, none_after, none_be
 -- ---- boxes
 
 pub all_in : {X : Type 0} (P : X → Type 0) (x : X) (xs : List X) → All P xs → In x xs → P x
-all_in P x xs h i = let p = in_place x x xs i in subst P p.2 (h p.0 x p.1)
+all_in P x xs h i = let place = in_place x x xs i in subst P place.2 (h place.0 x place.1)
 
 pub in_all : {X : Type 0} (P : X → Type 0) (xs : List X) → ((x : X) → In x xs → P x) → All P xs
 in_all P xs h = λ k d lt. h _ (place_in d xs k lt)

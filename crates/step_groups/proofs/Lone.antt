@@ -121,7 +121,7 @@ module _ (m : Matrix) (all : List Act) (step : ℕ) where
       → ((c : Coord) → IsTrue (is_volatile_of (point c) a) → IsTrue (is_volatile_of (point c) b) → ⊥)
       → clash m all a b ≡ None
   no_clash a b e f h = none_find (λ c. is_volatile all a (point c) && is_volatile all b (point c)) (all_of m)
-      (λ c i. not_true (is_volatile all a (point c) && is_volatile all b (point c)) (λ k. let t = both (is_volatile all a (point c)) (is_volatile all b (point c)) k in h c (sym (by_itself a c e) ∙ t.0) (sym (by_itself b c f) ∙ t.1)))
+      (λ c i. not_true (is_volatile all a (point c) && is_volatile all b (point c)) (λ k. let both_here = both (is_volatile all a (point c)) (is_volatile all b (point c)) k in h c (sym (by_itself a c e) ∙ both_here.0) (sym (by_itself b c f) ∙ both_here.1)))
 
   with_none : (a : Act) (more : List Act) → members all a ≡ a ∷ [] → ((b : Act) → In b more → members all b ≡ b ∷ [])
       → IsApartFrom a more → judge_with m all step a more ≡ None

@@ -96,9 +96,9 @@ module _ (xs ys : List Act) (a : Act) (up : Rising (map (λ (b : Act). b.bot) (x
 
       by : (b : Bool) → list_any (are_together a) xs ≡ b → is_leader all a ≡ not b
       by true e = false_by (is_leader all a) (λ (h : is_leader all a ≡ true).
-          let r = any_in (are_together a) xs e in
-          let low = earlier_bid xs ys a r.0 up r.1 in
-          let high = at_most_by_test a.bot.bid r.0.bot.bid (all_in (λ b. nat_le a.bot.bid b.bot.bid) r.0 (members all a) h (in_filter (are_together a) r.0 all (before r.0 r.1) r.2)) in
+          let witness = any_in (are_together a) xs e in
+          let low = earlier_bid xs ys a witness.0 up witness.1 in
+          let high = at_most_by_test a.bot.bid witness.0.bot.bid (all_in (λ b. nat_le a.bot.bid b.bot.bid) witness.0 (members all a) h (in_filter (are_together a) witness.0 all (before witness.0 witness.1) witness.2)) in
           absurd (omega arith))
         where
           before : (x : Act) → In x xs → In x all
@@ -109,13 +109,13 @@ module _ (xs ys : List Act) (a : Act) (up : Rising (map (λ (b : Act). b.bot) (x
               in_front (y ∷ xs) ys a x (inl e) = inl e
               in_front (y ∷ xs) ys a x (inr i) = inr (in_front xs ys a x i)
       by false e = in_all (λ b. nat_le a.bot.bid b.bot.bid) (members all a) (λ b i.
-          let m = filter_in (are_together a) b all i in
-          test_at_most a.bot.bid b.bot.bid (at_most b m.1 (parts_of xs ys a b m.0)))
+          let passed = filter_in (are_together a) b all i in
+          test_at_most a.bot.bid b.bot.bid (at_most b passed.1 (parts_of xs ys a b passed.0)))
         where
           at_most : (b : Act) → are_together a b ≡ true → In b xs ⊎ ((b ≡ a) ⊎ In b ys) → a.bot.bid ≤ b.bot.bid
           at_most b t (inl i) = absurd (not_both (in_any (are_together a) b xs i t) e)
           at_most b t (inr (inl f)) = let same_bid : b.bot.bid ≡ a.bot.bid = ap (λ (x : Act). x.bot.bid) f in omega arith
-          at_most b t (inr (inr i)) = let l = later_bid xs ys a b up i in omega arith
+          at_most b t (inr (inr i)) = let bid_later = later_bid xs ys a b up i in omega arith
 
   -- the members of a leader's group are the leader and those after it
   pub group : list_any (are_together a) xs ≡ false → members (xs ++ a ∷ ys) a ≡ a ∷ filter (are_together a) ys
@@ -141,7 +141,7 @@ module _ (xs ys : List Act) (a : Act) (up : Rising (map (λ (b : Act). b.bot) (x
         where
           of_member : (b : Act) → In b zs → is_volatile_of p b ≡ true → Together a b
               → (is_volatile_of p a || list_any spots zs) ≡ true
-          of_member b i v (itself f) = absurd (let l = later_bid xs ys a b up (filter_in (are_together a) b ys i).0 in omega arith)
+          of_member b i v (itself f) = absurd (let bid_later = later_bid xs ys a b up (filter_in (are_together a) b ys i).0 in omega arith)
           of_member b i v (partners t) = or_by_second (is_volatile_of p a) (list_any spots zs) (in_any spots b zs i (of_partner a b p t v))
           of_member b i v (shares t) = on (one_of_two (is_volatile_of p a) (spots b) (of_sharer (position a) a.command (position b) b.command p t v))
             where
@@ -152,31 +152,31 @@ module _ (xs ys : List Act) (a : Act) (up : Rising (map (λ (b : Act). b.bot) (x
           by : (is_volatile_of p a ≡ true) ⊎ (list_any (is_volatile_of p) zs ≡ true)
               → (is_volatile_of p a || list_any spots zs) ≡ true
           by (inl w) = or_by_first (is_volatile_of p a) (list_any spots zs) w
-          by (inr w) = let r = any_in (is_volatile_of p) zs w in of_member r.0 r.1 r.2 (together_is a r.0 (filter_in (are_together a) r.0 ys r.1).1)
+          by (inr w) = let witness = any_in (is_volatile_of p) zs w in of_member witness.0 witness.1 witness.2 (together_is a witness.0 (filter_in (are_together a) witness.0 ys witness.1).1)
 
       backwards : (is_volatile_of p a || list_any spots zs) ≡ true
           → (is_volatile_of p a || list_any (is_volatile_of p) zs) ≡ true
       backwards h = by (one_of_two (is_volatile_of p a) (list_any spots zs) h)
         where
           at : (b : Act) → In b zs → spots b ≡ true → Together a b → is_volatile_of p b ≡ true
-          at b i v (itself f) = absurd (let l = later_bid xs ys a b up (filter_in (are_together a) b ys i).0 in omega arith)
+          at b i v (itself f) = absurd (let bid_later = later_bid xs ys a b up (filter_in (are_together a) b ys i).0 in omega arith)
           at b i v (partners t) = spot_of_partner a b p t v
           at b i v (shares t) = spot_of_sharer (position a) a.command (position b) b.command p t v
 
           by : (is_volatile_of p a ≡ true) ⊎ (list_any spots zs ≡ true)
               → (is_volatile_of p a || list_any (is_volatile_of p) zs) ≡ true
           by (inl w) = or_by_first (is_volatile_of p a) (list_any (is_volatile_of p) zs) w
-          by (inr w) = let r = any_in spots zs w in or_by_second (is_volatile_of p a) (list_any (is_volatile_of p) zs) (in_any (is_volatile_of p) r.0 zs r.1 (at r.0 r.1 r.2 (together_is a r.0 (filter_in (are_together a) r.0 ys r.1).1)))
+          by (inr w) = let witness = any_in spots zs w in or_by_second (is_volatile_of p a) (list_any (is_volatile_of p) zs) (in_any (is_volatile_of p) witness.0 zs witness.1 (at witness.0 witness.1 witness.2 (together_is a witness.0 (filter_in (are_together a) witness.0 ys witness.1).1)))
 
   -- a bot whose command needs no other is alone
   pub none_before : IsTrue (is_alone a.command) → list_any (are_together a) xs ≡ false
   none_before h = false_by (list_any (are_together a) xs) (λ (e : list_any (are_together a) xs ≡ true).
-      let r = any_in (are_together a) xs e in
-      let l = earlier_bid xs ys a r.0 up r.1 in
-      not_both (sym (together_by_bid a r.0 h) ∙ r.2) (test_unequal a.bot.bid r.0.bot.bid (λ f. omega arith)))
+      let witness = any_in (are_together a) xs e in
+      let bid_earlier = earlier_bid xs ys a witness.0 up witness.1 in
+      not_both (sym (together_by_bid a witness.0 h) ∙ witness.2) (test_unequal a.bot.bid witness.0.bot.bid (λ f. omega arith)))
 
   pub none_after : IsTrue (is_alone a.command) → filter (are_together a) ys ≡ []
   none_after h = no_filter (are_together a) ys (false_by (list_any (are_together a) ys) (λ (e : list_any (are_together a) ys ≡ true).
-      let r = any_in (are_together a) ys e in
-      let l = later_bid xs ys a r.0 up r.1 in
-      not_both (sym (together_by_bid a r.0 h) ∙ r.2) (test_unequal a.bot.bid r.0.bot.bid (λ f. omega arith))))
+      let witness = any_in (are_together a) ys e in
+      let bid_later = later_bid xs ys a witness.0 up witness.1 in
+      not_both (sym (together_by_bid a witness.0 h) ∙ witness.2) (test_unequal a.bot.bid witness.0.bot.bid (λ f. omega arith))))

@@ -34,10 +34,10 @@ pub allowed : (m : Matrix) (h : Harmonics) (profile : Profile) (b : Bot) (k : Co
     → ((s : State) (all : List Act) → o ≡ first_fault (record s { matrix = m }) all step (act b k) later_rules)
     → (energy : ℤ) → o ≡ broken (record (start_of m h profile (b ∷ [])) { energy = energy }) (k ∷ []) step
 allowed m h profile b k step o may later energy =
-    let s : State = start_of m h profile (b ∷ []) in
+    let state : State = start_of m h profile (b ∷ []) in
     let all : List Act = act b k ∷ [] in
     by_itself m h profile (b ∷ []) (k ∷ []) step o refl refl
-    (later s all ∙ (sym (skip step b.bid Forbidden (act b k) (not (is_allowed profile k)) (map (λ rule. broken_by step rule b.bid (fault s all (act b k) rule)) later_rules) (ap not may)) ∙ sym (none_after _)))
+    (later state all ∙ (sym (skip step b.bid Forbidden (act b k) (not (is_allowed profile k)) (map (λ rule. broken_by step rule b.bid (fault state all (act b k) rule)) later_rules) (ap not may)) ∙ sym (none_after _)))
     energy
 
 one_rises : (b : Bot) → AllPairs (λ x y. x.bid < y.bid) (b ∷ [])
@@ -47,8 +47,8 @@ one_rises b = search rules
 pub read_once : (m : Matrix) (b : Bot) (k : Command) (before after : ℕ) → after ≤ before + touches_of m (act b k)
     → after ≤ before + 2 * volatile_total m (acts (b ∷ []) (k ∷ []))
 read_once m b k before after le =
-    let e = sum_by-cons (touches_of m) (act b k) [] in
-    touched m (b ∷ []) (k ∷ []) before after refl (one_rises b) (omega (arith, e, le))
+    let sum_is = sum_by-cons (touches_of m) (act b k) [] in
+    touched m (b ∷ []) (k ∷ []) before after refl (one_rises b) (omega (arith, sum_is, le))
 
 -- a way that is read once has no more coordinates than are volatile
 pub read_half : (m : Matrix) (b : Bot) (d : Diff) (to : Coord) (before after : ℕ) → IsTrue (in_space m.resolution (plus (point b.pos) d)) → point to ≡ plus (point b.pos) d → IsInSpace m.resolution b.pos → IsInSpace m.resolution to →

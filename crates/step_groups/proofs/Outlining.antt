@@ -24,12 +24,12 @@ ends l h v o t = (grind (arith, nat_tests), grind (arith, nat_tests))
 pub inside_box : (k : Corners) (c : Coord) → IsOrdered k → IsTrue (is_within (span k) (point c))
     → LiesBetween k.low k.high c
 inside_box k c o t =
-    let x : Bool = is_between (pos k.low.x) (pos k.high.x) (pos c.x) in
-    let y : Bool = is_between (pos k.low.y) (pos k.high.y) (pos c.y) in
-    let z : Bool = is_between (pos k.low.z) (pos k.high.z) (pos c.z) in
-    let ex = ends k.low.x k.high.x c.x o.x (first_of_two x y (first_of_two (x && y) z t)) in
-    let ey = ends k.low.y k.high.y c.y o.y (second_of_two x y (first_of_two (x && y) z t)) in
-    let ez = ends k.low.z k.high.z c.z o.z (second_of_two (x && y) z t) in
+    let between_x : Bool = is_between (pos k.low.x) (pos k.high.x) (pos c.x) in
+    let between_y : Bool = is_between (pos k.low.y) (pos k.high.y) (pos c.y) in
+    let between_z : Bool = is_between (pos k.low.z) (pos k.high.z) (pos c.z) in
+    let ex = ends k.low.x k.high.x c.x o.x (first_of_two between_x between_y (first_of_two (between_x && between_y) between_z t)) in
+    let ey = ends k.low.y k.high.y c.y o.y (second_of_two between_x between_y (first_of_two (between_x && between_y) between_z t)) in
+    let ez = ends k.low.z k.high.z c.z o.z (second_of_two (between_x && between_y) between_z t) in
     record { from_x = ex.0; from_y = ey.0; from_z = ez.0; to_x = ex.1; to_y = ey.1; to_z = ez.1 }
 
 -- ---- what is volatile for one bot lies within the box between where it stands and what it names
@@ -43,18 +43,18 @@ module _ (bot : Bot) (k : Corners) (to : Coord) (around : (p : Point) → is_wit
   pub way_within : (d : Diff) → point to ≡ plus (point bot.pos) d → (c : Coord) → IsVolatileFor (act bot (SMove d)) c
       → IsTrue (is_within (span k) (point c))
   way_within d e c h =
-      let q : Point = plus (point bot.pos) d in
-      around (point c) ∙ (ap (λ (w : Point). is_within (between (point bot.pos) w) (point c)) e ∙ (sym (or_false (is_within (between (point bot.pos) q) (point c))) ∙ h))
+      let reached : Point = plus (point bot.pos) d in
+      around (point c) ∙ (ap (λ (w : Point). is_within (between (point bot.pos) w) (point c)) e ∙ (sym (or_false (is_within (between (point bot.pos) reached) (point c))) ∙ h))
 
   pub named_within : (d : Diff) → point to ≡ plus (point bot.pos) d → (c : Coord) → IsVolatileFor (act bot (Fill d)) c
       → IsTrue (is_within (span k) (point c))
   named_within d e c h =
-      let p : Point = point bot.pos in
-      let q : Point = plus p d in
+      let reached : Point = point bot.pos in
+      let place_reached : Point = plus reached d in
       around (point c)
-      ∙ (ap (λ (w : Point). is_within (between p w) (point c)) e
-      ∙ either (is_within (just p) (point c)) (is_within (just q) (point c)) (is_within (between p q) (point c))
-      (start_within p q (point c)) (end_within p q (point c)) h)
+      ∙ (ap (λ (w : Point). is_within (between reached w) (point c)) e
+      ∙ either (is_within (just reached) (point c)) (is_within (just place_reached) (point c)) (is_within (between reached place_reached) (point c))
+      (start_within reached place_reached (point c)) (end_within reached place_reached (point c)) h)
 
 pub ways_within : (bot : Bot) (d e : Diff) (mid to : Coord) (k l all : Corners) → point mid ≡ plus (point bot.pos) d
     → point to ≡ plus (point mid) e
@@ -64,12 +64,12 @@ pub ways_within : (bot : Bot) (d e : Diff) (mid to : Coord) (k l all : Corners) 
     → ((c : Coord) → IsTrue (is_within (span l) (point c)) → IsTrue (is_within (span all) (point c))) → (c : Coord)
     → IsVolatileFor (act bot (LMove d e)) c → IsTrue (is_within (span all) (point c))
 ways_within bot d e mid to k l all half whole first second f g c h =
-    let p : Point = point bot.pos in
-    let m : Point = plus p d in
-    let q : Point = plus m e in
-    let end : point to ≡ q = whole ∙ ap (λ w. plus w e) half in
-    either (is_within (between p m) (point c)) (is_within (between m q) (point c)) (is_within (span all) (point c))
-    (λ t. f c (first (point c) ∙ (ap (λ (w : Point). is_within (between p w) (point c)) half ∙ t)))
+    let reached : Point = point bot.pos in
+    let place_reached : Point = plus reached d in
+    let reached_then : Point = plus place_reached e in
+    let end : point to ≡ reached_then = whole ∙ ap (λ w. plus w e) half in
+    either (is_within (between reached place_reached) (point c)) (is_within (between place_reached reached_then) (point c)) (is_within (span all) (point c))
+    (λ t. f c (first (point c) ∙ (ap (λ (w : Point). is_within (between reached w) (point c)) half ∙ t)))
     (λ t. g c (second (point c) ∙ ((λ i. is_within (between (half i) (end i)) (point c)) ∙ t))) h
 
 -- ---- one bot more

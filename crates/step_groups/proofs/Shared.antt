@@ -23,13 +23,13 @@ between_below r a b v h k t = grind (arith, nat_tests)
 pub within_space : (r : ℕ) (k : Corners) (c : Coord) → IsBoxIn r k → IsTrue (is_within (span k) (point c))
     → IsInSpace r c
 within_space r k c h t =
-    let x : Bool = is_between (pos k.low.x) (pos k.high.x) (pos c.x) in
-    let y : Bool = is_between (pos k.low.y) (pos k.high.y) (pos c.y) in
-    let z : Bool = is_between (pos k.low.z) (pos k.high.z) (pos c.z) in
+    let between_x : Bool = is_between (pos k.low.x) (pos k.high.x) (pos c.x) in
+    let between_y : Bool = is_between (pos k.low.y) (pos k.high.y) (pos c.y) in
+    let between_z : Bool = is_between (pos k.low.z) (pos k.high.z) (pos c.z) in
     record {
-      x = between_below r k.low.x k.high.x c.x h.low.x h.high.x (first_of_two x y (first_of_two (x && y) z t));
-      y = between_below r k.low.y k.high.y c.y h.low.y h.high.y (second_of_two x y (first_of_two (x && y) z t));
-      z = between_below r k.low.z k.high.z c.z h.low.z h.high.z (second_of_two (x && y) z t);
+      x = between_below r k.low.x k.high.x c.x h.low.x h.high.x (first_of_two between_x between_y (first_of_two (between_x && between_y) between_z t));
+      y = between_below r k.low.y k.high.y c.y h.low.y h.high.y (second_of_two between_x between_y (first_of_two (between_x && between_y) between_z t));
+      z = between_below r k.low.z k.high.z c.z h.low.z h.high.z (second_of_two (between_x && between_y) between_z t);
     }
 
 -- what two boxes share

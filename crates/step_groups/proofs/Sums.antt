@@ -27,22 +27,22 @@ record Within {X : Type 0} (x : X) (xs : List X) : Type 0 where
 found : {X : Type 0} (x : X) (xs : List X) → In x xs → Within x xs
 found x [] i = absurd i
 found x (y ∷ ys) (inl e) = record { before = []; after = ys; whole = λ i. sym e i ∷ ys }
-found x (y ∷ ys) (inr i) = let w = found x ys i in record { before = y ∷ w.before; after = w.after; whole = ap (λ zs. y ∷ zs) w.whole }
+found x (y ∷ ys) (inr i) = let found_here = found x ys i in record { before = y ∷ found_here.before; after = found_here.after; whole = ap (λ zs. y ∷ zs) found_here.whole }
 
 module _ (m : Matrix) (all : List Act) (up : Rising (map (λ (x : Act). x.bot) all)) where
   pub alone_members : (a : Act) → In a all → IsTrue (is_alone a.command) → members all a ≡ a ∷ []
   alone_members a i h =
-      let w = found a all i in
-      let up' : Rising (map (λ (x : Act). x.bot) (w.before ++ a ∷ w.after)) = subst (λ (zs : List Act). Rising (map (λ (x : Act). x.bot) zs)) w.whole up in
-      ap (λ (zs : List Act). members zs a) w.whole
-      ∙ (group w.before w.after a up' (none_before w.before w.after a up' h) ∙ ap (λ zs. a ∷ zs) (none_after w.before w.after a up' h))
+      let found_here = found a all i in
+      let up' : Rising (map (λ (x : Act). x.bot) (found_here.before ++ a ∷ found_here.after)) = subst (λ (zs : List Act). Rising (map (λ (x : Act). x.bot) zs)) found_here.whole up in
+      ap (λ (zs : List Act). members zs a) found_here.whole
+      ∙ (group found_here.before found_here.after a up' (none_before found_here.before found_here.after a up' h) ∙ ap (λ zs. a ∷ zs) (none_after found_here.before found_here.after a up' h))
 
   pub alone_leads : (a : Act) → In a all → IsTrue (is_alone a.command) → is_leader all a ≡ true
   alone_leads a i h =
-      let w = found a all i in
-      let up' : Rising (map (λ (x : Act). x.bot) (w.before ++ a ∷ w.after)) = subst (λ (zs : List Act). Rising (map (λ (x : Act). x.bot) zs)) w.whole up in
-      ap (λ (zs : List Act). is_leader zs a) w.whole
-      ∙ (leads w.before w.after a up' ∙ ap not (none_before w.before w.after a up' h))
+      let found_here = found a all i in
+      let up' : Rising (map (λ (x : Act). x.bot) (found_here.before ++ a ∷ found_here.after)) = subst (λ (zs : List Act). Rising (map (λ (x : Act). x.bot) zs)) found_here.whole up in
+      ap (λ (zs : List Act). is_leader zs a) found_here.whole
+      ∙ (leads found_here.before found_here.after a up' ∙ ap not (none_before found_here.before found_here.after a up' h))
 
   -- what is volatile for a bot that is alone and stays in space is so for its group
   alone_count : (a : Act) → In a all → IsTrue (is_alone a.command) → IsTrue (stays_in_space m.resolution a)
@@ -59,8 +59,8 @@ module _ (m : Matrix) (all : List Act) (up : Rising (map (λ (x : Act). x.bot) a
           → cond {A = ℕ} (x && y) (2 * count_by (λ c. is_volatile_of (point c) a) (all_of m)) 0
           ≤ cond (is_leader all a) (2 * volatile_count m all a) 0
       by true true e f =
-          let n = alone_count a i e f in
-          subst (λ (t : Bool). 2 * count_by (λ c. is_volatile_of (point c) a) (all_of m) ≤ cond t (2 * volatile_count m all a) 0) (sym (alone_leads a i e)) (omega (arith, n))
+          let count_alone = alone_count a i e f in
+          subst (λ (t : Bool). 2 * count_by (λ c. is_volatile_of (point c) a) (all_of m) ≤ cond t (2 * volatile_count m all a) 0) (sym (alone_leads a i e)) (omega (arith, count_alone))
       by true false e f = omega arith
       by false y e f = omega arith
 
@@ -74,12 +74,12 @@ module _ (m : Matrix) (all : List Act) (up : Rising (map (λ (x : Act). x.bot) a
           → sum_by (touches_of m) (a ∷ xs)
           ≤ 2 * sum (map (volatile_count m all) (cond t (a ∷ filter (is_leader all) xs) (filter (is_leader all) xs)))
       by true p s =
-          let e = sum_by-cons (touches_of m) a xs in
+          let first_of_sum = sum_by-cons (touches_of m) a xs in
           let sum_is : sum (volatile_count m all a ∷ map (volatile_count m all) (filter (is_leader all) xs)) ≡ volatile_count m all a + sum (map (volatile_count m all) (filter (is_leader all) xs)) = sum_by-cons (λ n. n) (volatile_count m all a) (map (volatile_count m all) (filter (is_leader all) xs)) in
-          omega (arith, e, sum_is, p, s)
+          omega (arith, first_of_sum, sum_is, p, s)
       by false p s =
-          let e = sum_by-cons (touches_of m) a xs in
-          omega (arith, e, p, s)
+          let first_of_sum = sum_by-cons (touches_of m) a xs in
+          omega (arith, first_of_sum, p, s)
 
 -- the touches of all bots
 pub touched : (m : Matrix) (bots : List Bot) (commands : List Command) (old new : ℕ) → length commands ≡ length bots

@@ -211,8 +211,8 @@ module _ (all : List Act) (apart : AreApart all) where
 
       there : (x : Act) → In x all → In (first x) all × (are_together x (first x) ≡ true)
       there x k =
-          let l = is_found (are_together x) x all k (with_itself x) in
-          (place_in a all (group_number all x) l, passes_at_first (are_together x) all a l)
+          let is_found_here = is_found (are_together x) x all k (with_itself x) in
+          (place_in a all (group_number all x) is_found_here, passes_at_first (are_together x) all a is_found_here)
 
       onwards : (group_number all b == group_number all a) ≡ true → are_together a b ≡ true
       onwards e =
@@ -319,7 +319,7 @@ module _ (bots : List Bot) (commands : List Command) (lengths : length commands 
     leads_by_number e = by (list_any (are_together a) xs) refl
       where
         by : (t : Bool) → list_any (are_together a) xs ≡ t → t ≡ false
-        by true h = absurd (let l = some_found (are_together a) xs h in let m = number_before in let o = before_are in omega arith)
+        by true h = absurd (let found_below = some_found (are_together a) xs h in let before_number = number_before in let levels_before = before_are in omega arith)
         by false h = refl
 
     pub follows_by_number : (get_or numbers i 0 ≡ i → ⊥)

@@ -31,11 +31,11 @@ pub count_more : (f g : Coord → Bool) (xs : List Coord) → ((c : Coord) → I
     → count_by f xs ≤ count_by g xs
 count_more f g [] h = omega arith
 count_more f g (x ∷ xs) h =
-    let a = sum_by-cons (λ c. cond {A = ℕ} (f c) 1 0) x xs in
-    let b = sum_by-cons (λ c. cond {A = ℕ} (g c) 1 0) x xs in
-    let e = step (f x) (g x) (h x) in
-    let i = count_more f g xs h in
-    omega (arith, a, b, e, i)
+    let sum_is = sum_by-cons (λ c. cond {A = ℕ} (f c) 1 0) x xs in
+    let first_of_sum = sum_by-cons (λ c. cond {A = ℕ} (g c) 1 0) x xs in
+    let step_here = step (f x) (g x) (h x) in
+    let more_counted = count_more f g xs h in
+    omega (arith, sum_is, first_of_sum, step_here, more_counted)
 
 pub high_within : (r : ℕ) (k : Corners) (a b : Coord) → k ≡ corners a b → IsInSpace r a → IsInSpace r b
     → IsInSpace r k.high
@@ -63,9 +63,9 @@ pub one_read : (m : Matrix) (a : Act) (k : Corners) (old new : ℕ) → IsTrue (
     → IsTrue (stays_in_space m.resolution a) → ((c : Coord) → IsTrue (in_box k c) → IsTrue (is_volatile_of (point c) a))
     → new ≤ old + count_by (in_box k) (all_of m) → new ≤ old + touches_of m a
 one_read m a k old new alone h i le =
-    let e = twice m a alone h in
-    let l = count_more (in_box k) (λ c. is_volatile_of (point c) a) (all_of m) i in
-    omega (arith, e, l, le)
+    let twice_here = twice m a alone h in
+    let more_counted = count_more (in_box k) (λ c. is_volatile_of (point c) a) (all_of m) i in
+    omega (arith, twice_here, more_counted, le)
 
 pub two_reads : (m : Matrix) (a : Act) (k j : Corners) (old mid new : ℕ) → IsTrue (is_alone a.command)
     → IsTrue (stays_in_space m.resolution a) → ((c : Coord) → IsTrue (in_box k c) → IsTrue (is_volatile_of (point c) a))
@@ -73,10 +73,10 @@ pub two_reads : (m : Matrix) (a : Act) (k j : Corners) (old mid new : ℕ) → I
     → mid ≤ old + count_by (in_box k) (all_of m) → new ≤ mid + count_by (in_box j) (all_of m)
     → new ≤ old + touches_of m a
 two_reads m a k j old mid new alone h i n le lf =
-    let e = twice m a alone h in
-    let l = count_more (in_box k) (λ c. is_volatile_of (point c) a) (all_of m) i in
-    let r = count_more (in_box j) (λ c. is_volatile_of (point c) a) (all_of m) n in
-    omega (arith, e, l, r, le, lf)
+    let twice_here = twice m a alone h in
+    let more_counted = count_more (in_box k) (λ c. is_volatile_of (point c) a) (all_of m) i in
+    let more_counted_here = count_more (in_box j) (λ c. is_volatile_of (point c) a) (all_of m) n in
+    omega (arith, twice_here, more_counted, more_counted_here, le, lf)
 
 abbrev Covers : Corners → Span → Type 0
 Covers k s = (p : Point) → is_within (span k) p ≡ is_within s p
@@ -117,13 +117,13 @@ pub lmove_reads : (m : Matrix) (bot : Bot) (d e : Diff) (k j : Corners) (mid to 
     → half ≤ old + count_by (in_box k) (all_of m) → new ≤ half + count_by (in_box j) (all_of m)
     → new ≤ old + touches_of m (act bot (LMove d e))
 lmove_reads m bot d e k j mid to old half new i n f g h l le lf =
-    let P : Point = plus (point bot.pos) d in
-    let Q : Point = plus P e in
-    let point_is : point to ≡ Q = g ∙ ap (λ w. plus w e) f in
+    let reached : Point = plus (point bot.pos) d in
+    let place_reached : Point = plus reached e in
+    let point_is : point to ≡ place_reached = g ∙ ap (λ w. plus w e) f in
     two_reads m (act bot (LMove d e)) k j old half new refl
-    (both_true (in_space m.resolution P) (in_space m.resolution Q && true) i (both_true (in_space m.resolution Q) true (subst (λ (w : Point). IsTrue (in_space m.resolution (plus w e))) f n) refl))
-    (λ c t. or_by_first (is_within (between (point bot.pos) P) (point c)) (is_within (between P Q) (point c) || false) (sym (h (point c) ∙ ap (λ q. is_within (between (point bot.pos) q) (point c)) f) ∙ t))
-    (λ c t. or_by_second (is_within (between (point bot.pos) P) (point c)) (is_within (between P Q) (point c) || false) (or_by_first (is_within (between P Q) (point c)) false (sym (l (point c) ∙ (λ v. is_within (between (f v) (point_is v)) (point c))) ∙ t)))
+    (both_true (in_space m.resolution reached) (in_space m.resolution place_reached && true) i (both_true (in_space m.resolution place_reached) true (subst (λ (w : Point). IsTrue (in_space m.resolution (plus w e))) f n) refl))
+    (λ c t. or_by_first (is_within (between (point bot.pos) reached) (point c)) (is_within (between reached place_reached) (point c) || false) (sym (h (point c) ∙ ap (λ q. is_within (between (point bot.pos) q) (point c)) f) ∙ t))
+    (λ c t. or_by_second (is_within (between (point bot.pos) reached) (point c)) (is_within (between reached place_reached) (point c) || false) (or_by_first (is_within (between reached place_reached) (point c)) false (sym (l (point c) ∙ (λ v. is_within (between (f v) (point_is v)) (point c))) ∙ t)))
     le lf
 
 -- the touches of the bots from a place on

@@ -55,8 +55,8 @@ rising_gone (x ∷ xs) h = (later, rising_gone xs h.1)
   where
     later : (c : Bot) → In c (map gone xs) → x.bot.bid < c.bid
     later c i =
-        let w = map_in gone c xs i in
-        subst (λ (b : Bot). x.bot.bid < b.bid) (sym w.2) (h.0 w.0.bot (in_map (λ (a : Act). a.bot) w.0 xs w.1))
+        let origin = map_in gone c xs i in
+        subst (λ (b : Bot). x.bot.bid < b.bid) (sym origin.2) (h.0 origin.0.bot (in_map (λ (a : Act). a.bot) origin.0 xs origin.1))
 
 pub bots_gone : (all : List Act) → Rising (map (λ a. a.bot) all)
     → AllByRecursion (λ a. IsTrue (stays_one a.command)) all → bots_after all ≡ map gone all
@@ -69,10 +69,10 @@ bots_gone all up h =
 none_count : {X : Type 0} (p : X → Bool) (xs : List X) → ((x : X) → In x xs → p x ≡ false) → count_by p xs ≡ 0
 none_count p [] h = refl
 none_count p (x ∷ xs) h =
-    let e = sum_by-cons (λ y. cond {A = ℕ} (p y) 1 0) x xs in
-    let f : cond {A = ℕ} (p x) 1 0 ≡ 0 = ap (λ t. cond {A = ℕ} t 1 0) (h x (inl refl)) in
+    let sum_is = sum_by-cons (λ y. cond {A = ℕ} (p y) 1 0) x xs in
+    let choice_zero : cond {A = ℕ} (p x) 1 0 ≡ 0 = ap (λ t. cond {A = ℕ} t 1 0) (h x (inl refl)) in
     let count_is : count_by p xs ≡ 0 = none_count p xs (λ y i. h y (inr i)) in
-    omega (arith, e, f, count_is)
+    omega (arith, sum_is, choice_zero, count_is)
 
 pub harmonics_stay : (h : Harmonics) (all : List Act) → ((a : Act) → In a all → is_flip a.command ≡ false)
     → harmonics_after h all ≡ h
@@ -125,7 +125,7 @@ voxels_stay m all whole h = matrix_same m.resolution _ (is_full m) (λ c i. (λ 
 
 some_power : (n : ℕ) → 0 < 2 ^ n
 some_power zero = lit< tt
-some_power (suc n) = let h = some_power n in rw pow-suc (omega arith)
+some_power (suc n) = let power_positive = some_power n in rw pow-suc (omega arith)
 
 pub group_stays_one : (r : ℕ) (region : Span) (full : Bool) (p : Point) (k : Command) → MayJoin r region full p k
     → IsTrue (stays_one k)
@@ -174,7 +174,7 @@ module _ (s : State) (region : Span) (full : Bool) (all : List Act) (h : AreOneG
   joins a i = (all_by (IsMember s region full) all a h.each i).joins
 
   some : 0 < length all
-  some = let many = h.many in let p = some_power (dimension region) in omega arith
+  some = let many = h.many in let power_positive = some_power (dimension region) in omega arith
 
   pub group_matrix : matrix_after s.matrix all ≡ with_region s.matrix region full
   group_matrix = matrix_same s.matrix.resolution _ _ (λ c i. (λ j. all_filled c j || (is_full s.matrix c && not (all_voided c j))) ∙ made (is_within region (point c)) full (is_full s.matrix c))
@@ -203,7 +203,7 @@ find_only {X} p b (x ∷ xs) i t only = by (p x) refl i (λ j. find_only p b xs 
     by : (s : Bool) → p x ≡ s → (b ≡ x) ⊎ In b xs → (In b xs → find p xs ≡ Some b)
         → cond s (Some x) (find p xs) ≡ Some b
     by true e j later = ap Some (only x (inl refl) e)
-    by false e (inl f) later = let g = sym (ap p f) ∙ t in let k = sym e ∙ g in cc
+    by false e (inl f) later = let g = sym (ap p f) ∙ t in let impossible = sym e ∙ g in cc
     by false e (inr j) later = later j
 
 module _ (all : List Act) (apart : AreApart all) (a b : Act) (j : In b all) (pair : is_pair a b ≡ true) where

@@ -63,9 +63,9 @@ all_by P (y ∷ ys) x h (inr i) = all_by P ys x h.1 i
 
 clear : (a b : Act) → AreApart a b → AreClear a b
 clear a b h = λ c v w.
-    let s = any_in (λ (r : Span). is_within r (point c)) (volatile_regions (position a) a.command) v in
-    let t = any_in (λ (r : Span). is_within r (point c)) (volatile_regions (position b) b.command) w in
-    none_shared s.0 t.0 (point c) (all_by (λ (r : Span). LieApart s.0 r) (volatile_regions (position b) b.command) t.0 (all_by (λ (q : Span). AllByRecursion (λ (r : Span). LieApart q r) (volatile_regions (position b) b.command)) (volatile_regions (position a) a.command) s.0 h s.1) t.1) s.2 t.2
+    let witness = any_in (λ (r : Span). is_within r (point c)) (volatile_regions (position a) a.command) v in
+    let its_witness = any_in (λ (r : Span). is_within r (point c)) (volatile_regions (position b) b.command) w in
+    none_shared witness.0 its_witness.0 (point c) (all_by (λ (r : Span). LieApart witness.0 r) (volatile_regions (position b) b.command) its_witness.0 (all_by (λ (q : Span). AllByRecursion (λ (r : Span). LieApart q r) (volatile_regions (position b) b.command)) (volatile_regions (position a) a.command) witness.0 h witness.1) its_witness.1) witness.2 its_witness.2
 
 meets : (a b : Act) → MayMeet a b → Agree a b
 meets a b (inl h) = inl (is_together a b (partners h))
@@ -132,7 +132,7 @@ module _ (s : State) (all : List Act) (b : Bot) where
       → IsFreeWay s.matrix (plus (point b.pos) d) (plus (plus (point b.pos) d) e) → (rule : Rule)
       → fault s all (act b (LMove d e)) rule ≡ None
   lmove_faults d e a w v Forbidden = rw a refl
-  lmove_faults d e a w v OutOfSpace = let i = w.within in let within = v.within in rw (i, within) refl
+  lmove_faults d e a w v OutOfSpace = let its_within = w.within in let within = v.within in rw (its_within, within) refl
   lmove_faults d e a w v Blocked = none_find _ (all_of s.matrix) (λ c i. two_ways (is_within (between (point b.pos) (plus (point b.pos) d)) (point c)) (is_within (between (plus (point b.pos) d) (plus (plus (point b.pos) d) e)) (point c)) (is_full s.matrix c) (w.void c) (v.void c))
   lmove_faults d e a w v _ = refl
 
@@ -142,7 +142,7 @@ module _ (s : State) (all : List Act) (b : Bot) where
   primary_faults d a h Forbidden = rw a refl
   primary_faults d a h OutOfSpace = let within = h.within in rw within refl
   primary_faults d a h Blocked = none_blocked s.matrix
-  primary_faults d a h Partner = let e = in_any (are_partners (act b (FusionP d))) h.other all (contained all h.other h.here) h.partners in rw e refl
+  primary_faults d a h Partner = let some_holds = in_any (are_partners (act b (FusionP d))) h.other all (contained all h.other h.here) h.partners in rw some_holds refl
   primary_faults d a h _ = refl
 
   secondary_faults : (d : Diff) → is_allowed s.profile (FusionS d) ≡ true
@@ -151,7 +151,7 @@ module _ (s : State) (all : List Act) (b : Bot) where
   secondary_faults d a h Forbidden = rw a refl
   secondary_faults d a h OutOfSpace = let within = h.within in rw within refl
   secondary_faults d a h Blocked = none_blocked s.matrix
-  secondary_faults d a h Partner = let e = in_any (are_partners (act b (FusionS d))) h.other all (contained all h.other h.here) h.partners in rw e refl
+  secondary_faults d a h Partner = let some_holds = in_any (are_partners (act b (FusionS d))) h.other all (contained all h.other h.here) h.partners in rw some_holds refl
   secondary_faults d a h _ = refl
 
   fission_faults : (d : Diff) (m : ℕ) → is_allowed s.profile (Fission d m) ≡ true
@@ -160,7 +160,7 @@ module _ (s : State) (all : List Act) (b : Bot) where
   fission_faults d m a w l Forbidden = rw a refl
   fission_faults d m a w l OutOfSpace = let within = w.within in rw within refl
   fission_faults d m a w l Blocked = none_find _ (all_of s.matrix) (λ c i. one_way (is_within (just (plus (point b.pos) d)) (point c)) (is_full s.matrix c) (w.void c))
-  fission_faults d m a w l Seeds = let e = enough (length (seed_list b.seeds)) m l in rw e refl
+  fission_faults d m a w l Seeds = let enough_seeds = enough (length (seed_list b.seeds)) m l in rw enough_seeds refl
   fission_faults d m a w l _ = refl
 
   fill_faults : (d : Diff) → is_allowed s.profile (Fill d) ≡ true
@@ -197,8 +197,8 @@ module _ (s : State) (all : List Act) (b : Bot) where
 pub free_faults : (s : State) (all : List Act) → AreFree s all → (a : Act) (rule : Rule) → In a all
     → fault s all a rule ≡ None
 free_faults s all h a rule i =
-    let f = all_by (IsFree s all) all a h.each i in
-    faults_by s all a.bot a.command f.allowed f.may rule
+    let holds_for_all = all_by (IsFree s all) all a h.each i in
+    faults_by s all a.bot a.command holds_for_all.allowed holds_for_all.may rule
 
 pub free_agree : (s : State) (all : List Act) → AreFree s all → (a b : Act) → In a all → In b all → Agree a b
 free_agree s all h = agree_in all h.untangled
@@ -223,11 +223,11 @@ differs_as a b c d h = by (extent_is a b c d h)
 
 dimension_as : (s t : Span) → same_region s t ≡ true → dimension s ≡ dimension t
 dimension_as s t h =
-    let p = region_parts s t h in
-    let x = differs_as s.from.x s.to.x t.from.x t.to.x p.0 in
-    let y = differs_as s.from.y s.to.y t.from.y t.to.y p.1 in
-    let z = differs_as s.from.z s.to.z t.from.z t.to.z p.2 in
-    λ i. x i + y i + z i
+    let same_extents = region_parts s t h in
+    let differ_alike_x = differs_as s.from.x s.to.x t.from.x t.to.x same_extents.0 in
+    let differ_alike_y = differs_as s.from.y s.to.y t.from.y t.to.y same_extents.1 in
+    let differ_alike_z = differs_as s.from.z s.to.z t.from.z t.to.z same_extents.2 in
+    λ i. differ_alike_x i + differ_alike_y i + differ_alike_z i
 
 pub between_as : (a b c d v : ℤ) → same_extent a b c d ≡ true → is_between a b v ≡ is_between c d v
 between_as a b c d v h = by (extent_is a b c d h)
@@ -245,11 +245,11 @@ between_as a b c d v h = by (extent_is a b c d h)
 -- a point is in both of two regions that are the same, or in neither
 pub within_as : (s t : Span) (p : Point) → same_region s t ≡ true → is_within s p ≡ is_within t p
 within_as s t p h =
-    let q = region_parts s t h in
-    let x = between_as s.from.x s.to.x t.from.x t.to.x p.x q.0 in
-    let y = between_as s.from.y s.to.y t.from.y t.to.y p.y q.1 in
-    let z = between_as s.from.z s.to.z t.from.z t.to.z p.z q.2 in
-    λ i. x i && y i && z i
+    let same_extents = region_parts s t h in
+    let between_alike_x = between_as s.from.x s.to.x t.from.x t.to.x p.x same_extents.0 in
+    let between_alike_y = between_as s.from.y s.to.y t.from.y t.to.y p.y same_extents.1 in
+    let between_alike_z = between_as s.from.z s.to.z t.from.z t.to.z p.z same_extents.2 in
+    λ i. between_alike_x i && between_alike_y i && between_alike_z i
 
 -- the group command that fills or voids
 abbrev word : Bool → Diff → Diff → Command
@@ -340,11 +340,11 @@ module _ (s : State) (region : Span) (full : Bool) (all : List Act) (h : AreOneG
 
   pub group_faults : (a : Act) (rule : Rule) → In a all → fault s all a rule ≡ None
   group_faults a rule i =
-      let k = joining_in a i in
-      let same : a ≡ act a.bot (word full k.near k.far) = (λ j. act a.bot (k.command j)) in
+      let joins = joining_in a i in
+      let same : a ≡ act a.bot (word full joins.near joins.far) = (λ j. act a.bot (joins.command j)) in
       subst (λ (x : Act). fault s all x rule ≡ None) (sym same)
-      (word_faults s all region a.bot k.near k.far k.cornered h.many h.corners full
-      (ap (is_allowed s.profile) (sym k.command) ∙ (all_by (IsMember s region full) all a h.each i).allowed)
+      (word_faults s all region a.bot joins.near joins.far joins.cornered h.many h.corners full
+      (ap (is_allowed s.profile) (sym joins.command) ∙ (all_by (IsMember s region full) all a h.each i).allowed)
       (ap (members all) (sym same) ∙ group_members a i) rule)
 
   pub group_agree : (a b : Act) → In a all → In b all → Agree a b

@@ -73,11 +73,11 @@ module _ (m : Matrix) (all : List Act) (apart : AreApart all) (agree : (a b : Ac
 
       never : (c : Coord) → (is_volatile all l (point c) && is_volatile all d (point c)) ≡ true → ⊥
       never c h =
-          let x = any_in (is_volatile_of (point c)) (members all l) (first_of_two (is_volatile all l (point c)) (is_volatile all d (point c)) h) in
-          let y = any_in (is_volatile_of (point c)) (members all d) (second_of_two (is_volatile all l (point c)) (is_volatile all d (point c)) h) in
-          let xi = filter_in (are_together l) x.0 all x.1 in
-          let yi = filter_in (are_together d) y.0 all y.1 in
-          at c x.0 y.0 xi.0 yi.0 xi.1 yi.1 x.2 y.2 (agree x.0 y.0 xi.0 yi.0)
+          let witness = any_in (is_volatile_of (point c)) (members all l) (first_of_two (is_volatile all l (point c)) (is_volatile all d (point c)) h) in
+          let its_witness = any_in (is_volatile_of (point c)) (members all d) (second_of_two (is_volatile all l (point c)) (is_volatile all d (point c)) h) in
+          let xi = filter_in (are_together l) witness.0 all witness.1 in
+          let yi = filter_in (are_together d) its_witness.0 all its_witness.1 in
+          at c witness.0 its_witness.0 xi.0 yi.0 xi.1 yi.1 witness.2 its_witness.2 (agree witness.0 its_witness.0 xi.0 yi.0)
 
   no_pairs : (step : ℕ) (xs : List Act) → Differ (λ (a : Act). a.bot.bid) xs
       → ((a : Act) → In a xs → In a (leaders all)) → (j : Option Broken) → In j (judge_pairs m all step xs) → j ≡ None
@@ -87,17 +87,17 @@ module _ (m : Matrix) (all : List Act) (apart : AreApart all) (agree : (a b : Ac
       by : In j (map (λ b. broken_by step Interference a.bot.bid (clash m all a b)) more)
           ⊎ In j (judge_pairs m all step more) → (In j (judge_pairs m all step more) → j ≡ None) → j ≡ None
       by (inl k) later =
-          let w = map_in (λ b. broken_by step Interference a.bot.bid (clash m all a b)) j more k in
-          w.2 ∙ ap (broken_by step Interference a.bot.bid) (no_clash a w.0 (h a (inl refl)) (h w.0 (inr w.1)) (d.0 w.0 w.1))
+          let origin = map_in (λ b. broken_by step Interference a.bot.bid (clash m all a b)) j more k in
+          origin.2 ∙ ap (broken_by step Interference a.bot.bid) (no_clash a origin.0 (h a (inl refl)) (h origin.0 (inr origin.1)) (d.0 origin.0 origin.1))
       by (inr k) later = later k
 
 module _ (s : State) (commands : List Command) (step : ℕ) (ready : IsReady s) (lengths : length commands ≡ length s.bots) (faultless : (a : Act) (rule : Rule) → In a (acts s.bots commands) → fault s (acts s.bots commands) a rule ≡ None) (agree : (a b : Act) → In a (acts s.bots commands) → In b (acts s.bots commands) → Agree a b) where
   no_faults : (j : Option Broken) → In j (judge_bots s (acts s.bots commands) step) → j ≡ None
   no_faults j i =
       let all = acts s.bots commands in
-      let w = flat_in (judge_by rules_of_bots s all step) j all i in
-      let v = map_in (λ rule. broken_by step rule w.0.bot.bid (fault s all w.0 rule)) j rules_of_bots w.2 in
-      v.2 ∙ ap (broken_by step v.0 w.0.bot.bid) (faultless w.0 v.0 w.1)
+      let origin = flat_in (judge_by rules_of_bots s all step) j all i in
+      let mapped_from = map_in (λ rule. broken_by step rule origin.0.bot.bid (fault s all origin.0 rule)) j rules_of_bots origin.2 in
+      mapped_from.2 ∙ ap (broken_by step mapped_from.0 origin.0.bot.bid) (faultless origin.0 mapped_from.0 origin.1)
 
   pub unbroken_by : broken s commands step ≡ None
   unbroken_by = all_none (judge_trace s commands step ∷ (judge_bots s all step ++ judge_pairs s.matrix all step (leaders all))) each

@@ -57,12 +57,12 @@ module _ (s : State) (all : List Act) (good : IsGood s all) (before rest : List 
     coming = λ a i. perm.only a (in_right a before (l ∷ rest) i);
     gone = λ a i. perm.only a (in_left a before (l ∷ rest) (of_onto before a i));
     once = λ k.
-        let f = hit (λ (a : Act). a.bot.bid) k in
-        let o : sum_by f (before ++ l ∷ rest) ≡ sum_by f before + sum_by f (l ∷ rest) = sum_by-append f before (l ∷ rest) in
-        let p : sum_by f (before ++ l ∷ rest) ≡ sum_by f (leaders all) = perm.sums f in
-        let sum_to_1 : sum_by f (leaders all) ≤ 1 = one_hit_most (λ (a : Act). a.bot.bid) k (leaders all) (differ_filter (λ (a : Act). a.bot.bid) _ all (differ_acts all good.rising)) in
-        let same_sum : sum_by f (onto before []) ≡ sum_by f before + sum_by f [] = onto_sum f before [] in
-        let sum_is : sum_by f [] ≡ 0 = refl in
+        let hits = hit (λ (a : Act). a.bot.bid) k in
+        let sum_by_append_here : sum_by hits (before ++ l ∷ rest) ≡ sum_by hits before + sum_by hits (l ∷ rest) = sum_by-append hits before (l ∷ rest) in
+        let sums : sum_by hits (before ++ l ∷ rest) ≡ sum_by hits (leaders all) = perm.sums hits in
+        let sum_to_1 : sum_by hits (leaders all) ≤ 1 = one_hit_most (λ (a : Act). a.bot.bid) k (leaders all) (differ_filter (λ (a : Act). a.bot.bid) _ all (differ_acts all good.rising)) in
+        let same_sum : sum_by hits (onto before []) ≡ sum_by hits before + sum_by hits [] = onto_sum hits before [] in
+        let sum_is : sum_by hits [] ≡ 0 = refl in
         omega arith;
   }
 
@@ -105,9 +105,9 @@ module _ (s : State) (all : List Act) (good : IsGood s all) (before rest : List 
 
       by : In y (after_some s all (onto before [])).bots → y ≡ l.bot
       by k =
-          let w = flat_in (became all (onto before [])) y all (order_in (flat_map (became all (onto before [])) all) y k) in
-          let same = one_act s all good l w.0 x y leads w.1 (stands (members all l) l l.command x i) (stood w.0 (is_taken (onto before []) w.0) w.2) e in
-          own (subst (λ (bots : List Bot). In y bots) (kept s all good (onto before []) l next l leads (with_itself l)) (subst (λ (b : Act). In y (became all (onto before []) b)) (sym same) w.2))
+          let origin = flat_in (became all (onto before [])) y all (order_in (flat_map (became all (onto before [])) all) y k) in
+          let same = one_act s all good l origin.0 x y leads origin.1 (stands (members all l) l l.command x i) (stood origin.0 (is_taken (onto before []) origin.0) origin.2) e in
+          own (subst (λ (bots : List Bot). In y bots) (kept s all good (onto before []) l next l leads (with_itself l)) (subst (λ (b : Act). In y (became all (onto before []) b)) (sym same) origin.2))
 
 -- the same for the commands of a step that breaks no rule
 module _ (s : State) (commands : List Command) (step : ℕ) (ready : IsReady s) (keep : broken s commands step ≡ None) where

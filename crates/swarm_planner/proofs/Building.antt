@@ -50,7 +50,7 @@ none_wanted m target (p ∷ ps) c h u g = by (is_below p c) refl (none_of_two (i
   where
     by : (t : Bool) → is_below p c ≡ t → (is_wanted m target p ≡ false) × (are_wanted m target ps ≡ false)
         → (are_wanted m target ps ≡ false → is_under ps c ≡ true → is_full m c ≡ true) → is_full m c ≡ true
-    by true e n later = let f = is_below-is p c e in second_by_and_not (is_full target c) (is_full m c) (ap (λ (d : Coord). is_full target d && not (is_full m d)) f ∙ n.0) g
+    by true e n later = let is_the_one_below = is_below-is p c e in second_by_and_not (is_full target c) (is_full m c) (ap (λ (d : Coord). is_full target d && not (is_full m d)) is_the_one_below ∙ n.0) g
     by false e n later = later n.1 (sym (ap (λ t. t || is_under ps c) e) ∙ u)
 
 all_there : (full under target : Bool) → (under ≡ true → target ≡ true → full ≡ true)
@@ -100,7 +100,7 @@ builds_then a b c target d e all from to start end m n way h k near join = recor
   raised = raised_more c.matrix b.matrix a.matrix target d e all h.raised k.raised join;
   ready = k.ready;
   low = k.low;
-  steps_are = let i = h.steps_are in let steps_are = k.steps_are in let l = near (spot b.bots) in omega arith;
+  steps_are = let its_steps_are = h.steps_are in let steps_are = k.steps_are in let near_here = near (spot b.bots) in omega arith;
 }
 
 -- the same part, with the way to another place at its end
@@ -113,7 +113,7 @@ builds_on a b target d e from to end m most way h near up fits same = record {
   raised = raised_as b.matrix a.matrix target d e h.raised same;
   ready = h.ready;
   low = let low = h.low in omega arith;
-  steps_are = let steps_are = h.steps_are in let l = near (spot b.bots) in omega arith;
+  steps_are = let steps_are = h.steps_are in let near_here = near (spot b.bots) in omega arith;
 }
 
 -- ---- where all stays void
@@ -175,14 +175,14 @@ pub cell_built : (a b c : TapeState) (target : Matrix) (x y z : ℕ) → CanFill
     → Builds a c target (cell a.matrix.resolution x y z) (coord x (y + 1) z) (coord x (y + 1) z) 1
 cell_built a b c target x y z k g f =
     let at = coord x (y + 1) z in
-    let r = a.matrix.resolution in
-    let size : b.matrix.resolution ≡ r = ap (λ (m : Matrix). m.resolution) g.matrix in
-    let here : places b.bots ≡ strip_row r at = g.row.places_are ∙ (λ i. strip_row (size i) (g.there i)) in
-    let all : (q : Coord) → is_under (places b.bots) q ≡ cell r x y z q = λ q. ap (λ ps. is_under ps q) here ∙ under_is r x y z q in
-    let raised : IsRaised c.matrix a.matrix target (cell r x y z) = subst (λ (m : Matrix). IsRaised c.matrix m target (cell r x y z)) g.matrix (raised_as c.matrix b.matrix target (is_under (places b.bots)) (cell r x y z) f.raised (λ q h. all q)) in
+    let matrix_resolution = a.matrix.resolution in
+    let size : b.matrix.resolution ≡ matrix_resolution = ap (λ (m : Matrix). m.resolution) g.matrix in
+    let here : places b.bots ≡ strip_row matrix_resolution at = g.row.places_are ∙ (λ i. strip_row (size i) (g.there i)) in
+    let all : (q : Coord) → is_under (places b.bots) q ≡ cell matrix_resolution x y z q = λ q. ap (λ ps. is_under ps q) here ∙ under_is matrix_resolution x y z q in
+    let raised : IsRaised c.matrix a.matrix target (cell matrix_resolution x y z) = subst (λ (m : Matrix). IsRaised c.matrix m target (cell matrix_resolution x y z)) g.matrix (raised_as c.matrix b.matrix target (is_under (places b.bots)) (cell matrix_resolution x y z) f.raised (λ q h. all q)) in
     let stands : spot c.bots ≡ at = ap spot f.bots ∙ g.there in
-    let same : c.matrix.resolution ≡ r = f.resolution ∙ size in
-    let void : IsVoidFrom c.matrix (y + 1) = void_above c.matrix a.matrix target (cell r x y z) (y + 1) raised k.above (λ q l. no_cell r x y z q l) in
+    let same : c.matrix.resolution ≡ matrix_resolution = f.resolution ∙ size in
+    let void : IsVoidFrom c.matrix (y + 1) = void_above c.matrix a.matrix target (cell matrix_resolution x y z) (y + 1) raised k.above (λ q l. no_cell matrix_resolution x y z q l) in
     record {
       source = f.source ∙ g.source;
       resolution = same;
@@ -196,7 +196,7 @@ cell_built a b c target x y z k g f =
         same = k.ready.same ∙ sym same;
         here = subst (λ (q : Coord). IsVoidFrom c.matrix q.y) (sym stands) void;
       };
-      low = let e = ap (λ (q : Coord). q.y) stands in omega arith;
+      low = let same_y = ap (λ (q : Coord). q.y) stands in omega arith;
       steps_are =
           let steps = f.steps in
           let steps_are = g.steps_are in

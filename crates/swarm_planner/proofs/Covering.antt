@@ -31,7 +31,7 @@ line_in r (suc k) j x h l e = by (equal_or_less j k l) (λ m. line_in r k j x h 
 
 strip_of : (r v : ℕ) → 1 ≤ width r → v ≤ r - 3 → v / width r < count r
 strip_of r v h l =
-    let d = div-add-mod (r - 3) (width r) in
+    let division = div-add-mod (r - 3) (width r) in
     let below_width : (r - 3) % width r < width r = mod_below (r - 3) (width r) h in
     let count_is : count r * width r ≡ width r * ((r - 3) / width r) + width r = omega arith in
     div_below v (width r) (count r) h (omega arith)
@@ -40,17 +40,17 @@ strip_of r v h l =
 covered : (r x : ℕ) → 3 ≤ r → 1 ≤ x → x + 1 < r → in_lines r (width r) x ≡ true
 covered r x s h l =
     let some_width : 1 ≤ width r = omega arith in
-    let d = div-add-mod (x - 1) (width r) in
+    let division = div-add-mod (x - 1) (width r) in
     let below_width : (x - 1) % width r < width r = mod_below (x - 1) (width r) some_width in
     line_in r (width r) ((x - 1) % width r + 1) x (omega arith) (omega arith) (column_at (width r) (last r) (count r) ((x - 1) % width r + 1) ((x - 1) / width r) x (strip_of r (x - 1) some_width (omega arith)) (omega arith) (omega arith))
 
 pub in_layers : (m : Matrix) (c : Coord) → IsLegal m → is_full m c ≡ true
     → layers m.resolution (m.resolution - 1) c ≡ true
 in_layers m c h f =
-    let b = full_in_box m c h f in
-    let x = b.x in
-    let x_end = b.x_end in
-    let y_end = b.y_end in
+    let in_box = full_in_box m c h f in
+    let x = in_box.x in
+    let x_end = in_box.x_end in
+    let y_end = in_box.y_end in
     both_true (in_lines m.resolution (width m.resolution) c.x) (nat_lt c.y (m.resolution - 1)) (covered m.resolution c.x (omega arith) x x_end) (test_less c.y (m.resolution - 1) (omega arith))
 
 all_there : (full done target : Bool) → full ≡ false → (target ≡ true → done ≡ true)

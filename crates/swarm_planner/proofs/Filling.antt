@@ -47,15 +47,15 @@ within_below : (p c : Coord) → 1 ≤ p.y → is_within (just (plus (point p) d
 within_below p c h = ap (λ q. is_within (just q) (point c)) (below_is p h) ∙ (λ i. between_is_equal p.x c.x i && only_below p.y c.y h i && between_is_equal p.z c.z i)
 
 less_one : (a b : ℕ) → (a + 1 == b) ≡ true → a ≡ b - 1
-less_one a b h = let e = equal_by_test (a + 1) b h in omega arith
+less_one a b h = let same_sum = equal_by_test (a + 1) b h in omega arith
 
 pub is_below-is : (p c : Coord) → is_below p c ≡ true → c ≡ below p
 is_below-is p c h =
-    let t = parts_of_three (c.x == p.x) (c.y + 1 == p.y) (c.z == p.z) h in
-    let x = equal_by_test c.x p.x t.0 in
-    let y = less_one c.y p.y t.1 in
-    let z = equal_by_test c.z p.z t.2 in
-    λ i. record { x = x i; y = y i; z = z i }
+    let three_parts = parts_of_three (c.x == p.x) (c.y + 1 == p.y) (c.z == p.z) h in
+    let same_x = equal_by_test c.x p.x three_parts.0 in
+    let is_less_one_y = less_one c.y p.y three_parts.1 in
+    let same_z = equal_by_test c.z p.z three_parts.2 in
+    λ i. record { x = same_x i; y = is_less_one_y i; z = same_z i }
 
 and_with : (a b : Bool) → (a ≡ true → b ≡ false) → (a && b) ≡ false
 and_with true b h = h refl
@@ -100,7 +100,7 @@ may_fill : (s : State) (all : List Act) (target : Matrix) (b : Bot) → IsInSpac
 may_fill s all target b i h = by (is_wanted s.matrix target b.pos)
   where
     by : (t : Bool) → MayAct s all (record { bot = b; command = fill s.matrix target b.pos }) (cond t (Fill down) Wait)
-    by true = subst (λ (q : Point). IsTrue (in_space s.matrix.resolution q)) (sym (below_is b.pos h)) (in_space_is s.matrix.resolution (below b.pos) (let y = i.y in record { x = i.x; y = omega arith; z = i.z }))
+    by true = subst (λ (q : Point). IsTrue (in_space s.matrix.resolution q)) (sym (below_is b.pos h)) (in_space_is s.matrix.resolution (below b.pos) (let along_y = i.y in record { x = i.x; y = omega arith; z = i.z }))
     by false = tt
 
 -- the region of one point in a column

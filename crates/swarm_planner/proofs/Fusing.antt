@@ -62,7 +62,7 @@ module _ (s : State) (light : s.profile ≡ light_profile) (y z : ℕ) (below : 
       let height = k.0.height in
       let depth = k.0.depth in
       let here : IsInSpace s.matrix.resolution b.pos = record { x = k.0.within; y = omega arith; z = omega arith } in
-      let there : IsInSpace s.matrix.resolution (next_along_x b.pos) = let x = k.1.0.within in record { x = omega arith; y = omega arith; z = omega arith } in (
+      let there : IsInSpace s.matrix.resolution (next_along_x b.pos) = let its_within = k.1.0.within in record { x = omega arith; y = omega arith; z = omega arith } in (
         record {
           allowed = allowed s.profile (FusionP right) light refl;
           may = record {
@@ -101,10 +101,10 @@ module _ (s : State) (light : s.profile ≡ light_profile) (y z : ℕ) (below : 
   all_fenced [] low k e h = AreFenced.none
   all_fenced (b ∷ []) low k e h = absurd (omega arith)
   all_fenced (b ∷ c ∷ []) low k e h =
-      let l = k.0.past in
+      let its_past = k.0.past in
       let past = k.1.0.past in
       let next : next_along_x b.pos ≡ c.pos = beside_is b.pos c.pos e (k.1.0.height ∙ sym k.0.height) (k.1.0.depth ∙ sym k.0.depth) in
-      AreFenced.two c.pos.x (just_in low c.pos.x (point b.pos) b.pos.x refl l (omega arith), tt) (just_in low c.pos.x (point c.pos) c.pos.x refl (omega arith) (omega arith), tt) (or_by_first (is_pair (record { bot = b; command = FusionP right }) (record { bot = c; command = FusionS left })) _ (are_pair b c next))
+      AreFenced.two c.pos.x (just_in low c.pos.x (point b.pos) b.pos.x refl its_past (omega arith), tt) (just_in low c.pos.x (point c.pos) c.pos.x refl (omega arith) (omega arith), tt) (or_by_first (is_pair (record { bot = b; command = FusionP right }) (record { bot = c; command = FusionS left })) _ (are_pair b c next))
   all_fenced (b ∷ c ∷ d ∷ more) low k e h =
       let past = k.0.past in
       AreFenced.one b.pos.x past (just_in low b.pos.x (point b.pos) b.pos.x refl past (omega arith), tt) (all_fenced (c ∷ d ∷ more) (b.pos.x + 1) k.1 e (omega arith))
@@ -148,8 +148,8 @@ become all law [] r y z low within k e = refl
 become all law (b ∷ []) r y z low within k e = refl
 become all law (b ∷ c ∷ []) r y z low within k e =
     let next : next_along_x b.pos ≡ c.pos = beside_is b.pos c.pos e (k.1.0.height ∙ sym k.0.height) (k.1.0.depth ∙ sym k.0.depth) in
-    let a = law (record { bot = b; command = FusionP right }) (record { bot = c; command = FusionS left }) (containing all (record { bot = b; command = FusionP right }) (within (record { bot = b; command = FusionP right }) (inl refl))) (containing all (record { bot = c; command = FusionS left }) (within (record { bot = c; command = FusionS left }) (inr (inl refl)))) (are_pair b c next) in
-    ap (λ (bs : List Bot). bs ++ []) a
+    let law_here = law (record { bot = b; command = FusionP right }) (record { bot = c; command = FusionS left }) (containing all (record { bot = b; command = FusionP right }) (within (record { bot = b; command = FusionP right }) (inl refl))) (containing all (record { bot = c; command = FusionS left }) (within (record { bot = c; command = FusionS left }) (inr (inl refl)))) (are_pair b c next) in
+    ap (λ (bs : List Bot). bs ++ []) law_here
 become all law (b ∷ c ∷ d ∷ more) r y z low within k e = ap (λ bs. b ∷ bs) (become all law (c ∷ d ∷ more) r y z (b.pos.x + 1) (λ a i. within a (inr i)) k.1 e)
 
 places_merged : (bots : List Bot) → places (merged bots) ≡ without_last (places bots)

@@ -56,8 +56,8 @@ gathers a b c x m line two e g on r f =
     let there = places_on a b line x m g in
     let size = ap (λ (k : Matrix). k.resolution) r.matrix in
     let all : places c.bots ≡ without_last (places a.bots) = f ∙ (ap without_last there ∙ fused-sent x (places a.bots)) in
-    let n = length-places a.bots in
-    let k = length-fused (places a.bots) (omega arith) in
+    let as_many_places = length-places a.bots in
+    let fused_length = length-fused (places a.bots) (omega arith) in
     let same = ap length all in
     let most = on.most in
     let on_y = on.y in
@@ -78,12 +78,12 @@ pub row_in_line : (p : TapeState) → IsSwarm p → InRow p → IsVoidFrom p.mat
 row_in_line p swarm bot_row void =
     let leads = bot_row.leads in
     let resolution = p.matrix.resolution in
-    let s = leads.some in
+    let leads_some = leads.some in
     let first = leads.first in
     let wide = leads.wide in
-    let d = mul-div-le (resolution - 3) (width resolution) in
-    let l = ap length bot_row.places_are in
-    let n = length-row (width resolution) (last resolution) (count resolution) (spot p.bots) in
+    let quotient_bound = mul-div-le (resolution - 3) (width resolution) in
+    let length_is = ap length bot_row.places_are in
+    let row_length = length-row (width resolution) (last resolution) (count resolution) (spot p.bots) in
     line_of p (spot p.bots).y (spot p.bots).z swarm (omega arith) leads.most leads.y leads.z
     (subst (λ (cs : List Coord). AreLined resolution (spot p.bots).y (spot p.bots).z 1 cs) (sym bot_row.places_are) (row_lined resolution (width resolution) (last resolution) (count resolution) 1 1 (spot p.bots) (record { begins = omega arith; from = first; from_end = omega arith; room = omega arith; within = omega arith })))
     void
@@ -126,27 +126,27 @@ pub near_left : (a b : TapeState) (c : Coord) (n m : ℕ) → AreLeft a b c (suc
     → gap (last_column (places b.bots)) (free_column 1 (places b.bots)) ≤ width a.matrix.resolution
 near_left a b c n m h =
     let same_gap : gap (last_column (places b.bots)) (free_column 1 (places b.bots)) ≡ gap (last_column (bot_row (width a.matrix.resolution) (last a.matrix.resolution) (suc (suc n)) c)) (free_column 1 (bot_row (width a.matrix.resolution) (last a.matrix.resolution) (suc (suc n)) c)) = ap (λ cs. gap (last_column cs) (free_column 1 cs)) h.places_are in
-    let k = row_gap (width a.matrix.resolution) (last a.matrix.resolution) n 1 c (omega arith) in
-    omega (arith, same_gap, k)
+    let gap_bound = row_gap (width a.matrix.resolution) (last a.matrix.resolution) n 1 c (omega arith) in
+    omega (arith, same_gap, gap_bound)
 
 pub one_less : (a b c : TapeState) (to : Coord) (n m most : ℕ) → AreLeft a b to (suc (suc n)) m
     → Gathers b c (gap (last_column (places b.bots)) (free_column 1 (places b.bots)) + 1) → a.matrix.resolution ≤ 400
     → m + 21 ≤ most → AreLeft a c to (suc n) most
 one_less a b c to n m most h g fits l =
-    let w = width a.matrix.resolution in
-    let k = row_gap w (last a.matrix.resolution) n 1 to (omega arith) in
-    let same_gap : gap (last_column (places b.bots)) (free_column 1 (places b.bots)) ≡ gap (last_column (bot_row w (last a.matrix.resolution) (suc (suc n)) to)) (free_column 1 (bot_row w (last a.matrix.resolution) (suc (suc n)) to)) = ap (λ cs. gap (last_column cs) (free_column 1 cs)) h.places_are in
-    let v = narrow a.matrix.resolution fits in
+    let width_here = width a.matrix.resolution in
+    let gap_bound = row_gap width_here (last a.matrix.resolution) n 1 to (omega arith) in
+    let same_gap : gap (last_column (places b.bots)) (free_column 1 (places b.bots)) ≡ gap (last_column (bot_row width_here (last a.matrix.resolution) (suc (suc n)) to)) (free_column 1 (bot_row width_here (last a.matrix.resolution) (suc (suc n)) to)) = ap (λ cs. gap (last_column cs) (free_column 1 cs)) h.places_are in
+    let is_narrow = narrow a.matrix.resolution fits in
     record {
       source = g.source ∙ h.source;
       matrix = g.matrix ∙ h.matrix;
       line = g.line;
-      places_are = g.places_are ∙ (ap without_last h.places_are ∙ fused-row w (last a.matrix.resolution) (suc n) to);
-      steps_are = let i = h.steps_are in let steps_are = g.steps_are in omega (arith, i, steps_are, k, same_gap, v, l);
+      places_are = g.places_are ∙ (ap without_last h.places_are ∙ fused-row width_here (last a.matrix.resolution) (suc n) to);
+      steps_are = let its_steps_are = h.steps_are in let steps_are = g.steps_are in omega (arith, its_steps_are, steps_are, gap_bound, same_gap, is_narrow, l);
     }
 
 first_of : (bots : List Bot) (c : Coord) → places bots ≡ c ∷ [] → (length bots ≡ 1) × (spot bots ≡ c)
-first_of [] c e = let f = ap length e in absurd (omega arith)
+first_of [] c e = let length_is = ap length e in absurd (omega arith)
 first_of (b ∷ bots) c e = (sym (length-places (b ∷ bots)) ∙ ap length e, ap head e)
   where
     head : List Coord → Coord
@@ -157,7 +157,7 @@ pub is_gathered : (a b : TapeState) (to : Coord) (n most : ℕ) → AreLeft a b 
     → MayLead a.matrix.resolution to → to ≡ coord (spot a.bots).x (spot a.bots).y 0 → HasGathered a b most
 is_gathered a b to n most h e lead at =
     let resolution = a.matrix.resolution in
-    let s = lead.some in
+    let lead_some = lead.some in
     let wide = lead.wide in
     let min_is : min to.x (last resolution) ≡ to.x = omega arith in
     let here : held (last resolution) to ≡ to = λ i. record { x = min_is i; y = to.y; z = to.z } in

@@ -17,4 +17,4 @@ wide_enough m n h v w e void differ = by (three_or_less m.resolution)
   where
     by : (3 ≤ m.resolution) ⊎ (m.resolution < 3) → 3 ≤ m.resolution
     by (inl k) = k
-    by (inr k) = absurd (differ (alike_is_same n m w v e (λ c _. void c (omega arith) ∙ sym (false_by (is_full m c) (λ f. let b = full_in_box m c h f in let x = b.x in let x_end = b.x_end in absurd (omega arith))))))
+    by (inr k) = absurd (differ (alike_is_same n m w v e (λ c _. void c (omega arith) ∙ sym (false_by (is_full m c) (λ f. let in_box = full_in_box m c h f in let along_x = in_box.x in let x_end = in_box.x_end in absurd (omega arith))))))

@@ -37,7 +37,7 @@ length-sent (c ∷ d ∷ more) x = ap suc (length-sent (d ∷ more) x)
 pub free-sent : (low x : ℕ) (cs : List Coord) → free_column low (sent cs x) ≡ free_column low cs
 free-sent low x [] = refl
 free-sent low x (c ∷ []) = refl
-free-sent low x (c ∷ d ∷ more) = free_more low c (sent (d ∷ more) x) (let e = length-sent (d ∷ more) x in omega arith) ∙ free-sent (c.x + 1) x (d ∷ more)
+free-sent low x (c ∷ d ∷ more) = free_more low c (sent (d ∷ more) x) (let sent_length = length-sent (d ∷ more) x in omega arith) ∙ free-sent (c.x + 1) x (d ∷ more)
   where
     free_more : (low : ℕ) (c : Coord) (cs : List Coord) → 0 < length cs
         → free_column low (c ∷ cs) ≡ free_column (c.x + 1) cs
@@ -47,7 +47,7 @@ free-sent low x (c ∷ d ∷ more) = free_more low c (sent (d ∷ more) x) (let 
 pub last-sent : (x : ℕ) (cs : List Coord) → 0 < length cs → last_column (sent cs x) ≡ x
 last-sent x [] h = absurd (omega arith)
 last-sent x (c ∷ []) h = refl
-last-sent x (c ∷ d ∷ more) h = last_more c (sent (d ∷ more) x) (let e = length-sent (d ∷ more) x in omega arith) ∙ last-sent x (d ∷ more) (omega arith)
+last-sent x (c ∷ d ∷ more) h = last_more c (sent (d ∷ more) x) (let sent_length = length-sent (d ∷ more) x in omega arith) ∙ last-sent x (d ∷ more) (omega arith)
   where
     last_more : (c : Coord) (cs : List Coord) → 0 < length cs → last_column (c ∷ cs) ≡ last_column cs
     last_more c [] h = absurd (omega arith)
@@ -56,7 +56,7 @@ last-sent x (c ∷ d ∷ more) h = last_more c (sent (d ∷ more) x) (let e = le
 pub sent-sent : (u v : ℕ) (cs : List Coord) → sent (sent cs u) v ≡ sent cs v
 sent-sent u v [] = refl
 sent-sent u v (c ∷ []) = refl
-sent-sent u v (c ∷ d ∷ more) = sent_more c (sent (d ∷ more) u) v (let e = length-sent (d ∷ more) u in omega arith) ∙ ap (λ ds. c ∷ ds) (sent-sent u v (d ∷ more))
+sent-sent u v (c ∷ d ∷ more) = sent_more c (sent (d ∷ more) u) v (let sent_length = length-sent (d ∷ more) u in omega arith) ∙ ap (λ ds. c ∷ ds) (sent-sent u v (d ∷ more))
 
 pub sent_there : (cs : List Coord) → sent cs (last_column cs) ≡ cs
 sent_there [] = refl
@@ -84,7 +84,7 @@ split_lined r y z low (c ∷ d ∷ more) k h = (k.0, split_lined r y z (c.x + 1)
 pub fused-sent : (x : ℕ) (cs : List Coord) → without_last (sent cs x) ≡ without_last cs
 fused-sent x [] = refl
 fused-sent x (c ∷ []) = refl
-fused-sent x (c ∷ d ∷ more) = fused_more c (sent (d ∷ more) x) (let e = length-sent (d ∷ more) x in omega arith) ∙ ap (λ ds. c ∷ ds) (fused-sent x (d ∷ more))
+fused-sent x (c ∷ d ∷ more) = fused_more c (sent (d ∷ more) x) (let sent_length = length-sent (d ∷ more) x in omega arith) ∙ ap (λ ds. c ∷ ds) (fused-sent x (d ∷ more))
   where
     fused_more : (c : Coord) (cs : List Coord) → 0 < length cs → without_last (c ∷ cs) ≡ c ∷ without_last cs
     fused_more c [] h = absurd (omega arith)

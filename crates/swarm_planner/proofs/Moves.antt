@@ -71,18 +71,18 @@ module _ (p : TapeState) (swarm : IsSwarm p) (row : InRow p) (void : IsVoidFrom 
       → commands ≡ row_led axis (width p.matrix.resolution) (last p.matrix.resolution) p.bots to
       → AllStep p q commands p.matrix p.harmonics (bots_gone p.bots commands) → RowGoes p q to 1
   row_goes q commands e s =
-      let g = goes_by p swarm (spot p.bots).y void axis (strip_row p.matrix.resolution to) 1 all_led q (subst (λ (ks : List Command). AllStep p q ks p.matrix p.harmonics (bots_gone p.bots ks)) (e ∙ as_led) s) in
-      let size = ap (λ (m : Matrix). m.resolution) g.matrix in
-      let there : places q.bots ≡ strip_row p.matrix.resolution to = ap places g.bots_are ∙ places-placed p.matrix.resolution (spot p.bots).y axis p.bots (strip_row p.matrix.resolution to) 1 all_led in
+      let crew_goes = goes_by p swarm (spot p.bots).y void axis (strip_row p.matrix.resolution to) 1 all_led q (subst (λ (ks : List Command). AllStep p q ks p.matrix p.harmonics (bots_gone p.bots ks)) (e ∙ as_led) s) in
+      let size = ap (λ (m : Matrix). m.resolution) crew_goes.matrix in
+      let there : places q.bots ≡ strip_row p.matrix.resolution to = ap places crew_goes.bots_are ∙ places-placed p.matrix.resolution (spot p.bots).y axis p.bots (strip_row p.matrix.resolution to) 1 all_led in
       let at : spot q.bots ≡ to = spot_of_row p.matrix.resolution q.bots to leads there in
       record {
-        source = g.source;
-        matrix = g.matrix;
-        swarm = g.swarm;
+        source = crew_goes.source;
+        matrix = crew_goes.matrix;
+        swarm = crew_goes.swarm;
         row = record {
           places_are = there ∙ (λ i. strip_row (sym size i) (sym at i));
           leads = subst (λ r. MayLead r (spot q.bots)) (sym size) (subst (λ (c : Coord). MayLead p.matrix.resolution c) (sym at) leads);
         };
         there = at;
-        steps_are = g.steps_are;
+        steps_are = crew_goes.steps_are;
       }

@@ -22,9 +22,9 @@ use Rattle.vox_geom.specs.Point.{coord}
 
 pub layers_fit : (r : ℕ) → r ≤ 400 → (r - 1) * swarm_layer_steps r ≤ 399 * 24060
 layers_fit r h =
-    let n = narrow r h in
+    let is_narrow = narrow r h in
     let long : 3 * r + 1 ≤ 1201 = omega arith in
-    let lines : width r * (3 * r + 1) ≤ 20 * 1201 = mul-le-mul n long in
+    let lines : width r * (3 * r + 1) ≤ 20 * 1201 = mul-le-mul is_narrow long in
     let fewer : r - 1 ≤ 399 = omega arith in
     let layer : swarm_layer_steps r ≤ 24060 = omega arith in
     mul-le-mul fewer layer
@@ -79,9 +79,9 @@ erected a b c d target few s h wd wt same k g =
     let er : b.matrix.resolution ≡ target.resolution = ap (λ (m : Matrix). m.resolution) s.matrix ∙ sym same in
     let wide : c.matrix.resolution ≡ target.resolution = k.resolution ∙ er in
     let leads = k.ready.row.leads in
-    let x = leads.wide in
+    let leads_wide = leads.wide in
     let y = leads.y in
-    let n = narrow c.matrix.resolution leads.most in
+    let is_narrow = narrow c.matrix.resolution leads.most in
     let none = no_way_yet a b 400 s in
     let ss = s.steps_are in
     let ks : crew_steps_to c (coord 1 target.resolution 0) ≤ crew_steps_to b (coord 1 1 0) + (target.resolution - 1) * swarm_layer_steps target.resolution = subst (λ r. crew_steps_to c (coord 1 r 0) ≤ crew_steps_to b (coord 1 1 0) + (r - 1) * swarm_layer_steps r) er k.steps_are in
@@ -89,7 +89,7 @@ erected a b c d target few s h wd wt same k g =
     let gx = ap (λ (q : Coord). q.x) g.there in
     let gy = ap (λ (q : Coord). q.y) g.there in
     let gz = ap (λ (q : Coord). q.z) g.there in
-    let most = together d.steps c.steps b.steps a.steps (spot d.bots).x (spot d.bots).y (spot c.bots) (distance (spot b.bots) (coord 1 1 0)) ((target.resolution - 1) * swarm_layer_steps target.resolution) target.resolution gs gx gy ks ss few none (omega (arith, x, n)) (omega (arith, y, wide)) in
+    let most = together d.steps c.steps b.steps a.steps (spot d.bots).x (spot d.bots).y (spot c.bots) (distance (spot b.bots) (coord 1 1 0)) ((target.resolution - 1) * swarm_layer_steps target.resolution) target.resolution gs gx gy ks ss few none (omega (arith, leads_wide, is_narrow)) (omega (arith, y, wide)) in
     record {
       swarm = g.swarm;
       alone = g.alone;

@@ -28,7 +28,7 @@ strip_some : (r : ℕ) → 1 ≤ width r
 strip_some r = omega arith
 
 pub few : (r : ℕ) → 3 ≤ r → (r - 3) / width r < 20
-few r h = let s = many_columns r h in let w = strip_some r in div_below (r - 3) (width r) 20 (omega arith) (omega arith)
+few r h = let columns_bound = many_columns r h in let strip_positive = strip_some r in div_below (r - 3) (width r) 20 (omega arith) (omega arith)
 
 -- ---- rows
 
@@ -95,14 +95,14 @@ module _ (r h : ℕ) (axis : Axis) (w l : ℕ) where
       → AreLed r h axis low (bot_row w l n c) (bot_row w l n d)
   row_are_led zero low start c d k = tt
   row_are_led (suc n) low start c d k =
-      let m = more_room start w n l k.room in
-      let begins : start ≤ l = m.0 in
-      let a = k.begins in
-      let b = k.from in
-      let e = k.from_end in
-      let f = k.to in
-      let g = k.to_end in
-      let i = k.within in (
+      let room_for_more = more_room start w n l k.room in
+      let begins : start ≤ l = room_for_more.0 in
+      let its_begins = k.begins in
+      let its_from = k.from in
+      let its_from_end = k.from_end in
+      let up_to = k.to in
+      let its_to_end = k.to_end in
+      let its_within = k.within in (
         record {
           line = line_held axis l c d k.line;
           near = near_held axis l c d k.near;
@@ -121,8 +121,8 @@ module _ (r h : ℕ) (axis : Axis) (w l : ℕ) where
           from_end = omega arith;
           to = omega arith;
           to_end = omega arith;
-          room = m.1;
-          within = i;
+          room = room_for_more.1;
+          within = its_within;
           y = k.y;
           z = k.z;
           to_y = k.to_y;
@@ -138,21 +138,21 @@ pub led_row : (r h : ℕ) (axis : Axis) (c d : Coord) → MayLead r c → MayLea
     → gap (component_of axis c) (component_of axis d) ≤ 15 → h ≤ c.y → h ≤ d.y
     → AreLed r h axis 1 (strip_row r c) (strip_row r d)
 led_row r h axis c d a b line near high high_to =
-    let s = a.some in
+    let some_there = a.some in
     let most = a.most in
-    let e = a.first in
+    let its_first = a.first in
     let first = b.first in
-    let i = a.wide in
-    let j = b.wide in
+    let its_wide = a.wide in
+    let wide_here = b.wide in
     row_are_led r h axis (width r) (last r) (count r) 1 1 c d (record {
       begins = omega arith;
       line = line;
       near = near;
-      from = e;
+      from = its_first;
       from_end = omega arith;
       to = first;
       to_end = omega arith;
-      room = let k = mul-div-le (r - 3) (width r) in omega arith;
+      room = let quotient_bound = mul-div-le (r - 3) (width r) in omega arith;
       within = omega arith;
       y = a.y;
       z = a.z;
@@ -176,8 +176,8 @@ first_of_bots (b ∷ bots) c cs e = ap first e
 
 held_is : (r : ℕ) (c : Coord) → MayLead r c → held (last r) c ≡ c
 held_is r c h =
-    let s = h.some in
-    let w = h.wide in
+    let some_there = h.some in
+    let its_wide = h.wide in
     let min_is : min c.x (last r) ≡ c.x = omega arith in
     λ i. record { x = min_is i; y = c.y; z = c.z }
 
@@ -195,6 +195,6 @@ near_by r h axis w l low [] c m k = tt
 near_by r h axis w l low (b ∷ bots) c m k = (record { from = below axis b.pos k.0.from; to = below axis (held l c) k.0.to; near = k.0.near }, near_by r h axis w l (max b.pos.x (min c.x l) + 1) bots (next w c) m k.1)
   where
     below : (x : Axis) (q : Coord) → IsInSpace r q → component_of x q ≤ 400
-    below X q i = let f = i.x in omega arith
-    below Y q i = let f = i.y in omega arith
-    below Z q i = let f = i.z in omega arith
+    below X q i = let along_x = i.x in omega arith
+    below Y q i = let along_y = i.y in omega arith
+    below Z q i = let along_z = i.z in omega arith

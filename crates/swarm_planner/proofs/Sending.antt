@@ -57,7 +57,7 @@ pub line_of : (p : TapeState) (y z : ℕ) → IsSwarm p → 0 < length (places p
     → y < p.matrix.resolution → z < p.matrix.resolution → AreLined p.matrix.resolution y z 1 (places p.bots)
     → IsVoidFrom p.matrix y → InLine p
 line_of p y z swarm some most hy hz k void =
-    let n = length-places p.bots in
+    let as_many_places = length-places p.bots in
     let at = level p.matrix.resolution y z 1 p.bots k (omega arith) in
     let ey = at.0 in
     let ez = at.1 in
@@ -80,10 +80,10 @@ module _ (a b : TapeState) (line : InLine a) (x m : ℕ) (goes : CrewGoes a b (s
   pub line_on : free_column 1 (places a.bots) ≤ x → x < a.matrix.resolution → InLine b
   line_on free within =
       let size = ap (λ (k : Matrix). k.resolution) goes.matrix in
-      let n = length-places a.bots in
-      let l = length-sent (places a.bots) x in
+      let as_many_places = length-places a.bots in
+      let sent_length = length-sent (places a.bots) x in
       let some = line.some in
-      let e = ap length places_on in
+      let length_is = ap length places_on in
       let line_y = line.y in
       let line_z = line.z in
       let most = line.most in
@@ -116,7 +116,7 @@ goes_more a b c u v m n most g e h l =
       matrix = h.matrix ∙ g.matrix;
       swarm = h.swarm;
       bots_are = h.bots_are ∙ ((λ i. placed (g.bots_are i) (onto i)) ∙ placed-placed a.bots (sent (places a.bots) u) (sent (places a.bots) v) (length-sent (places a.bots) u ∙ length-places a.bots));
-      steps_are = let i = g.steps_are in let steps_are = h.steps_are in omega arith;
+      steps_are = let its_steps_are = g.steps_are in let steps_are = h.steps_are in omega arith;
     }
 
 pub longer : (a t n o : ℕ) → gap a t + gap t o ≡ gap a o → IsOnward t n o
@@ -152,11 +152,11 @@ row_lined r w l zero low start c k = tt
 row_lined r w l (suc n) low start c k =
     let room : start + w * suc n ≤ l + w = k.room in
     let fits : start ≤ l = omega arith in
-    let a = k.begins in
-    let b = k.from in
-    let e = k.from_end in
-    let i = k.within in
-    (record { within = omega arith; past = omega arith; height = refl; depth = refl }, row_lined r w l n (min c.x l + 1) (start + w) (next w c) (record { begins = omega arith; from = omega arith; from_end = omega arith; room = omega arith; within = i }))
+    let its_begins = k.begins in
+    let its_from = k.from in
+    let its_from_end = k.from_end in
+    let its_within = k.within in
+    (record { within = omega arith; past = omega arith; height = refl; depth = refl }, row_lined r w l n (min c.x l + 1) (start + w) (next w c) (record { begins = omega arith; from = omega arith; from_end = omega arith; room = omega arith; within = its_within }))
 
 -- where the last of n + 1 places is
 pub last-row : (w l n : ℕ) (c : Coord) → c.x + w * n ≤ l → last_column (bot_row w l (suc n) c) ≡ c.x + w * n
@@ -206,7 +206,7 @@ row_grows w l (suc n) x c e h =
 
 pub strip_start : (r n : ℕ) → 3 ≤ r → n < count r → 1 + width r * n ≤ last r
 strip_start r n s h =
-    let d = mul-div-le (r - 3) (width r) in
+    let quotient_bound = mul-div-le (r - 3) (width r) in
     let same : width r ≤ width r = omega arith in
     let fewer : n ≤ (r - 3) / width r = omega arith in
     let at_most_width : width r * n ≤ width r * ((r - 3) / width r) = mul-le-mul same fewer in
@@ -227,20 +227,20 @@ module _ (p : TapeState) (n : ℕ) (spread : IsSpreadOver p (suc n)) (more : suc
   spread_length = sym (length-places p.bots) ∙ (ap length spread_places ∙ length-row (width p.matrix.resolution) (last p.matrix.resolution) (suc n) (coord 1 1 0))
 
   spread_lined : AreLined p.matrix.resolution 1 0 1 (starts p.matrix.resolution (suc n))
-  spread_lined = row_lined p.matrix.resolution (width p.matrix.resolution) (last p.matrix.resolution) (suc n) 1 1 (coord 1 1 0) (let s = spread.some in record { begins = omega arith; from = omega arith; from_end = omega arith; room = let h = room in omega arith; within = omega arith })
+  spread_lined = row_lined p.matrix.resolution (width p.matrix.resolution) (last p.matrix.resolution) (suc n) 1 1 (coord 1 1 0) (let spread_some = spread.some in record { begins = omega arith; from = omega arith; from_end = omega arith; room = let room_enough = room in omega arith; within = omega arith })
 
   pub spread_line : InLine p
   spread_line =
-      let s = spread.some in
-      let e = ap length spread_places in
-      let l = length-row (width p.matrix.resolution) (last p.matrix.resolution) (suc n) (coord 1 1 0) in
+      let spread_some = spread.some in
+      let length_is = ap length spread_places in
+      let row_length = length-row (width p.matrix.resolution) (last p.matrix.resolution) (suc n) (coord 1 1 0) in
       line_of p 1 0 spread.swarm (omega arith) spread.most (omega arith) (omega arith) (subst (λ (cs : List Coord). AreLined p.matrix.resolution 1 0 1 cs) (sym spread_places) spread_lined) (λ c h. spread.void c (omega arith))
 
   pub spread_last : last_column (places p.bots) ≡ 1 + width p.matrix.resolution * n
-  spread_last = ap last_column spread_places ∙ last-row (width p.matrix.resolution) (last p.matrix.resolution) n (coord 1 1 0) (let h = room in let same_width : width p.matrix.resolution * suc n ≡ width p.matrix.resolution * n + width p.matrix.resolution = omega arith in omega arith)
+  spread_last = ap last_column spread_places ∙ last-row (width p.matrix.resolution) (last p.matrix.resolution) n (coord 1 1 0) (let room_enough = room in let same_width : width p.matrix.resolution * suc n ≡ width p.matrix.resolution * n + width p.matrix.resolution = omega arith in omega arith)
 
   pub spread_room : last_column (places p.bots) + width p.matrix.resolution ≤ last p.matrix.resolution
-  spread_room = let l = spread_last in let h = room in let same_width : width p.matrix.resolution * suc n ≡ width p.matrix.resolution * n + width p.matrix.resolution = omega arith in omega arith
+  spread_room = let last_spread = spread_last in let room_enough = room in let same_width : width p.matrix.resolution * suc n ≡ width p.matrix.resolution * n + width p.matrix.resolution = omega arith in omega arith
 
   module _ (q : TapeState) (g : Regroups p q) (bots : q.bots ≡ lined_up 1 (split (places p.bots))) where
     size : q.matrix.resolution ≡ p.matrix.resolution
@@ -250,16 +250,16 @@ module _ (p : TapeState) (n : ℕ) (spread : IsSpreadOver p (suc n)) (more : suc
     born_places = ap places bots ∙ places-lined_up 1 (split (places p.bots))
 
     some : 0 < length (places p.bots)
-    some = let l = length-places p.bots in let e = spread_length in omega arith
+    some = let as_many_places = length-places p.bots in let length_spread = spread_length in omega arith
 
     pub born_line : InLine q
     born_line =
-        let s = spread.some in
+        let spread_some = spread.some in
         let most = spread.most in
-        let e = size in
-        let h = spread_room in
-        let l = some_split (places p.bots) some in
-        let b = ap length born_places in
+        let same_size = size in
+        let room_left = spread_room in
+        let split_some = some_split (places p.bots) some in
+        let length_is = ap length born_places in
         line_of q 1 0 g.swarm (omega arith) (omega arith) (omega arith) (omega arith)
         (subst (λ (cs : List Coord). AreLined q.matrix.resolution 1 0 1 cs) (sym born_places) (subst (λ r. AreLined r 1 0 1 (split (places p.bots))) (sym size) (split_lined p.matrix.resolution 1 0 1 (places p.bots) (subst (λ (cs : List Coord). AreLined p.matrix.resolution 1 0 1 cs) (sym spread_places) spread_lined) (omega arith))))
         (subst (λ (k : Matrix). IsVoidFrom k 1) (sym g.matrix) (λ c i. spread.void c (omega arith)))
@@ -275,8 +275,8 @@ module _ (p : TapeState) (n : ℕ) (spread : IsSpreadOver p (suc n)) (more : suc
     spreads t x m ex h few_steps =
         let same : t.matrix ≡ p.matrix = h.matrix ∙ g.matrix in
         let wide = ap (λ (k : Matrix). k.resolution) same in
-        let to : x ≡ 1 + width p.matrix.resolution * suc n = let l = spread_last in let same_width : width p.matrix.resolution * suc n ≡ width p.matrix.resolution * n + width p.matrix.resolution = omega arith in omega arith in
-        let there : sent (split (places p.bots)) x ≡ starts p.matrix.resolution (suc (suc n)) = ap (λ cs. sent (split cs) x) spread_places ∙ row_grows (width p.matrix.resolution) (last p.matrix.resolution) n x (coord 1 1 0) to (let r = room in omega arith) in
+        let to : x ≡ 1 + width p.matrix.resolution * suc n = let last_spread = spread_last in let same_width : width p.matrix.resolution * suc n ≡ width p.matrix.resolution * n + width p.matrix.resolution = omega arith in omega arith in
+        let there : sent (split (places p.bots)) x ≡ starts p.matrix.resolution (suc (suc n)) = ap (λ cs. sent (split cs) x) spread_places ∙ row_grows (width p.matrix.resolution) (last p.matrix.resolution) n x (coord 1 1 0) to (let room_enough = room in omega arith) in
         let at : t.bots ≡ lined_up 1 (starts p.matrix.resolution (suc (suc n))) =
         h.bots_are
         ∙ ((λ i. placed (bots i) (sent (born_places i) x))
@@ -287,7 +287,7 @@ module _ (p : TapeState) (n : ℕ) (spread : IsSpreadOver p (suc n)) (more : suc
           matrix = same;
           spread = record {
             swarm = h.swarm;
-            some = let s = spread.some in omega arith;
+            some = let spread_some = spread.some in omega arith;
             most = let most = spread.most in omega arith;
             void = subst (λ (k : Matrix). IsVoidFrom k 0) (sym same) spread.void;
             bots_are = at ∙ ap (λ r. lined_up 1 (starts r (suc (suc n)))) (sym wide);

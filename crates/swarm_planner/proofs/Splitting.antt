@@ -99,7 +99,7 @@ below_64 a n k h e = by k
       where
         of : (k < 64) ⊎ (64 ≤ k) → k < 64
         of (inl l) = l
-        of (inr l) = let f = none_above a n k (omega arith) in let g = sym e ∙ f in cc
+        of (inr l) = let not_above = none_above a n k (omega arith) in let impossible = sym e ∙ not_above in cc
 
 seeds_list : (bid : ℕ) → bid ≤ 20 → seed_list (seeds_after bid) ≡ numbers_from (bid + 1) (20 - bid)
 seeds_list bid h = list_of_set (numbers_from (bid + 1) (20 - bid)) (weaker_rise (bid + 1) 0 (numbers_from (bid + 1) (20 - bid)) (omega arith) (numbers_rise (bid + 1) (20 - bid))) (λ k e. below_64 (bid + 1) (20 - bid) k (omega arith) e)
@@ -117,7 +117,7 @@ first_seed : (bid m : ℕ) → m + bid ≡ 19 → seed_list (seeds_after bid) �
 first_seed bid m h = seeds_list bid (omega arith) ∙ ap (numbers_from (bid + 1)) (let bid_is : 20 - bid ≡ suc m = omega arith in bid_is)
 
 pub enough_seeds : (bid m : ℕ) → m + bid ≡ 19 → m < length (seed_list (seeds_after bid))
-enough_seeds bid m h = let e = ap length (first_seed bid m h) in let n = numbers_length (bid + 1 + 1) m in omega arith
+enough_seeds bid m h = let length_is = ap length (first_seed bid m h) in let as_many_numbers = numbers_length (bid + 1 + 1) m in omega arith
 
 pub parent_is : (bid m : ℕ) (c : Coord) → m + bid ≡ 19
     → parent (record { bid = bid; pos = c; seeds = seeds_after bid }) m ≡ record { bid = bid; pos = c; seeds = 0 }
@@ -161,7 +161,7 @@ length-lined_up bid (c ∷ d ∷ more) = ap suc (length-lined_up (bid + 1) (d �
 length-split : (cs : List Coord) → length cs ≤ length (split cs)
 length-split [] = omega arith
 length-split (c ∷ []) = omega arith
-length-split (c ∷ d ∷ more) = let h = length-split (d ∷ more) in omega arith
+length-split (c ∷ d ∷ more) = let split_length = length-split (d ∷ more) in omega arith
 
 lined_up_more : (bid : ℕ) (c : Coord) (cs : List Coord) → 0 < length cs
     → lined_up bid (c ∷ cs) ≡ record { bid = bid; pos = c; seeds = 0 } ∷ lined_up (bid + 1) cs
@@ -171,23 +171,23 @@ lined_up_more bid c (d ∷ more) h = refl
 births_are : (bid m : ℕ) (cs : List Coord) → 0 < length cs → m + bid + length cs ≡ 20
     → births m (lined_up bid cs) ≡ lined_up bid (split cs)
 births_are bid m [] h e = absurd (omega arith)
-births_are bid m (c ∷ []) h e = let p = parent_is bid m c (omega arith) in let n = newborn_is bid m c (omega arith) in λ i. p i ∷ n i ∷ []
+births_are bid m (c ∷ []) h e = let same_parent = parent_is bid m c (omega arith) in let newborn_is_here = newborn_is bid m c (omega arith) in λ i. same_parent i ∷ newborn_is_here i ∷ []
 births_are bid m (c ∷ d ∷ more) h e =
-    births_more m (record { bid = bid; pos = c; seeds = 0 }) (lined_up (bid + 1) (d ∷ more)) (let l = length-lined_up (bid + 1) (d ∷ more) in omega arith)
+    births_more m (record { bid = bid; pos = c; seeds = 0 }) (lined_up (bid + 1) (d ∷ more)) (let lined_up_length = length-lined_up (bid + 1) (d ∷ more) in omega arith)
     ∙ (ap (λ bs. record { bid = bid; pos = c; seeds = 0 } ∷ bs) (births_are (bid + 1) m (d ∷ more) (omega arith) (omega arith))
-    ∙ sym (lined_up_more bid c (split (d ∷ more)) (let l = length-split (d ∷ more) in omega arith)))
+    ∙ sym (lined_up_more bid c (split (d ∷ more)) (let split_length = length-split (d ∷ more) in omega arith)))
 
 later_bid : (bid : ℕ) (cs : List Coord) (b : Bot) → In b (lined_up bid cs) → bid ≤ b.bid
 later_bid bid [] b i = absurd i
-later_bid bid (c ∷ []) b (inl e) = let f = ap (λ (x : Bot). x.bid) e in omega arith
+later_bid bid (c ∷ []) b (inl e) = let bid_is = ap (λ (x : Bot). x.bid) e in omega arith
 later_bid bid (c ∷ []) b (inr i) = absurd i
-later_bid bid (c ∷ d ∷ more) b (inl e) = let f = ap (λ (x : Bot). x.bid) e in omega arith
-later_bid bid (c ∷ d ∷ more) b (inr i) = let h = later_bid (bid + 1) (d ∷ more) b i in omega arith
+later_bid bid (c ∷ d ∷ more) b (inl e) = let bid_is = ap (λ (x : Bot). x.bid) e in omega arith
+later_bid bid (c ∷ d ∷ more) b (inr i) = let bid_later = later_bid (bid + 1) (d ∷ more) b i in omega arith
 
 rising : (bid : ℕ) (cs : List Coord) → Rising (lined_up bid cs)
 rising bid [] = tt
 rising bid (c ∷ []) = ((λ b i. absurd i), tt)
-rising bid (c ∷ d ∷ more) = ((λ b i. let h = later_bid (bid + 1) (d ∷ more) b i in omega arith), rising (bid + 1) (d ∷ more))
+rising bid (c ∷ d ∷ more) = ((λ b i. let bid_later = later_bid (bid + 1) (d ∷ more) b i in omega arith), rising (bid + 1) (d ∷ more))
 
 parted : (m : ℕ) (cs : List Coord) → 0 < length cs → m + 1 + length cs ≡ 20
     → bots_split (lined_up 1 cs) (ends (Fission right m) (lined_up 1 cs)) ≡ lined_up 1 (split cs)
@@ -199,7 +199,7 @@ pub seeds_of_last : (bid m : ℕ) (cs : List Coord) → 0 < length cs → m + bi
     → m < length (seed_list (last_seeds (lined_up bid cs)))
 seeds_of_last bid m [] h e = absurd (omega arith)
 seeds_of_last bid m (c ∷ []) h e = enough_seeds bid m (omega arith)
-seeds_of_last bid m (c ∷ d ∷ more) h e = subst (λ n. m < length (seed_list n)) (sym (last_more (record { bid = bid; pos = c; seeds = 0 }) (lined_up (bid + 1) (d ∷ more)) (let l = length-lined_up (bid + 1) (d ∷ more) in omega arith))) (seeds_of_last (bid + 1) m (d ∷ more) (omega arith) (omega arith))
+seeds_of_last bid m (c ∷ d ∷ more) h e = subst (λ n. m < length (seed_list n)) (sym (last_more (record { bid = bid; pos = c; seeds = 0 }) (lined_up (bid + 1) (d ∷ more)) (let lined_up_length = length-lined_up (bid + 1) (d ∷ more) in omega arith))) (seeds_of_last (bid + 1) m (d ∷ more) (omega arith) (omega arith))
   where
     last_more : (b : Bot) (bots : List Bot) → 0 < length bots → last_seeds (b ∷ bots) ≡ last_seeds bots
     last_more b [] h = absurd (omega arith)
@@ -219,10 +219,10 @@ ends_are bots read waits ks k eb some ew ek = ek ∙ (ap (λ w. w ++ k ∷ []) (
 
 module _ (p : TapeState) (line : InLine p) (m : ℕ) (bots_are : p.bots ≡ lined_up 1 (places p.bots)) (seeds : m + 1 + length p.bots ≡ 20) (within : last_column (places p.bots) + 1 < p.matrix.resolution) (ks : List Command) (e : ks ≡ ends (Fission right m) p.bots) where
   some : 0 < length (places p.bots)
-  some = let n = length-places p.bots in let h = line.some in omega arith
+  some = let as_many_places = length-places p.bots in let line_some = line.some in omega arith
 
   all_seeds : m + 1 + length (places p.bots) ≡ 20
-  all_seeds = let n = length-places p.bots in omega arith
+  all_seeds = let as_many_places = length-places p.bots in omega arith
 
   pub is_free : AreFree (state_of p) (acts p.bots ks)
   is_free = subst (λ (k : List Command). AreFree (state_of p) (acts p.bots k)) (sym e)

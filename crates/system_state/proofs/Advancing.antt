@@ -45,9 +45,9 @@ turn_at all [] (t ∷ turns) i d h lt = absurd h
 turn_at all (a ∷ leaders) [] i d h lt = absurd h
 turn_at all (a ∷ leaders) (t ∷ turns) zero d h lt = (a, refl, h.0, refl)
 turn_at all (a ∷ leaders) (t ∷ turns) (suc i) d h lt =
-    let w = turn_at all leaders turns i d h.1 (omega arith) in
+    let turn = turn_at all leaders turns i d h.1 (omega arith) in
     let sum_is : suc i + 1 ≡ suc (i + 1) = omega arith in
-    (w.0, ap (λ (xs : List Act). a ∷ xs) w.1 ∙ ap (λ n. a ∷ (take i leaders ++ w.0 ∷ drop n (a ∷ leaders))) (sym sum_is), w.2, ap (λ n. take n (a ∷ leaders)) sum_is ∙ ap (λ (xs : List Act). a ∷ xs) w.3)
+    (turn.0, ap (λ (xs : List Act). a ∷ xs) turn.1 ∙ ap (λ n. a ∷ (take i leaders ++ turn.0 ∷ drop n (a ∷ leaders))) (sym sum_is), turn.2, ap (λ n. take n (a ∷ leaders)) sum_is ∙ ap (λ (xs : List Act). a ∷ xs) turn.3)
 
 pub turns_many : (all leaders : List Act) (turns : List Turn) → AreTurns all leaders turns
     → length turns ≡ length leaders
@@ -66,17 +66,17 @@ command_at (b ∷ bots) (c ∷ commands) zero a e = (omega arith, λ d. ap (λ (
   where
     same : Some (record { bot = b; command = c }) ≡ Some a → record { bot = b; command = c } ≡ a
     same k = cc
-command_at (b ∷ bots) (c ∷ commands) (suc k) a e = let r = command_at bots commands k a e in (omega arith, r.1)
+command_at (b ∷ bots) (c ∷ commands) (suc k) a e = let command_at_here = command_at bots commands k a e in (omega arith, command_at_here.1)
 
 pub contained : {X : Type 0} (x : X) (xs : List X) → In x xs → Contains xs x
-contained x xs i = let p = in_place x x xs i in (p.0, p.1, p.2)
+contained x xs i = let place = in_place x x xs i in (place.0, place.1, place.2)
 
 -- ---- touches
 
 pub sums_more : (f : Act → ℕ) (xs : List Act) (y : Act) → sum (map f (xs ++ y ∷ [])) ≡ sum (map f xs) + f y
-sums_more f [] y = let e : sum (f y ∷ []) ≡ f y + sum [] = sum_by-cons (λ n. n) (f y) [] in let sum_is : sum [] ≡ 0 = refl in omega arith
+sums_more f [] y = let first_of_sum : sum (f y ∷ []) ≡ f y + sum [] = sum_by-cons (λ n. n) (f y) [] in let sum_is : sum [] ≡ 0 = refl in omega arith
 sums_more f (x ∷ xs) y =
-    let e : sum (map f ((x ∷ xs) ++ y ∷ [])) ≡ f x + sum (map f (xs ++ y ∷ [])) = sum_by-cons (λ n. n) (f x) (map f (xs ++ y ∷ [])) in
+    let first_of_sum : sum (map f ((x ∷ xs) ++ y ∷ [])) ≡ f x + sum (map f (xs ++ y ∷ [])) = sum_by-cons (λ n. n) (f x) (map f (xs ++ y ∷ [])) in
     let sum_is : sum (map f (x ∷ xs)) ≡ f x + sum (map f xs) = sum_by-cons (λ n. n) (f x) (map f xs) in
     let same_sum : sum (map f (xs ++ y ∷ [])) ≡ sum (map f xs) + f y = sums_more f xs y in
     omega arith
@@ -84,7 +84,7 @@ sums_more f (x ∷ xs) y =
 fewer : (p q : Coord → Bool) (xs : List Coord) → ((c : Coord) → p c ≡ true → q c ≡ true) → count_by p xs ≤ count_by q xs
 fewer p q [] h = omega arith
 fewer p q (x ∷ xs) h =
-    let e : count_by p (x ∷ xs) ≡ cond (p x) 1 0 + count_by p xs = sum_by-cons (λ c. cond (p c) 1 0) x xs in
+    let sum_is : count_by p (x ∷ xs) ≡ cond (p x) 1 0 + count_by p xs = sum_by-cons (λ c. cond (p c) 1 0) x xs in
     let count_is : count_by q (x ∷ xs) ≡ cond (q x) 1 0 + count_by q xs = sum_by-cons (λ c. cond (q c) 1 0) x xs in
     let at_most_count : count_by p xs ≤ count_by q xs = fewer p q xs h in
     let at_most_choice : cond (p x) 1 0 ≤ cond (q x) 1 0 = one (p x) (q x) (h x) in
@@ -179,7 +179,7 @@ module _ (s : State) (commands : List Command) (step : ℕ) (ready : IsReady s) 
 
   within_there : (b : Bot) → In b (after_some s (acts s.bots commands) (take i order)).bots
       → IsInSpace s.matrix.resolution b.pos
-  within_there b j = let p = in_place b b (after_some s (acts s.bots commands) (take i order)).bots j in subst (λ (c : Bot). IsInSpace s.matrix.resolution c.pos) p.2 (ready_there.within p.0 b p.1)
+  within_there b j = let place = in_place b b (after_some s (acts s.bots commands) (take i order)).bots j in subst (λ (c : Bot). IsInSpace s.matrix.resolution c.pos) place.2 (ready_there.within place.0 b place.1)
 
   apart_there : (x y : Bot) → In x (successors (members (acts s.bots commands) here.0) here.0 here.0.command)
       → In y (after_some s (acts s.bots commands) (take i order)).bots → x.pos ≡ y.pos → y ≡ here.0.bot

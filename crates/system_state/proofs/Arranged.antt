@@ -50,9 +50,9 @@ in_order_of key xs keys = IsPermutation-keeps (map key xs) (λ ks. (ys : List Ac
 pub has_turn : (old : List Turn) (order : List ℕ) → IsPermutation (map leader_of old) order → (i : ℕ) → i < length order
     → Contains (map leader_of old) (get_or order i 0)
 has_turn old order perm i lt =
-    let k = get_or order i 0 in
-    let w = in_place k k (map leader_of old) (listed (map leader_of old) order perm k (place_in 0 order i lt)) in
-    (w.0, w.1, w.2)
+    let element = get_or order i 0 in
+    let place = in_place element element (map leader_of old) (listed (map leader_of old) order perm element (place_in 0 order i lt)) in
+    (place.0, place.1, place.2)
 
 -- a turn more, by the bid of its leader
 pub one_more : (done : List Turn) (order : List ℕ) (i : ℕ) (t : Turn) → i < length order
@@ -84,7 +84,7 @@ one_of_them all [] [] h t i = absurd i
 one_of_them all [] (x ∷ turns) h t i = absurd h
 one_of_them all (a ∷ firsts) [] h t i = absurd h
 one_of_them all (a ∷ firsts) (x ∷ turns) h t (inl e) = (a, inl refl, subst (λ (y : Turn). IsTurn all a y) (sym e) h.0)
-one_of_them all (a ∷ firsts) (x ∷ turns) h t (inr i) = let w = one_of_them all firsts turns h.1 t i in (w.0, inr w.1, w.2)
+one_of_them all (a ∷ firsts) (x ∷ turns) h t (inr i) = let one_of_first = one_of_them all firsts turns h.1 t i in (one_of_first.0, inr one_of_first.1, one_of_first.2)
 
 -- no two have one bid
 pub same_act : (xs : List Act) → Differ bid_of xs → (a b : Act) → In a xs → In b xs → a.bot.bid ≡ b.bot.bid → a ≡ b
@@ -105,19 +105,19 @@ module _ (all : List Act) (up : Rising (map (λ (a : Act). a.bot) all)) (old : L
   placed [] lead (t ∷ new) known e = cc
   placed (a ∷ order) lead [] known e = cc
   placed (a ∷ order) lead (t ∷ new) known e =
-      let w = one_of_them all (leaders all) old are t (known t (inl refl)) in
+      let one_of_first = one_of_them all (leaders all) old are t (known t (inl refl)) in
       let first : t.leader ≡ a.bot.bid = cc in
-      let same : w.0 ≡ a = same_act all (differ_acts all up) w.0 a (in_all w.0 w.1) (in_all a (lead a (inl refl))) (sym w.2.leader ∙ first) in
-      (subst (λ (x : Act). IsTurn all x t) same w.2, placed order (λ x i. lead x (inr i)) new (λ x i. known x (inr i)) cc)
+      let same : one_of_first.0 ≡ a = same_act all (differ_acts all up) one_of_first.0 a (in_all one_of_first.0 one_of_first.1) (in_all a (lead a (inl refl))) (sym one_of_first.2.leader ∙ first) in
+      (subst (λ (x : Act). IsTurn all x t) same one_of_first.2, placed order (λ x i. lead x (inr i)) new (λ x i. known x (inr i)) cc)
 
   arranged : (bids : List ℕ) → IsPermutation (map leader_of old) bids → (new : List Turn) → map leader_of new ≡ bids
       → ((t : Turn) → In t new → In t old) → AreAllTurns all new
   arranged bids perm new leads known =
-      let w = in_order_of bid_of (leaders all) bids (subst (λ (ks : List ℕ). IsPermutation ks bids) (leaders_are all (leaders all) old are) perm) in
+      let in_order_of_here = in_order_of bid_of (leaders all) bids (subst (λ (ks : List ℕ). IsPermutation ks bids) (leaders_are all (leaders all) old are) perm) in
       record {
-        order = w.0;
-        groups = w.1;
-        each = placed w.0 (listed (leaders all) w.0 w.1) new known (leads ∙ sym w.2);
+        order = in_order_of_here.0;
+        groups = in_order_of_here.1;
+        each = placed in_order_of_here.0 (listed (leaders all) in_order_of_here.0 in_order_of_here.1) new known (leads ∙ sym in_order_of_here.2);
       }
 
 -- the turns of a step, arranged

@@ -43,9 +43,9 @@ module _ (bots : List Bot) (rising : Rising bots) (same : List Bot) (differ : Di
   of_named : (b : Bot) → In b bots → is_named b ≡ true → In b same
   unfolding is_named bids
   of_named b i e =
-      let w = any_in (λ k. k == b.bid) bids e in
-      let m = map_in (λ (c : Bot). c.bid) w.0 same w.1 in
-      subst (λ (c : Bot). In c same) (one_bid m.0 b (there m.0 m.1) i (sym m.2 ∙ (Decides-eqb w.0 b.bid).0 w.2)) m.1
+      let witness = any_in (λ k. k == b.bid) bids e in
+      let origin = map_in (λ (c : Bot). c.bid) witness.0 same witness.1 in
+      subst (λ (c : Bot). In c same) (one_bid origin.0 b (there origin.0 origin.1) i (sym origin.2 ∙ (Decides-eqb witness.0 b.bid).0 witness.2)) origin.1
 
   is_there : (b : Bot) → In b same → is_named b ≡ true
   unfolding is_named bids
@@ -71,8 +71,8 @@ module _ (bots : List Bot) (rising : Rising bots) (same : List Bot) (differ : Di
   apart = differ_append same (without bots (map (λ (c : Bot). c.bid) same)) differ
       (differ_filter (λ (b : Bot). b.bid) (λ c. not (list_any (λ k. k == c.bid) (map (λ (d : Bot). d.bid) same))) bots (differing bots rising))
       (λ c e i j k.
-      let f = filter_in (λ c. not (list_any (λ k. k == c.bid) (map (λ (d : Bot). d.bid) same))) e bots j in
-      not_both (is_there e (subst (λ (b : Bot). In b same) (one_bid c e (there c i) f.0 k) i)) (untrue (is_named e) f.1))
+      let passed = filter_in (λ c. not (list_any (λ k. k == c.bid) (map (λ (d : Bot). d.bid) same))) e bots j in
+      not_both (is_there e (subst (λ (b : Bot). In b same) (one_bid c e (there c i) passed.0 k) i)) (untrue (is_named e) passed.1))
     where
       untrue : (b : Bool) → not b ≡ true → b ≡ false
       untrue true e = cc
@@ -161,7 +161,7 @@ alone_bots bots bot partner command h rising i lone = by command h lone
 -- ---- all bots after a turn
 
 pub in_all : (r : ℕ) (bots : List Bot) → All (λ b. IsInSpace r b.pos) bots → (b : Bot) → In b bots → IsInSpace r b.pos
-in_all r bots h b i = let p = in_place b b bots i in subst (λ (c : Bot). IsInSpace r c.pos) p.2 (h p.0 b p.1)
+in_all r bots h b i = let place = in_place b b bots i in subst (λ (c : Bot). IsInSpace r c.pos) place.2 (h place.0 b place.1)
 
 pub turn_within : (r : ℕ) (bots : List Bot) (bot : Bot) (partner : ℕ) (command : Command)
     → All (λ b. IsInSpace r b.pos) bots → MayTake r bots bot partner command

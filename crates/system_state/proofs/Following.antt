@@ -39,8 +39,8 @@ split_keys key (y ∷ ys) [] k zs e = let key_is : key y ≡ k = cc in ([], y, y
 split_keys key (y ∷ ys) (x ∷ xs) k zs e =
     let key_is : key y ≡ x = cc in
     let list_is : map key ys ≡ xs ++ k ∷ zs = cc in
-    let r = split_keys key ys xs k zs list_is in
-    (y ∷ r.0, r.1, r.2, ap (λ (more : List Act). y ∷ more) r.3, (λ i. key_is i ∷ r.4 i), r.5)
+    let split_keys_here = split_keys key ys xs k zs list_is in
+    (y ∷ split_keys_here.0, split_keys_here.1, split_keys_here.2, ap (λ (more : List Act). y ∷ more) split_keys_here.3, (λ i. key_is i ∷ split_keys_here.4 i), split_keys_here.5)
 
 of_map : (f : ℕ → List Act) (xs : List Act) → ((x : Act) → In x xs → f (bid_of x) ≡ x ∷ [])
     → flat_map f (map bid_of xs) ≡ xs
@@ -58,18 +58,18 @@ module _ (s : State) (commands : List Command) (step : ℕ) (ready : IsReady s) 
   acts_are : (xs : List Act) → ((a : Act) → In a xs → In a (leaders (acts s.bots commands)))
       → acts_of (acts s.bots commands) (map bid_of xs) ≡ xs
   acts_are xs lead = of_map (λ k. filter (λ (a : Act). a.bot.bid == k) (acts s.bots commands)) xs (λ a i.
-      let j = leads_all a (lead a i) in
-      filter_only (λ (x : Act). x.bot.bid) (λ (x : Act). x.bot.bid == a.bot.bid) a (acts s.bots commands) (differ_acts (acts s.bots commands) good.rising) j (eq-eqb a.bot.bid a.bot.bid refl)
-      (λ b k e. good.apart.bids b a k j ((Decides-eqb b.bot.bid a.bot.bid).0 e)))
+      let leads_all_here = leads_all a (lead a i) in
+      filter_only (λ (x : Act). x.bot.bid) (λ (x : Act). x.bot.bid == a.bot.bid) a (acts s.bots commands) (differ_acts (acts s.bots commands) good.rising) leads_all_here (eq-eqb a.bot.bid a.bot.bid refl)
+      (λ b k e. good.apart.bids b a k leads_all_here ((Decides-eqb b.bot.bid a.bot.bid).0 e)))
 
   module _ (turns : List Turn) (are : AreTurns (acts s.bots commands) (leaders (acts s.bots commands)) turns) (leader : ℕ) where
     -- the leader has a turn
     pub has_one : (before rest : List ℕ) (bots : List Bot) → FollowsOn s commands before leader rest bots
         → Contains (map leader_of turns) leader
     has_one before rest bots f =
-        let i = listed (leader_bids (acts s.bots commands)) (before ++ leader ∷ rest) f.leaders leader (in_right leader before (leader ∷ rest) (inl refl)) in
-        let p = in_place leader leader (map leader_of turns) (subst (λ (ks : List ℕ). In leader ks) (sym (leaders_are (acts s.bots commands) (leaders (acts s.bots commands)) turns are)) i) in
-        (p.0, p.1, p.2)
+        let listed_here = listed (leader_bids (acts s.bots commands)) (before ++ leader ∷ rest) f.leaders leader (in_right leader before (leader ∷ rest) (inl refl)) in
+        let place = in_place leader leader (map leader_of turns) (subst (λ (ks : List ℕ). In leader ks) (sym (leaders_are (acts s.bots commands) (leaders (acts s.bots commands)) turns are)) listed_here) in
+        (place.0, place.1, place.2)
 
     module _ (t : Turn) (first : t.leader ≡ leader) (among : Contains turns t) (turn_of : OfTurns TurnOf) (before rest : List ℕ) (bots : List Bot) (f : FollowsOn s commands before leader rest bots) (crew : IsCrew bots) (space : All (λ b. IsInSpace s.matrix.resolution b.pos) bots) where
       ordered : (ys : List Act) × IsPermutation (leaders (acts s.bots commands)) ys
@@ -109,16 +109,16 @@ module _ (s : State) (commands : List Command) (step : ℕ) (ready : IsReady s) 
 
       turn_is : IsTurn (acts s.bots commands) parts.1 t
       turn_is =
-          let w = one_of_them (acts s.bots commands) (leaders (acts s.bots commands)) turns are t (subst (λ (x : Turn). In x turns) among.2 (place_in t turns among.0 among.1)) in
-          let same : w.0 ≡ parts.1 = same_act (acts s.bots commands) (differ_acts (acts s.bots commands) good.rising) w.0 parts.1 (leads_all w.0 w.1) (leads_all parts.1 leads) (sym w.2.leader ∙ (first ∙ sym parts.5)) in
-          subst (λ (x : Act). IsTurn (acts s.bots commands) x t) same w.2
+          let one_of_first = one_of_them (acts s.bots commands) (leaders (acts s.bots commands)) turns are t (subst (λ (x : Turn). In x turns) among.2 (place_in t turns among.0 among.1)) in
+          let same : one_of_first.0 ≡ parts.1 = same_act (acts s.bots commands) (differ_acts (acts s.bots commands) good.rising) one_of_first.0 parts.1 (leads_all one_of_first.0 one_of_first.1) (leads_all parts.1 leads) (sym one_of_first.2.leader ∙ (first ∙ sym parts.5)) in
+          subst (λ (x : Act). IsTurn (acts s.bots commands) x t) same one_of_first.2
 
       law : TurnOf s (acts s.bots commands) parts.0 parts.1
       law = turn_of s commands step ready keep parts.0 parts.2 parts.1 perm
 
       within_there : (b : Bot) → In b (after_some s (acts s.bots commands) parts.0).bots
           → IsInSpace s.matrix.resolution b.pos
-      within_there b j = let p = in_place b b bots (subst (λ (bs : List Bot). In b bs) (sym taken) j) in subst (λ (c : Bot). IsInSpace s.matrix.resolution c.pos) p.2 (space p.0 b p.1)
+      within_there b j = let place = in_place b b bots (subst (λ (bs : List Bot). In b bs) (sym taken) j) in subst (λ (c : Bot). IsInSpace s.matrix.resolution c.pos) place.2 (space place.0 b place.1)
 
       apart_there : (x y : Bot) → In x (successors (members (acts s.bots commands) parts.1) parts.1 parts.1.command)
           → In y (after_some s (acts s.bots commands) parts.0).bots → x.pos ≡ y.pos → y ≡ parts.1.bot
@@ -147,8 +147,8 @@ module _ (s : State) (commands : List Command) (step : ℕ) (ready : IsReady s) 
       pub may : (bot : Bot) (command : Command) → bot_of bots leader ≡ Some bot
           → command ≡ get_or commands t.place command → MayTake s.matrix.resolution bots bot t.partner command
       may bot command o e =
-          let b : parts.1.bot ≡ bot = same (sym found ∙ o) in
-          subst (λ (x : Bot). MayTake s.matrix.resolution bots x t.partner command) b
+          let same_bot : parts.1.bot ≡ bot = same (sym found ∙ o) in
+          subst (λ (x : Bot). MayTake s.matrix.resolution bots x t.partner command) same_bot
           (subst (λ (c : Command). MayTake s.matrix.resolution bots parts.1.bot t.partner c) (sym (command_is command e))
           (subst (λ (bs : List Bot). MayTake s.matrix.resolution bs parts.1.bot t.partner parts.1.command) (sym taken)
           (may_take s (acts s.bots commands) good parts.1 leads (after_some s (acts s.bots commands) parts.0) law.bots law.rules apart_there
@@ -162,9 +162,9 @@ module _ (s : State) (commands : List Command) (step : ℕ) (ready : IsReady s) 
           → command ≡ get_or commands t.place command → new ≡ bots_after_turn bots bot t.partner command
           → new ≡ bots_after_some s commands (before ++ leader ∷ [])
       moved_on replaces bot command new o e is =
-          let b : bot ≡ parts.1.bot = same (sym o ∙ found) in
+          let same_bot : bot ≡ parts.1.bot = same (sym o ∙ found) in
           is
-          ∙ ((λ j. bots_after_turn (taken j) (b j) t.partner (command_is command e j))
+          ∙ ((λ j. bots_after_turn (taken j) (same_bot j) t.partner (command_is command e j))
           ∙ (ap (λ (u : State). u.bots) (turn_is_group s (acts s.bots commands) good parts.1 leads (after_some s (acts s.bots commands) parts.0) law.bots law.rules apart_there
           (rising_is (after_some s (acts s.bots commands) parts.0).bots (subst (λ (bs : List Bot). AllPairs (λ a b. a.bid < b.bid) bs) taken crew.rising)) within_there t.partner turn_is.partner replaces
           ∙ law.next)

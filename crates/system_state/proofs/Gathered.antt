@@ -42,7 +42,7 @@ leaders_most all = fewer (is_leader all) all
 pub acts_most : (bots : List Bot) (commands : List Command) → length (acts bots commands) ≤ length bots
 acts_most [] commands = omega arith
 acts_most (b ∷ bots) [] = omega arith
-acts_most (b ∷ bots) (c ∷ commands) = let r = acts_most bots commands in omega arith
+acts_most (b ∷ bots) (c ∷ commands) = let acts_bound = acts_most bots commands in omega arith
 
 -- ---- bots each of which is a group of its own
 
@@ -55,8 +55,8 @@ act_here [] commands i b e l h = absurd (omega arith)
 act_here (x ∷ bots) [] i b e l h = absurd (omega arith)
 act_here (x ∷ bots) (k ∷ commands) zero b e l h = (record { bot = x; command = k }, ap (λ (y : Bot). y.bid) (sym h), refl, inl refl, refl)
 act_here (x ∷ bots) (k ∷ commands) (suc i) b e l h =
-    let w = act_here bots commands i b (omega arith) (omega arith) h in
-    (w.0, w.1, w.2, inr w.3, ap (λ n. take n (acts (x ∷ bots) (k ∷ commands))) (let sum_is : suc i + 1 ≡ suc (i + 1) = omega arith in sum_is) ∙ ap (λ (xs : List Act). record { bot = x; command = k } ∷ xs) w.4)
+    let act_is = act_here bots commands i b (omega arith) (omega arith) h in
+    (act_is.0, act_is.1, act_is.2, inr act_is.3, ap (λ n. take n (acts (x ∷ bots) (k ∷ commands))) (let sum_is : suc i + 1 ≡ suc (i + 1) = omega arith in sum_is) ∙ ap (λ (xs : List Act). record { bot = x; command = k } ∷ xs) act_is.4)
 
 pub lone_turn_more : (bots : List Bot) (commands : List Command) (turns : List Turn) (i : ℕ) (b : Bot)
     → length commands ≡ length bots → i < length bots → b ≡ get_or bots i b
@@ -65,11 +65,11 @@ pub lone_turn_more : (bots : List Bot) (commands : List Command) (turns : List T
     (take (i + 1) (acts bots commands)) (turns ++ record { leader = b.bid; place = i; partner = 0 } ∷ [])
 lone_turn_more bots commands turns i b e l h alone so_far =
     let all = acts bots commands in
-    let w = act_here bots commands i b e l h in
-    let mates : members all w.0 ≡ w.0 ∷ [] = all_in (λ (a : Act). members all a ≡ a ∷ []) w.0 all alone w.3 in
-    subst (λ (xs : List Act). AreTurns all xs (turns ++ record { leader = b.bid; place = i; partner = 0 } ∷ [])) (sym w.4)
-    (turn_more all (take i all) turns w.0 (record { leader = b.bid; place = i; partner = 0 }) so_far (record {
-      leader = sym w.1;
-      place = w.2;
+    let act_is = act_here bots commands i b e l h in
+    let mates : members all act_is.0 ≡ act_is.0 ∷ [] = all_in (λ (a : Act). members all a ≡ a ∷ []) act_is.0 all alone act_is.3 in
+    subst (λ (xs : List Act). AreTurns all xs (turns ++ record { leader = b.bid; place = i; partner = 0 } ∷ [])) (sym act_is.4)
+    (turn_more all (take i all) turns act_is.0 (record { leader = b.bid; place = i; partner = 0 }) so_far (record {
+      leader = sym act_is.1;
+      place = act_is.2;
       partner = ap (λ ms. slice_index_or (map bid_of ms) 1 0) (sym mates);
     }))

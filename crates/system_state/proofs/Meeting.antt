@@ -28,8 +28,8 @@ is_none_is (Some x) e = cc
 module _ (t : State) (group : List Act) (keeps : keeps_rules t group ≡ true) (a : Act) (i : In a group) where
   both_of : (is_active t a.bot ≡ true) × (list_all (λ rule. is_none (fault t group a rule)) rules_of_bots ≡ true)
   both_of =
-      let h = all_in (λ b. is_active t b.bot && list_all (λ rule. is_none (fault t group b rule)) rules_of_bots) a group keeps i in
-      (first_of_two (is_active t a.bot) (list_all (λ rule. is_none (fault t group a rule)) rules_of_bots) h, second_of_two (is_active t a.bot) (list_all (λ rule. is_none (fault t group a rule)) rules_of_bots) h)
+      let all_in_here = all_in (λ b. is_active t b.bot && list_all (λ rule. is_none (fault t group b rule)) rules_of_bots) a group keeps i in
+      (first_of_two (is_active t a.bot) (list_all (λ rule. is_none (fault t group a rule)) rules_of_bots) all_in_here, second_of_two (is_active t a.bot) (list_all (λ rule. is_none (fault t group a rule)) rules_of_bots) all_in_here)
 
   pub kept_rule : (rule : Rule) → In rule rules_of_bots → fault t group a rule ≡ None
   kept_rule rule j = is_none_is (fault t group a rule) (all_in (λ r. is_none (fault t group a r)) rule rules_of_bots both_of.1 j)
@@ -76,14 +76,14 @@ module _ (bots : List Bot) (bot : Bot) (c : Coord) (apart : (y : Bot) → In y b
     where
       by : (o : Option Bot) → bot_at bots c ≡ o → IfSome o (λ b. b.bid ≡ bot.bid)
       by None e = tt
-      by (Some y) e = let f = found_in (stands_at c) bots y e in ap (λ (b : Bot). b.bid) (apart y f.0 (stood c y f.1))
+      by (Some y) e = let found_there = found_in (stands_at c) bots y e in ap (λ (b : Bot). b.bid) (apart y found_there.0 (stood c y found_there.1))
 
   pub nobody : (bot.pos ≡ c → ⊥) → IsNone (bot_at bots c)
   nobody away = by (bot_at bots c) refl
     where
       by : (o : Option Bot) → bot_at bots c ≡ o → IsNone o
       by None e = search rules
-      by (Some y) e = let f = found_in (stands_at c) bots y e in absurd (away (sym (ap (λ (b : Bot). b.pos) (apart y f.0 (stood c y f.1))) ∙ stood c y f.1))
+      by (Some y) e = let found_there = found_in (stands_at c) bots y e in absurd (away (sym (ap (λ (b : Bot). b.pos) (apart y found_there.0 (stood c y found_there.1))) ∙ stood c y found_there.1))
 
 -- what maps a list to itself leaves each of it
 pub is_met : {X : Type 0} (f : X → X) (xs : List X) → map f xs ≡ xs → (x : X) → In x xs → f x ≡ x

@@ -86,8 +86,8 @@ module _ (s : State) (all : List Act) (good : IsGood s all) (l : Act) (leads : I
   pub couple : is_fusion l.command ≡ true
       → (b : Act) × (are_partners l b ≡ true) × (l.bot.bid < b.bot.bid) × (members all l ≡ l ∷ b ∷ [])
   couple h =
-      let w = any_in (are_partners l) all partner_is in
-      (w.0, w.2, before w.0 w.1 w.2, two_pass (are_together l) l w.0 all good.rising (before w.0 w.1 w.2) leader_in w.1 (is_together l l (itself refl)) (is_together l w.0 (partners w.2)) (λ a i e. which w.0 w.1 w.2 a i (together_is l a e)))
+      let witness = any_in (are_partners l) all partner_is in
+      (witness.0, witness.2, before witness.0 witness.1 witness.2, two_pass (are_together l) l witness.0 all good.rising (before witness.0 witness.1 witness.2) leader_in witness.1 (is_together l l (itself refl)) (is_together l witness.0 (partners witness.2)) (λ a i e. which witness.0 witness.1 witness.2 a i (together_is l a e)))
     where
       stays : not (list_any (are_partners l) all) ≡ false → list_any (are_partners l) all ≡ true
       stays e = back (list_any (are_partners l) all) e

@@ -29,12 +29,12 @@ names_in_space r b d false h = first_of_two (in_space r (plus (point b.pos) d)) 
 one_there : (m : Matrix) (b : Bot) (d : Diff) → in_space m.resolution (plus (point b.pos) d) ≡ true
     → 1 ≤ count_by (λ c. is_within (just (plus (point b.pos) d)) (point c) || false) (coordinates m.resolution)
 one_there m b d i =
-    let q = of_point m.resolution (plus (point b.pos) d) i in
+    let point_facts = of_point m.resolution (plus (point b.pos) d) i in
     let there : Coord = coordinate (plus (point b.pos) d) in
     let length_is : length (filter (λ c. is_within (just (plus (point b.pos) d)) (point c) || false) (coordinates m.resolution)) ≡ 1 =
-    (λ j. length (filter (λ c. or_false (is_within (just (sym q.0 j)) (point c)) j) (coordinates m.resolution))) ∙ ap length (one_only m.resolution there q.1) in
-    let n = length-filter (λ c. is_within (just (plus (point b.pos) d)) (point c) || false) (coordinates m.resolution) in
-    omega (arith, n, length_is)
+    (λ j. length (filter (λ c. or_false (is_within (just (sym point_facts.0 j)) (point c)) j) (coordinates m.resolution))) ∙ ap length (one_only m.resolution there point_facts.1) in
+    let filtered_length = length-filter (λ c. is_within (just (plus (point b.pos) d)) (point c) || false) (coordinates m.resolution) in
+    omega (arith, filtered_length, length_is)
 
 pub one_met : (m : Matrix) (b : Bot) (d : Diff) (full : Bool) → in_space m.resolution (plus (point b.pos) d) ≡ true
     → 1 ≤ met_count m b (edit_of full d)

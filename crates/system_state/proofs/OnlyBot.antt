@@ -35,11 +35,11 @@ number_in r (negsuc n) e = cc
 
 pub of_point : (r : ℕ) (q : Point) → in_space r q ≡ true → (point (coordinate q) ≡ q) × IsInSpace r (coordinate q)
 of_point r q e =
-    let t = parts_of_three (in_range r q.x) (in_range r q.y) (in_range r q.z) e in
-    let x = number_in r q.x t.0 in
-    let y = number_in r q.y t.1 in
-    let z = number_in r q.z t.2 in
-    (λ i. record { x = x.0 i; y = y.0 i; z = z.0 i }, record { x = x.1; y = y.1; z = z.1 })
+    let three_parts = parts_of_three (in_range r q.x) (in_range r q.y) (in_range r q.z) e in
+    let in_range_x = number_in r q.x three_parts.0 in
+    let in_range_y = number_in r q.y three_parts.1 in
+    let in_range_z = number_in r q.z three_parts.2 in
+    (λ i. record { x = in_range_x.0 i; y = in_range_y.0 i; z = in_range_z.0 i }, record { x = in_range_x.1; y = in_range_y.1; z = in_range_z.1 })
 
 -- ---- the matrix after the step
 
@@ -97,7 +97,7 @@ cost_is m b k = ap (λ (xs : List Act). total (map (λ a. group_cost m (point a.
 
 numbers_differ : (r n a : ℕ) → Differ (place r) (map (coordinate_at r) (numbers_from a n))
 numbers_differ r zero a = tt
-numbers_differ r (suc n) a = ((λ y i e. let w = later (numbers_from (a + 1) n) y i in let at_most_w : a + 1 ≤ w.0 = above n (a + 1) w.0 w.1 in absurd (let a_is : a ≡ w.0 = sym (place-coordinate_at r a) ∙ (e ∙ (ap (place r) w.2 ∙ place-coordinate_at r w.0)) in omega arith)), numbers_differ r n (a + 1))
+numbers_differ r (suc n) a = ((λ y i e. let later_on = later (numbers_from (a + 1) n) y i in let at_most_w : a + 1 ≤ later_on.0 = above n (a + 1) later_on.0 later_on.1 in absurd (let a_is : a ≡ later_on.0 = sym (place-coordinate_at r a) ∙ (e ∙ (ap (place r) later_on.2 ∙ place-coordinate_at r later_on.0)) in omega arith)), numbers_differ r n (a + 1))
   where
     later : (xs : List ℕ) (y : Coord) → In y (map (coordinate_at r) xs) → (k : ℕ) × In k xs × (y ≡ coordinate_at r k)
     later xs y i = map_in (coordinate_at r) y xs i
@@ -133,8 +133,8 @@ module _ (m : Matrix) (b : Bot) (d : Diff) (i : in_space m.resolution (plus (poi
   beside_cost : (if_void if_full : ℤ) → price m (just (plus (point b.pos) d)) if_void if_full
       ≡ cond (is_full m (coordinate (plus (point b.pos) d))) if_full if_void
   beside_cost if_void if_full =
-      let q = of_point m.resolution (plus (point b.pos) d) i in
-      ap (λ (s : Point). price m (just s) if_void if_full) (sym q.0) ∙ price_just m (coordinate (plus (point b.pos) d)) if_void if_full q.1
+      let point_facts = of_point m.resolution (plus (point b.pos) d) i in
+      ap (λ (s : Point). price m (just s) if_void if_full) (sym point_facts.0) ∙ price_just m (coordinate (plus (point b.pos) d)) if_void if_full point_facts.1
 
   pub fill_cost :
       groups_cost m (lone b (Fill d) ∷ []) ≡ cond (is_full m (coordinate (plus (point b.pos) d))) (pos 6) (pos 12)

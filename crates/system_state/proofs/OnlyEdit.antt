@@ -57,5 +57,5 @@ pub edited_on : (s : State) (b : Bot) (d : Diff) (at : Coord) (full : Bool) → 
     → record s { matrix = with_voxel s.matrix at full; energy = (s.energy +ℤ upkeep s) +ℤ edit_cost full (is_full s.matrix at) }
     ≡ after s (edit_of full d ∷ [])
 edited_on s b d at full only stays named =
-    let i : in_space s.matrix.resolution (plus (point b.pos) d) ≡ true = subst (λ (p : Point). in_space s.matrix.resolution p ≡ true) named (in_space_is s.matrix.resolution at stays) in
-    subst (λ (c : Coord). record s { matrix = with_voxel s.matrix c full; energy = (s.energy +ℤ upkeep s) +ℤ edit_cost full (is_full s.matrix c) } ≡ after s (edit_of full d ∷ [])) (sym (ap coordinate named)) (changed_on s b d only i full)
+    let in_space_holds : in_space s.matrix.resolution (plus (point b.pos) d) ≡ true = subst (λ (p : Point). in_space s.matrix.resolution p ≡ true) named (in_space_is s.matrix.resolution at stays) in
+    subst (λ (c : Coord). record s { matrix = with_voxel s.matrix c full; energy = (s.energy +ℤ upkeep s) +ℤ edit_cost full (is_full s.matrix c) } ≡ after s (edit_of full d ∷ [])) (sym (ap coordinate named)) (changed_on s b d only in_space_holds full)

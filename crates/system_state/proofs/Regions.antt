@@ -45,21 +45,21 @@ module _ (r : ℕ) (bot : Bot) (near far : Coord) (full together : Bool) (region
   pub is_edited_region : (k : Command) → IsCommand k → IsDeed r bot k (Edits near far full together)
       → IsEditedRegion r bot k (record { region = region; full = full })
   is_edited_region (Fill d) known h =
-      let p : Point = plus (point bot.pos) d in
-      let in_p = only_named (in_space r p) h.stays in
-      between_named (Fill d) p p true (ap near_of h.is) (ap far_of h.is) (ap full_of h.is) in_p in_p (size_just p) refl refl
+      let reached : Point = plus (point bot.pos) d in
+      let in_p = only_named (in_space r reached) h.stays in
+      between_named (Fill d) reached reached true (ap near_of h.is) (ap far_of h.is) (ap full_of h.is) in_p in_p (size_just reached) refl refl
   is_edited_region (Void d) known h =
-      let p : Point = plus (point bot.pos) d in
-      let in_p = only_named (in_space r p) h.stays in
-      between_named (Void d) p p false (ap near_of h.is) (ap far_of h.is) (ap full_of h.is) in_p in_p (size_just p) refl refl
+      let reached : Point = plus (point bot.pos) d in
+      let in_p = only_named (in_space r reached) h.stays in
+      between_named (Void d) reached reached false (ap near_of h.is) (ap far_of h.is) (ap full_of h.is) in_p in_p (size_just reached) refl refl
   is_edited_region (GFill d f) known h =
-      let p : Point = plus (point bot.pos) d in
-      let q : Point = plus p f in
-      between_named (GFill d f) p q true (ap near_of h.is) (ap far_of h.is) (ap full_of h.is)
-      (first_of_two (in_space r p) (in_space r q && true) h.stays) (last_named (in_space r p) (in_space r q) h.stays) (size_far p f (second_of_two (is_near d) (is_far f) known)) refl refl
+      let reached : Point = plus (point bot.pos) d in
+      let place_reached : Point = plus reached f in
+      between_named (GFill d f) reached place_reached true (ap near_of h.is) (ap far_of h.is) (ap full_of h.is)
+      (first_of_two (in_space r reached) (in_space r place_reached && true) h.stays) (last_named (in_space r reached) (in_space r place_reached) h.stays) (size_far reached f (second_of_two (is_near d) (is_far f) known)) refl refl
   is_edited_region (GVoid d f) known h =
-      let p : Point = plus (point bot.pos) d in
-      let q : Point = plus p f in
-      between_named (GVoid d f) p q false (ap near_of h.is) (ap far_of h.is) (ap full_of h.is)
-      (first_of_two (in_space r p) (in_space r q && true) h.stays) (last_named (in_space r p) (in_space r q) h.stays) (size_far p f (second_of_two (is_near d) (is_far f) known)) refl refl
+      let reached : Point = plus (point bot.pos) d in
+      let place_reached : Point = plus reached f in
+      between_named (GVoid d f) reached place_reached false (ap near_of h.is) (ap far_of h.is) (ap full_of h.is)
+      (first_of_two (in_space r reached) (in_space r place_reached && true) h.stays) (last_named (in_space r reached) (in_space r place_reached) h.stays) (size_far reached f (second_of_two (is_near d) (is_far f) known)) refl refl
   is_edited_region k known h = let is = h.is in cc

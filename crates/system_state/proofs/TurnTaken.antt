@@ -114,8 +114,8 @@ none_flips : (xs : List Act) → ((a : Act) → In a xs → is_flip a.command �
     → count_by (λ (a : Act). is_flip a.command) xs ≡ 0
 none_flips [] h = refl
 none_flips (x ∷ xs) h =
-    let e : count_by (λ (a : Act). is_flip a.command) (x ∷ xs) ≡ cond (is_flip x.command) 1 0 + count_by (λ (a : Act). is_flip a.command) xs = sum_by-cons (λ (a : Act). cond (is_flip a.command) 1 0) x xs in
-    let f : cond {A = ℕ} (is_flip x.command) 1 0 ≡ 0 = ap (λ (b : Bool). cond {A = ℕ} b 1 0) (h x (inl refl)) in
+    let sum_is : count_by (λ (a : Act). is_flip a.command) (x ∷ xs) ≡ cond (is_flip x.command) 1 0 + count_by (λ (a : Act). is_flip a.command) xs = sum_by-cons (λ (a : Act). cond (is_flip a.command) 1 0) x xs in
+    let flip_count_zero : cond {A = ℕ} (is_flip x.command) 1 0 ≡ 0 = ap (λ (b : Bool). cond {A = ℕ} b 1 0) (h x (inl refl)) in
     let count_is : count_by (λ (a : Act). is_flip a.command) xs ≡ 0 = none_flips xs (λ a i. h a (inr i)) in
     omega arith
 
@@ -181,11 +181,11 @@ module _ (s : State) (all : List Act) (good : IsGood s all) (l : Act) (leads : I
       away k = near_away (point l.bot.pos) d near
           (sym (space_is t.matrix.resolution (plus (point l.bot.pos) d) (first_of_two (in_space t.matrix.resolution (plus (point l.bot.pos) d)) true (in_space_of (Fission d m) e))).1 ∙ ap point (sym k))
   needs known (FusionP d) e =
-      let w = couple s all good l leads (ap is_fusion e) in
-      (is_active_partner w.0 w.3, λ k. let below_bid : l.bot.bid < w.0.bot.bid = w.2 in let partner_is : partner ≡ w.0.bot.bid = partner_of w.0 w.3 in omega arith)
+      let couple_here = couple s all good l leads (ap is_fusion e) in
+      (is_active_partner couple_here.0 couple_here.3, λ k. let below_bid : l.bot.bid < couple_here.0.bot.bid = couple_here.2 in let partner_is : partner ≡ couple_here.0.bot.bid = partner_of couple_here.0 couple_here.3 in omega arith)
   needs known (FusionS d) e =
-      let w = couple s all good l leads (ap is_fusion e) in
-      (is_active_partner w.0 w.3, λ k. let below_bid : l.bot.bid < w.0.bot.bid = w.2 in let partner_is : partner ≡ w.0.bot.bid = partner_of w.0 w.3 in omega arith)
+      let couple_here = couple s all good l leads (ap is_fusion e) in
+      (is_active_partner couple_here.0 couple_here.3, λ k. let below_bid : l.bot.bid < couple_here.0.bot.bid = couple_here.2 in let partner_is : partner ≡ couple_here.0.bot.bid = partner_of couple_here.0 couple_here.3 in omega arith)
   needs known c e = tt
 
   pub may_take : is_command l.command ≡ true → MayTake t.matrix.resolution t.bots l.bot partner l.command
@@ -201,7 +201,7 @@ module _ (s : State) (all : List Act) (good : IsGood s all) (l : Act) (leads : I
   shared_any : (work : Point → Command → List Span) → ((p : Point) (c : Command) (q : Point) (e : Command) (x : Point) → share_region p c q e ≡ true → list_any (λ r. is_within r x) (work p c) ≡ true → list_any (λ r. is_within r x) (work q e) ≡ true) → is_group l.command ≡ true
       → (x : Coord) → list_any (λ (a : Act). list_any (λ r. is_within r (point x)) (work (position a) a.command)) (members all l) ≡ list_any (λ (a : Act). list_any (λ r. is_within r (point x)) (work (position a) a.command)) (l ∷ [])
   shared_any work share g x = same_truth (list_any (λ (a : Act). list_any (λ r. is_within r (point x)) (work (position a) a.command)) (members all l)) (list_any (λ (a : Act). list_any (λ r. is_within r (point x)) (work (position a) a.command)) (l ∷ []))
-      (λ h. let w = any_in (λ (a : Act). list_any (λ r. is_within r (point x)) (work (position a) a.command)) (members all l) h in by w.0 w.2 (shared s all good l leads g w.0 w.1))
+      (λ h. let witness = any_in (λ (a : Act). list_any (λ r. is_within r (point x)) (work (position a) a.command)) (members all l) h in by witness.0 witness.2 (shared s all good l leads g witness.0 witness.1))
       (λ h. in_any (λ (a : Act). list_any (λ r. is_within r (point x)) (work (position a) a.command)) l (members all l) itself_in (of_or _ h))
     where
       by : (a : Act) → list_any (λ r. is_within r (point x)) (work (position a) a.command) ≡ true
@@ -225,7 +225,7 @@ module _ (s : State) (all : List Act) (good : IsGood s all) (l : Act) (leads : I
       by : (is_alone l.command ≡ true) ⊎ ((is_fusion l.command ≡ true) ⊎ (is_group l.command ≡ true))
           → is_filled (members all l) x ≡ is_filled (l ∷ []) x
       by (inl h) = ap (λ (xs : List Act). is_filled xs x) (alone_is s all good l leads h)
-      by (inr (inl h)) = let w = couple s all good l leads h in couple_any filled (λ p c k. (no_work p c k).0) w.0 (mate_fuses w.0 w.1) w.3 x
+      by (inr (inl h)) = let couple_here = couple s all good l leads h in couple_any filled (λ p c k. (no_work p c k).0) couple_here.0 (mate_fuses couple_here.0 couple_here.1) couple_here.3 x
       by (inr (inr h)) = shared_any filled shared_filled h x
 
   same_voided : (x : Coord) → is_voided (members all l) x ≡ is_voided (l ∷ []) x
@@ -234,7 +234,7 @@ module _ (s : State) (all : List Act) (good : IsGood s all) (l : Act) (leads : I
       by : (is_alone l.command ≡ true) ⊎ ((is_fusion l.command ≡ true) ⊎ (is_group l.command ≡ true))
           → is_voided (members all l) x ≡ is_voided (l ∷ []) x
       by (inl h) = ap (λ (xs : List Act). is_voided xs x) (alone_is s all good l leads h)
-      by (inr (inl h)) = let w = couple s all good l leads h in couple_any voided (λ p c k. (no_work p c k).1) w.0 (mate_fuses w.0 w.1) w.3 x
+      by (inr (inl h)) = let couple_here = couple s all good l leads h in couple_any voided (λ p c k. (no_work p c k).1) couple_here.0 (mate_fuses couple_here.0 couple_here.1) couple_here.3 x
       by (inr (inr h)) = shared_any voided shared_voided h x
 
   same_matrix : matrix_after t.matrix (members all l) ≡ matrix_after t.matrix (l ∷ [])
@@ -268,7 +268,7 @@ module _ (s : State) (all : List Act) (good : IsGood s all) (l : Act) (leads : I
       by : (is_alone l.command ≡ true) ⊎ ((is_fusion l.command ≡ true) ⊎ (is_group l.command ≡ true))
           → harmonics_after t.harmonics (members all l) ≡ harmonics_after t.harmonics (l ∷ [])
       by (inl h) = ap (harmonics_after t.harmonics) (alone_is s all good l leads h)
-      by (inr (inl h)) = let w = couple s all good l leads h in harmonics_stay t.harmonics (members all l) (couple_still w.0 h (mate_fuses w.0 w.1) w.3) ∙ sym (harmonics_stay t.harmonics (l ∷ []) (one (fusion_not_alone l.command h)))
+      by (inr (inl h)) = let couple_here = couple s all good l leads h in harmonics_stay t.harmonics (members all l) (couple_still couple_here.0 h (mate_fuses couple_here.0 couple_here.1) couple_here.3) ∙ sym (harmonics_stay t.harmonics (l ∷ []) (one (fusion_not_alone l.command h)))
       by (inr (inr h)) = harmonics_stay t.harmonics (members all l) (group_still h) ∙ sym (harmonics_stay t.harmonics (l ∷ []) (one (group_not_alone l.command h)))
 
   same_cost : groups_cost t.matrix (members all l) ≡ group_cost t.matrix (position l) l.command
@@ -391,10 +391,10 @@ module _ (s : State) (all : List Act) (good : IsGood s all) (l : Act) (leads : I
       apart_bots : (xs : List Act) → Differ (λ (a : Act). a.bot.bid) xs → Differ (λ (b : Bot). b.bid)
           (map (λ (a : Act). a.bot) xs)
       apart_bots [] d = tt
-      apart_bots (x ∷ xs) d = ((λ b i k. let w = map_in (λ (a : Act). a.bot) b xs i in d.0 w.0 w.1 (k ∙ ap (λ (z : Bot). z.bid) w.2)), apart_bots xs d.1)
+      apart_bots (x ∷ xs) d = ((λ b i k. let origin = map_in (λ (a : Act). a.bot) b xs i in d.0 origin.0 origin.1 (k ∙ ap (λ (z : Bot). z.bid) origin.2)), apart_bots xs d.1)
 
       there : (b : Bot) → In b (map (λ (a : Act). a.bot) (members all l)) → In b t.bots
-      there b i = let w = map_in (λ (a : Act). a.bot) b (members all l) i in subst (λ (x : Bot). In x t.bots) (sym w.2) (bot_there w.0 w.1)
+      there b i = let origin = map_in (λ (a : Act). a.bot) b (members all l) i in subst (λ (x : Bot). In x t.bots) (sym origin.2) (bot_there origin.0 origin.1)
 
       still_there : (a : Act) (d : Command) → is_group d ≡ true → successors (members all l) a d ≡ a.bot ∷ []
       still_there a (GFill d f) k = refl
@@ -421,7 +421,8 @@ module _ (s : State) (all : List Act) (good : IsGood s all) (l : Act) (leads : I
       by : (is_alone l.command ≡ true) ⊎ ((is_fusion l.command ≡ true) ⊎ (is_group l.command ≡ true))
           → Come (members all l) ≡ bots_after_turn t.bots l.bot partner l.command
       by (inl h) = ap Come (alone_is s all good l leads h) ∙ alone_bots t.bots l.bot partner l.command h rising (bot_there l itself_in) lone_halt
-      by (inr (inl h)) = let w = couple s all good l leads h in ap Come w.3 ∙ couple_bots l.command refl h w.0 w.1 w.3
+      by (inr (inl h)) = let couple_here = couple s all good l leads h in
+        ap Come couple_here.3 ∙ couple_bots l.command refl h couple_here.0 couple_here.1 couple_here.3
       by (inr (inr h)) = group_bots l.command refl h
 
   -- the turn leads where the group's acts do

@@ -38,7 +38,7 @@ pub begins_far : (bytes : List ℕ) → length bytes < 3 → All (λ b. b ≤ 60
 begins_far bytes l h = begins_far_by bytes l (recursion_from_All (λ b. b ≤ 60) bytes h)
 
 far_small : (d : Diff) → IsFar d → (raised d.dx 30 ≤ 60) × (raised d.dy 30 ≤ 60) × (raised d.dz 30 ≤ 60)
-far_small d h = let b = far_bounds d h in (raised_small d.dx 30 b.0, raised_small d.dy 30 b.1, raised_small d.dz 30 b.2)
+far_small d h = let bounds = far_bounds d h in (raised_small d.dx 30 bounds.0, raised_small d.dy 30 bounds.1, raised_small d.dz 30 bounds.2)
 
 below : (x a : ℕ) (xs ys : List ℕ) → x ∷ xs ≡ a ∷ ys → a ≤ 60 → x ≤ 60
 below x a xs ys e l = let x_is : x ≡ a = cc in omega arith

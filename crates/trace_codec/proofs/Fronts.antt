@@ -49,18 +49,18 @@ far_front h k d f bytes y n g l m e = near_front h k d bytes (far_bytes f ++ y) 
 
 -- what a command's spelling is
 pub front : (c : Command) (h : ℕ) (bytes y : List ℕ) → IsCommand c → h ∷ bytes ≡ spelling c ++ y → Front h bytes
-front Halt h bytes y i e = let s = same_head h _ bytes y e in alone (omega arith)
-front Wait h bytes y i e = let s = same_head h _ bytes y e in alone (omega arith)
-front Flip h bytes y i e = let s = same_head h _ bytes y e in alone (omega arith)
+front Halt h bytes y i e = let heads_same = same_head h _ bytes y e in alone (omega arith)
+front Wait h bytes y i e = let heads_same = same_head h _ bytes y e in alone (omega arith)
+front Flip h bytes y i e = let heads_same = same_head h _ bytes y e in alone (omega arith)
 front (SMove d) h bytes y i e =
-    let l = linear d (long_is d i).0 in
-    by_long d i l.low l.high (same_head h _ bytes (raised (component d) 15 ∷ y) e) (y, tail_is h _ bytes (raised (component d) 15 ∷ y) e)
+    let is_linear = linear d (long_is d i).0 in
+    by_long d i is_linear.low is_linear.high (same_head h _ bytes (raised (component d) 15 ∷ y) e) (y, tail_is h _ bytes (raised (component d) 15 ∷ y) e)
 front (LMove d g) h bytes y i e =
-    let p = first_of_two (is_short d) (is_short g) i in
-    let q = second_of_two (is_short d) (is_short g) i in
-    let l = linear d (short_is d p).0 in
-    let m = linear g (short_is g q).0 in
-    by_short d g p q l.low l.high m.low m.high (same_head h _ bytes _ e) (y, tail_is h _ bytes _ e)
+    let first_holds = first_of_two (is_short d) (is_short g) i in
+    let second_holds = second_of_two (is_short d) (is_short g) i in
+    let is_linear = linear d (short_is d first_holds).0 in
+    let linear_here = linear g (short_is g second_holds).0 in
+    by_short d g first_holds second_holds is_linear.low is_linear.high linear_here.low linear_here.high (same_head h _ bytes _ e) (y, tail_is h _ bytes _ e)
 front (FusionP d) h bytes y i e = near_front h 7 d bytes y i (omega arith) (omega arith) e (λ (l : 7 < 2). absurd (omega arith))
 front (FusionS d) h bytes y i e = near_front h 6 d bytes y i (omega arith) (omega arith) e (λ (l : 6 < 2). absurd (omega arith))
 front (Fission d m) h bytes y i e = near_front h 5 d bytes (m ∷ y) (first_of_two (is_near d) (nat_lt m 256) i) (omega arith) (omega arith) e (λ (l : 5 < 2). absurd (omega arith))
@@ -109,16 +109,16 @@ stepped (suc (suc (suc (suc a)))) l m = absurd (omega arith)
 
 pub begins_long : (a : ℕ) (bytes : List ℕ) → 1 ≤ a → a ≤ 3 → length bytes < 1 → BeginsSpelling ((16 * a + 4) ∷ bytes)
 begins_long a bytes l m b =
-    let d = stepped a l m in
-    begins_two (SMove d.0) (16 * a + 4) (raised (component d.0) 15) bytes b d.2 (ap (λ v. (16 * v + 4) ∷ raised (component d.0) 15 ∷ []) d.3)
+    let stepped_here = stepped a l m in
+    begins_two (SMove stepped_here.0) (16 * a + 4) (raised (component stepped_here.0) 15) bytes b stepped_here.2 (ap (λ v. (16 * v + 4) ∷ raised (component stepped_here.0) 15 ∷ []) stepped_here.3)
 
 pub begins_short : (a b : ℕ) (bytes : List ℕ) → 1 ≤ a → a ≤ 3 → 1 ≤ b → b ≤ 3 → length bytes < 1
     → BeginsSpelling ((64 * b + 16 * a + 12) ∷ bytes)
 begins_short a b bytes l m n o z =
-    let d = stepped a l m in
-    let e = stepped b n o in
-    let s = 16 * raised (component e.0) 5 + raised (component d.0) 5 in
-    begins_two (LMove d.0 e.0) (64 * b + 16 * a + 12) s bytes z (both_true (is_short d.0) (is_short e.0) d.1 e.1) (ap (λ v. (64 * axis e.0 + 16 * v + 12) ∷ s ∷ []) d.3 ∙ ap (λ v. (64 * v + 16 * a + 12) ∷ s ∷ []) e.3)
+    let stepped_here = stepped a l m in
+    let stepped_here_too = stepped b n o in
+    let sum = 16 * raised (component stepped_here_too.0) 5 + raised (component stepped_here.0) 5 in
+    begins_two (LMove stepped_here.0 stepped_here_too.0) (64 * b + 16 * a + 12) sum bytes z (both_true (is_short stepped_here.0) (is_short stepped_here_too.0) stepped_here.1 stepped_here_too.1) (ap (λ v. (64 * axis stepped_here_too.0 + 16 * v + 12) ∷ sum ∷ []) stepped_here.3 ∙ ap (λ v. (64 * v + 16 * a + 12) ∷ sum ∷ []) stepped_here_too.3)
 
 -- ---- what bytes are refused
 
@@ -127,7 +127,7 @@ pub refused_group : (d : Diff) (k : ℕ) (bytes : List ℕ) → k < 2 → IsNear
 refused_group d k bytes l n h = refused_by (8 * near_code d + k) bytes (λ x f. no_group x f)
   where
     no_group : (x : List ℕ) → Front (8 * near_code d + k) (bytes ++ x) → ⊥
-    no_group x (alone p) = let b = near_code_below d n in omega arith
+    no_group x (alone p) = let near_code_below_here = near_code_below d n in omega arith
     no_group x (by_near e j m b p q s t) = let same : j ≡ k = omega arith in let small : j < 2 = omega arith in let g = t small in h g.0 x g.1 g.2 g.3
     no_group x (by_long e m p q s t) = omega arith
     no_group x (by_short e g m p q r s t u v) = omega arith
@@ -140,8 +140,8 @@ no_short_at a b v bytes l m (alone p) = absurd (omega arith)
 no_short_at a b v bytes l m (by_near e j n o p q s t) = absurd (omega arith)
 no_short_at a b v bytes l m (by_long e n p q s t) = absurd (omega arith)
 no_short_at a b v bytes l m (by_short d e n o p q r s t u) =
-    let i = short_raised d n in
-    let j = short_raised e o in
+    let raised_bound = short_raised d n in
+    let raised_bound_here = short_raised e o in
     let v_is : v ≡ 16 * raised (component e) 5 + raised (component d) 5 = same_head v _ bytes u.0 u.1 in
     (d, e, n, o, omega arith, omega arith, omega arith, omega arith)
 
@@ -149,10 +149,10 @@ pub refused_first : (a b : ℕ) (bytes : List ℕ) → a ≤ 3 → b ≤ 3 → 1
     → ((d : Diff) → IsShort d → axis d ≡ a → raised (component d) 5 ≡ get_or bytes 0 0 % 16 → ⊥)
     → IsNoCommand ((64 * b + 16 * a + 12) ∷ bytes)
 refused_first a b [] l m n h = absurd (omega arith)
-refused_first a b (v ∷ bytes) l m n h = refused_by _ (v ∷ bytes) (λ x f. let s = no_short_at a b v (bytes ++ x) l m f in h s.0 s.2 s.4 s.6)
+refused_first a b (v ∷ bytes) l m n h = refused_by _ (v ∷ bytes) (λ x f. let not_short = no_short_at a b v (bytes ++ x) l m f in h not_short.0 not_short.2 not_short.4 not_short.6)
 
 pub refused_second : (a b : ℕ) (bytes : List ℕ) → a ≤ 3 → b ≤ 3 → 1 ≤ length bytes
     → ((d : Diff) → IsShort d → axis d ≡ b → raised (component d) 5 ≡ get_or bytes 0 0 / 16 → ⊥)
     → IsNoCommand ((64 * b + 16 * a + 12) ∷ bytes)
 refused_second a b [] l m n h = absurd (omega arith)
-refused_second a b (v ∷ bytes) l m n h = refused_by _ (v ∷ bytes) (λ x f. let s = no_short_at a b v (bytes ++ x) l m f in h s.1 s.3 s.5 s.7)
+refused_second a b (v ∷ bytes) l m n h = refused_by _ (v ∷ bytes) (λ x f. let not_short = no_short_at a b v (bytes ++ x) l m f in h not_short.1 not_short.3 not_short.5 not_short.7)

@@ -55,9 +55,9 @@ refused_more bytes more h = (none, part)
     at : (c : Command) (y : List ℕ) → IsCommand c → bytes ++ more ≡ spelling c ++ y
         → (length bytes < length (spelling c)) ⊎ (length (spelling c) ≤ length bytes) → ⊥
     at c y i e (inl l) =
-        let p = prefix (spelling c) bytes y more (sym e) (omega arith) in
-        h.1 (c, p.0, i, longer c p.0 l p.1, sym p.1)
-    at c y i e (inr l) = let p = prefix bytes (spelling c) more y e l in h.0 c p.0 i p.1
+        let is_prefix = prefix (spelling c) bytes y more (sym e) (omega arith) in
+        h.1 (c, is_prefix.0, i, longer c is_prefix.0 l is_prefix.1, sym is_prefix.1)
+    at c y i e (inr l) = let is_prefix = prefix bytes (spelling c) more y e l in h.0 c is_prefix.0 i is_prefix.1
 
     none : (c : Command) (y : List ℕ) → IsCommand c → bytes ++ more ≡ spelling c ++ y → ⊥
     none c y i e = at c y i e (cases_lt (length bytes) (length (spelling c)))
@@ -73,7 +73,7 @@ says_more front rest (Got c n) l s = record {
   within = let within = s.within in omega (arith, length-append front rest);
   spelling_is = take-append-le n front rest s.within ∙ s.spelling_is;
 }
-says_more front rest More l s = let k = begins_short front s in absurd (omega arith)
+says_more front rest More l s = let short_front = begins_short front s in absurd (omega arith)
 says_more front rest Bad l s = refused_more front rest s
 
 -- the held bytes, and as many of the piece as make four, tell what all of them begin with
@@ -112,8 +112,8 @@ pub completes : (decoder : DecoderState) (piece : List ℕ) (c : Command) (len u
     → BeginsSpelling decoder.held → Spells (decoder.held ++ piece) c len → used ≡ len - length decoder.held
     → Completes decoder piece c used
 completes decoder piece c len used f b s e =
-    let l = ends_later decoder.held piece c len b s in
-    let w = s.within in
+    let ends_later_here = ends_later decoder.held piece c len b s in
+    let its_within = s.within in
     let len_is : len ≡ length decoder.held + used = omega arith in
     record {
       works = f;
@@ -141,12 +141,12 @@ not_both decoder f t = cc
 pub Answers-unique : (decoder : DecoderState) (piece : List ℕ) (a b : Fed) → AnswersPiece decoder piece a
     → AnswersPiece decoder piece b → a ≡ b
 Answers-unique decoder piece (fed.Got c n) (fed.Got d m) s t =
-    let e = same_command (decoder.held ++ piece) c d _ _ s.is_command t.is_command (fed_split decoder piece c n s) (fed_split decoder piece d m t) in
-    let same_length : length (spelling c) ≡ length (spelling d) = ap (λ x. length (spelling x)) e in
-    let p = used_is decoder piece c n s in
-    let q = used_is decoder piece d m t in
+    let command_is = same_command (decoder.held ++ piece) c d _ _ s.is_command t.is_command (fed_split decoder piece c n s) (fed_split decoder piece d m t) in
+    let same_length : length (spelling c) ≡ length (spelling d) = ap (λ x. length (spelling x)) command_is in
+    let used_bytes = used_is decoder piece c n s in
+    let used_bytes_here = used_is decoder piece d m t in
     let n_is : n ≡ m = omega arith in
-    λ i. fed.Got (e i) (n_is i)
+    λ i. fed.Got (command_is i) (n_is i)
 Answers-unique decoder piece (fed.Got c n) fed.All s t = absurd (no_part (decoder.held ++ piece) (drop n piece) c s.is_command (fed_split decoder piece c n s) t.1)
 Answers-unique decoder piece (fed.Got c n) (fed.Bad o) s (e, inl f) = absurd (not_both decoder s.works f)
 Answers-unique decoder piece (fed.Got c n) (fed.Bad o) s (e, inr r) = absurd (r.0 c (drop n piece) s.is_command (fed_split decoder piece c n s))

@@ -73,7 +73,7 @@ pub taken_got : (bytes piece : List ℕ) (commands : List Command) (decoder : De
     → HasTaken bytes commands decoder → Completes decoder piece c used
     → HasTaken (bytes ++ take used piece) (commands ++ c ∷ []) (decoder_after decoder piece (fed.Got c used))
 taken_got bytes piece commands decoder c used h s =
-    let o : decoder.offset ≡ length (spellings commands) = h.offset_is in
+    let its_offset_is : decoder.offset ≡ length (spellings commands) = h.offset_is in
     let same_length : length (spellings (commands ++ c ∷ [])) ≡ length (spellings commands ++ spelling c) = ap length (spellings_more commands c) in
     record {
       works = refl;

@@ -42,9 +42,9 @@ same_command bytes c d x y i j e f = (one_spelling c d x y i j (sym e ∙ f)).0
 
 pub Says-unique : (bytes : List ℕ) (a b : One) → BeginsWith bytes a → BeginsWith bytes b → a ≡ b
 Says-unique bytes (Got c n) (Got d m) s t =
-    let e = same_command bytes c d _ _ s.is_command t.is_command (split bytes c n s) (split bytes d m t) in
-    let n_is : n ≡ m = len_is bytes c n s ∙ (ap (λ x. length (spelling x)) e ∙ sym (len_is bytes d m t)) in
-    λ i. Got (e i) (n_is i)
+    let command_is = same_command bytes c d _ _ s.is_command t.is_command (split bytes c n s) (split bytes d m t) in
+    let n_is : n ≡ m = len_is bytes c n s ∙ (ap (λ x. length (spelling x)) command_is ∙ sym (len_is bytes d m t)) in
+    λ i. Got (command_is i) (n_is i)
 Says-unique bytes (Got c n) More s t = absurd (no_part bytes (drop n bytes) c s.is_command (split bytes c n s) t)
 Says-unique bytes (Got c n) Bad s t = absurd (t.0 c (drop n bytes) s.is_command (split bytes c n s))
 Says-unique bytes More (Got d m) s t = absurd (no_part bytes (drop m bytes) d t.is_command (split bytes d m t) s)

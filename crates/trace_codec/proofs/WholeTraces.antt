@@ -21,7 +21,7 @@ is_answer bytes (Ok commands) decoding h k = Decoding-unique bytes decoding (Ok 
 is_answer bytes (Err (Refused refusal)) decoding h k = Decoding-unique bytes decoding (Err (why_no_trace refusal)) k h
 is_answer bytes (Err Memory) decoding h k = tt
 
-same_commands : (a b : List Command) → (let r : Result (List Command) NoTrace = Ok a in r) ≡ Ok b → a ≡ b
+same_commands : (a b : List Command) → (let result : Result (List Command) NoTrace = Ok a in result) ≡ Ok b → a ≡ b
 same_commands a b e = cc
 
 -- commands that are encoded are decoded as the same commands
@@ -51,10 +51,10 @@ cut_on : (bytes : List ℕ) (commands : List Command) (start : ℕ) (c : Command
     → Spells (drop start bytes) c len → HasCut bytes (commands ++ c ∷ []) (start + len)
 cut_on bytes commands start c len h s =
     let same_length : length (spellings (commands ++ c ∷ [])) ≡ length (spellings commands ++ spelling c) = ap length (spellings_more commands c) in
-    let m = len_is (drop start bytes) c len s in
-    let w = s.within in
-    let o = h.start_is in
-    let b = h.within in
+    let len_is_here = len_is (drop start bytes) c len s in
+    let its_within = s.within in
+    let its_start_is = h.start_is in
+    let within_here = h.within in
     record {
       are_commands = are_commands_more commands c h.are_commands s.is_command;
       bytes_are = h.bytes_are ∙ (ap (λ x. spellings commands ++ x) (split (drop start bytes) c len s ∙ ap (λ x. spelling c ++ x) (drop-drop len start bytes)) ∙ (sym (append_assoc (spellings commands) (spelling c) (drop (start + len) bytes)) ∙ ap (λ x. x ++ drop (start + len) bytes) (sym (spellings_more commands c))));

@@ -64,7 +64,7 @@ module _ (old : Situation) (pending : List Command) (m : Mark) (v : Course) (see
           resolution = ap (λ (t : State). t.matrix.resolution) is ∙ ap (λ (c : Course). c.progress.state.matrix.resolution) seen;
           touches = touches (course_of new pending m).progress began ended
               (subst (λ (k : progress.Mark). IsWithinWork old.state (command ∷ []) (old.steps + 1) (began + searched_by k old.state.matrix) ended) (sym runs_on)
-              (let t = s.touches in (t.0, t.1, omega (arith, t.2))));
+              (let its_touches = s.touches in (its_touches.0, its_touches.1, omega (arith, its_touches.2))));
         }
 
     pub pushed_broken : (new : Situation) (after : List Command) (b : Broken) (began ended : ℕ) → after ≡ pending ++ command ∷ []

@@ -64,8 +64,8 @@ module _ (p q : Progress) (command : Command) (rest : List Command) (v start bef
       → WorkFrom p.state (p.pending ++ command ∷ rest) p.steps more → before + 100 * more ≤ start + 100 * n
       → Left q rest v start after n
   waits b e more w l =
-      let a = length-append p.pending (command ∷ []) in
-      let same : after ≡ before = t.untouched (λ _ e. unequal_by_test (length (p.pending ++ command ∷ [])) (length p.state.bots) b (omega (arith, a, e))) in
+      let length_is = length-append p.pending (command ∷ []) in
+      let same : after ≡ before = t.untouched (λ _ e. unequal_by_test (length (p.pending ++ command ∷ [])) (length p.state.bots) b (omega (arith, length_is, e))) in
       subst (λ (x : Progress). Left x rest v start after n) (sym e)
       (subst (λ (m : progress.Mark). LeftAt m (with_command p command) rest v start after n) (sym runs)
       (more, subst (λ (xs : List Command). WorkFrom p.state xs p.steps more) joined w, omega (arith, same, l)))
@@ -78,7 +78,7 @@ module _ (p q : Progress) (command : Command) (rest : List Command) (v start bef
     back = subst (λ (k : ℕ). drop k (p.pending ++ command ∷ rest) ≡ rest) full (ap (drop (length (p.pending ++ command ∷ []))) joined ∙ drop-append_seam (p.pending ++ command ∷ []) rest)
 
     some : p.state.bots ≡ [] → ⊥
-    some e = let f = ap length e in let a = length-append p.pending (command ∷ []) in let g = full in omega (arith, a, f, g)
+    some e = let length_is = ap length e in let joined_length = length-append p.pending (command ∷ []) in let full_here = full in omega (arith, joined_length, length_is, full_here)
 
     -- where steps go on, the work of the rest pays
     on : (u : State) (bots : List Bot) → u.bots ≡ bots → (m : ℕ) → WorkFrom u rest (p.steps + 1) m
@@ -93,17 +93,17 @@ module _ (p q : Progress) (command : Command) (rest : List Command) (v start bef
         → WorkFrom p.state (p.pending ++ command ∷ rest) p.steps more → before + 100 * more ≤ start + 100 * n
         → Left q rest v start after n
     made (Goes u) k e more w l =
-        let r = pay w (Goes u) some (subst (λ (xs : List Command). Next p.state xs (p.steps + 1) (Goes u)) (sym front) k) in
-        let h = within_each p.state (p.pending ++ command ∷ []) (p.steps + 1) (before + searched_by q.mark p.state.matrix) after r.0 t.paid (subst (λ (xs : List Command). WorkOfStep p.state xs (p.steps + 1) r.0) front r.2) in
-        let s : searched_by q.mark p.state.matrix ≡ 0 = ap (λ (x : Progress). searched_by x.mark p.state.matrix) e ∙ searched_not u.bots p.state.matrix in
-        let sum = r.4 in
-        subst (λ (x : Progress). Left x rest v start after n) (sym e) (on u u.bots refl r.1 (subst (λ (xs : List Command). WorkFrom u xs (p.steps + 1) r.1) back r.3) (omega (arith, h, s, sum, l)))
+        let paid_step = pay w (Goes u) some (subst (λ (xs : List Command). Next p.state xs (p.steps + 1) (Goes u)) (sym front) k) in
+        let bounded_each = within_each p.state (p.pending ++ command ∷ []) (p.steps + 1) (before + searched_by q.mark p.state.matrix) after paid_step.0 t.paid (subst (λ (xs : List Command). WorkOfStep p.state xs (p.steps + 1) paid_step.0) front paid_step.2) in
+        let searched_by_zero : searched_by q.mark p.state.matrix ≡ 0 = ap (λ (x : Progress). searched_by x.mark p.state.matrix) e ∙ searched_not u.bots p.state.matrix in
+        let sum = paid_step.4 in
+        subst (λ (x : Progress). Left x rest v start after n) (sym e) (on u u.bots refl paid_step.1 (subst (λ (xs : List Command). WorkFrom u xs (p.steps + 1) paid_step.1) back paid_step.3) (omega (arith, bounded_each, searched_by_zero, sum, l)))
     made (Breaks b) k e more w l =
-        let r = pay w (Breaks b) some (subst (λ (xs : List Command). Next p.state xs (p.steps + 1) (Breaks b)) (sym front) k) in
-        let h = within_each p.state (p.pending ++ command ∷ []) (p.steps + 1) (before + searched_by q.mark p.state.matrix) after more t.paid (subst (λ (xs : List Command). WorkOfStep p.state xs (p.steps + 1) more) front r) in
-        let s = searched_most q.mark p.state.matrix in
-        let z = space in
-        subst (λ (x : Progress). Left x rest v start after n) (sym e) (omega (arith, h, s, z, l))
+        let paid_step = pay w (Breaks b) some (subst (λ (xs : List Command). Next p.state xs (p.steps + 1) (Breaks b)) (sym front) k) in
+        let bounded_each = within_each p.state (p.pending ++ command ∷ []) (p.steps + 1) (before + searched_by q.mark p.state.matrix) after more t.paid (subst (λ (xs : List Command). WorkOfStep p.state xs (p.steps + 1) more) front paid_step) in
+        let searched_most_here = searched_most q.mark p.state.matrix in
+        let space_here = space in
+        subst (λ (x : Progress). Left x rest v start after n) (sym e) (omega (arith, bounded_each, searched_most_here, space_here, l))
 
   running : MatchBool (length (p.pending ++ command ∷ []) == length p.state.bots) (MakesStep (with_command p command) q)
       (q ≡ with_command p command) → (more : ℕ) × WorkFrom p.state (p.pending ++ command ∷ rest) p.steps more
@@ -129,14 +129,14 @@ left_on p q command rest v start before after n t space h l = by p.mark refl h l
         → Left q rest v start after n
     by progress.Running e j w = running p q command rest v start before after n t space e j w
     by (progress.Refused b) e j w =
-        let s = no_step (progress.Refused b) e (λ f. cc) in
-        subst (λ (x : Progress). Left x rest v start after n) (sym j) (subst (λ (m : progress.Mark). LeftAt m p rest v start after n) (sym e) (omega (arith, s, w)))
+        let no_step_here = no_step (progress.Refused b) e (λ f. cc) in
+        subst (λ (x : Progress). Left x rest v start after n) (sym j) (subst (λ (m : progress.Mark). LeftAt m p rest v start after n) (sym e) (omega (arith, no_step_here, w)))
     by progress.Halted e j w =
-        let s = no_step progress.Halted e (λ f. cc) in
-        subst (λ (x : Progress). Left x rest v start after n) (sym j) (omega (arith, s, w))
+        let no_step_here = no_step progress.Halted e (λ f. cc) in
+        subst (λ (x : Progress). Left x rest v start after n) (sym j) (omega (arith, no_step_here, w))
     by progress.Followed e j w =
-        let s = no_step progress.Followed e (λ f. cc) in
-        subst (λ (x : Progress). Left x rest v start after n) (sym j) (subst (λ (m : progress.Mark). LeftAt m p rest v start after n) (sym e) (omega (arith, s, w)))
+        let no_step_here = no_step progress.Followed e (λ f. cc) in
+        subst (λ (x : Progress). Left x rest v start after n) (sym j) (subst (λ (m : progress.Mark). LeftAt m p rest v start after n) (sym e) (omega (arith, no_step_here, w)))
 
 -- ---- commands that come one after another
 
@@ -179,7 +179,7 @@ pub judging_begun : (source : Matrix) (profile : Profile) (commands : List Comma
     → IsJudging source profile commands 0 runner start start
 judging_begun source profile commands runner start e s = record {
   comes = first (take_none commands) e;
-  few = let n = ap (λ (p : Progress). p.steps) e in omega arith;
+  few = let steps_is = ap (λ (p : Progress). p.steps) e in omega arith;
   resolution = ap (λ (p : Progress). p.state.matrix.resolution) e;
   stands = s;
   paid = subst (λ (xs : List Command). IsPaid source profile xs runner.progress start start) (sym (take_none commands)) (paid_at_first source profile runner.progress start e);

@@ -36,7 +36,7 @@ no_step s commands step t bot bots e l next = let keeps = (accepted_step s t com
 one_step : (s : State) (commands : List Command) (steps : ℕ) (bot : Bot) (bots : List Bot) → s.bots ≡ bot ∷ bots
     → ((t : State) → Next s (take (length s.bots) commands) (steps + 1) (Goes t)
     → (n : ℕ) × WorkFrom t (drop (length s.bots) commands) (steps + 1) n) → (n : ℕ) × WorkFrom s commands steps n
-one_step s commands steps bot bots e later = let o = next_of s (take (length s.bots) commands) (steps + 1) in by o.0 o.1 (step_work s (take (length s.bots) commands) (steps + 1))
+one_step s commands steps bot bots e later = let following = next_of s (take (length s.bots) commands) (steps + 1) in by following.0 following.1 (step_work s (take (length s.bots) commands) (steps + 1))
   where
     by : (o : Outcome) → Next s (take (length s.bots) commands) (steps + 1) o
         → (n : ℕ) × WorkOfStep s (take (length s.bots) commands) (steps + 1) n → (n : ℕ) × WorkFrom s commands steps n

@@ -30,7 +30,7 @@ no_high (b ∷ bs) h = by (nat_lt 127 b) refl (no_high bs (λ i. h (suc i)))
     lower = h 0
 
     contrary : nat_lt 127 b ≡ true → ⊥
-    contrary e = let b_from_127 : 127 < b = grind (arith, nat_tests) in let k = lower in absurd (omega (arith, b_from_127, k))
+    contrary e = let b_from_127 : 127 < b = grind (arith, nat_tests) in let lower_here = lower in absurd (omega (arith, b_from_127, lower_here))
 
     by : (t : Bool) → nat_lt 127 b ≡ t → has_high_byte bs ≡ false → (t || has_high_byte bs) ≡ false
     by true e later = absurd (contrary e)
@@ -46,9 +46,9 @@ pub skipped : (line middle rest : List ℕ) → HasParts line middle rest → tr
     → Skipped ≡ line_of line
 skipped line middle rest h e =
     let rest_is : rest ≡ from_word (line_content line) = h.rest_is ∙ ap from_word h.middle_is in
-    let b : list_all is_blank (line_content line) ≡ true = all_blank (line_content line) ∙ (ap (λ xs. length xs == 0) (sym rest_is) ∙ sym e) in
+    let list_all_holds : list_all is_blank (line_content line) ≡ true = all_blank (line_content line) ∙ (ap (λ xs. length xs == 0) (sym rest_is) ∙ sym e) in
     let low = h.low in
-    rw (low, b) refl
+    rw (low, list_all_holds) refl
 
 by_word : (line middle rest : List ℕ) → HasParts line middle rest → false ≡ (length rest == 0)
     → said_by (word_of rest) (after_word rest) ≡ line_of line
@@ -62,12 +62,12 @@ pub says : (line middle rest word more : List ℕ) (w : Word) (s : Line) → Has
     → false ≡ (length rest == 0) → word ≡ take_while is_letter rest → more ≡ drop (prefix_len is_letter rest) rest
     → Some w ≡ find (λ v. bytes_eq v.letters word) words → s ≡ said w (readings w.form more) → s ≡ line_of line
 says line middle rest word more w s h e f g k i =
-    let u : Some w ≡ word_of rest = k ∙ ap (λ xs. find (λ v. bytes_eq v.letters xs) words) f in
-    i ∙ (ap (λ xs. said w (readings w.form xs)) g ∙ (ap (λ o. said_by o (after_word rest)) u ∙ by_word line middle rest h e))
+    let some_is : Some w ≡ word_of rest = k ∙ ap (λ xs. find (λ v. bytes_eq v.letters xs) words) f in
+    i ∙ (ap (λ xs. said w (readings w.form xs)) g ∙ (ap (λ o. said_by o (after_word rest)) some_is ∙ by_word line middle rest h e))
 
 pub unknown : (line middle rest word : List ℕ) → HasParts line middle rest → false ≡ (length rest == 0)
     → word ≡ take_while is_letter rest → None ≡ find (λ v. bytes_eq v.letters word) words
     → Faulty UnknownWord ≡ line_of line
 unknown line middle rest word h e f k =
-    let u : None ≡ word_of rest = k ∙ ap (λ xs. find (λ v. bytes_eq v.letters xs) words) f in
-    ap (λ o. said_by o (after_word rest)) u ∙ by_word line middle rest h e
+    let is_word_of : None ≡ word_of rest = k ∙ ap (λ xs. find (λ v. bytes_eq v.letters xs) words) f in
+    ap (λ o. said_by o (after_word rest)) is_word_of ∙ by_word line middle rest h e

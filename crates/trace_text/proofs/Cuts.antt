@@ -51,7 +51,7 @@ kept a xs = kept_before a (slice_split is_feed xs) (some xs)
 pub first_line : (xs : List ℕ) (end : ℕ) → end ≡ position_or_len (λ b. b == 10) xs → end < length xs
     → lines xs ≡ take end xs ∷ lines (take (length xs - (end + 1)) (drop (end + 1) xs))
 first_line xs end e l =
-    let r = take_rest xs (end + 1) in
+    let rest_is = take_rest xs (end + 1) in
     let slice_split_is : slice_split is_feed xs ≡ before_first is_feed xs ∷ slice_split is_feed (after_first is_feed xs) = slice_split_first is_feed xs 0 (subst (λ (n : ℕ). n < length xs) e l) in
     let lines_is : lines xs ≡ take (position_or_len is_feed xs) xs ∷ lines (drop (position_or_len is_feed xs + 1) xs) = ap without_last_empty slice_split_is ∙ kept (before_first is_feed xs) (after_first is_feed xs) in
-    rw r (subst (λ (n : ℕ). lines xs ≡ take n xs ∷ lines (drop (n + 1) xs)) (sym e) lines_is)
+    rw rest_is (subst (λ (n : ℕ). lines xs ≡ take n xs ∷ lines (drop (n + 1) xs)) (sym e) lines_is)

@@ -22,7 +22,7 @@ pub one_digit : (n : ℕ) → n < 10 → decimal n ≡ (48 + n % 10) ∷ []
 one_digit n l = decimal_is n (omega arith) ∙ ap (λ t. cond t ((48 + n % 10) ∷ []) (cond (nat_lt n 100) ((48 + n / 10 % 10) ∷ (48 + n % 10) ∷ []) ((48 + n / 100) ∷ (48 + n / 10 % 10) ∷ (48 + n % 10) ∷ []))) (test_less n 10 l)
 
 pub two_digits : (n : ℕ) → 10 ≤ n → n < 100 → decimal n ≡ (48 + n / 10 % 10) ∷ (48 + n % 10) ∷ []
-two_digits n l h = let a = test_not_less n 10 l in let b = test_less n 100 h in decimal_is n (omega arith) ∙ rw (a, b) refl
+two_digits n l h = let not_less = test_not_less n 10 l in let test_less_here = test_less n 100 h in decimal_is n (omega arith) ∙ rw (not_less, test_less_here) refl
 
 pub three_digits : (n : ℕ) → 100 ≤ n → n < 256 → decimal n ≡ (48 + n / 100) ∷ (48 + n / 10 % 10) ∷ (48 + n % 10) ∷ []
-three_digits n l h = let a = test_not_less n 10 (omega arith) in let b = test_not_less n 100 l in decimal_is n h ∙ rw (a, b) refl
+three_digits n l h = let not_less = test_not_less n 10 (omega arith) in let not_less_here = test_not_less n 100 l in decimal_is n h ∙ rw (not_less, not_less_here) refl

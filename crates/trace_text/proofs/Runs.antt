@@ -24,20 +24,20 @@ none_yet p xs = let same_prefix_len : prefix_len p (drop 0 xs) ≡ prefix_len p 
 pub passes_on : (p : ℕ → Bool) (xs : List ℕ) (n : ℕ) → Pass p xs n → n < length xs → p (slice_index_or xs n 0) ≡ true
     → Pass p xs (n + 1)
 passes_on p xs n h l e =
-    let k = at_place p xs n l in
-    let same_prefix_len : prefix_len p (drop n xs) ≡ 1 + prefix_len p (drop (suc n) xs) = k ∙ ap (λ t. cond t (1 + prefix_len p (drop (suc n) xs)) 0) e in
+    let at_place_here = at_place p xs n l in
+    let same_prefix_len : prefix_len p (drop n xs) ≡ 1 + prefix_len p (drop (suc n) xs) = at_place_here ∙ ap (λ t. cond t (1 + prefix_len p (drop (suc n) xs)) 0) e in
     let successor_is : suc n ≡ n + 1 = omega arith in
-    let r = h.run in
+    let its_run = h.run in
     record {
-      run = subst (λ (m : ℕ). prefix_len p xs ≡ m + prefix_len p (drop m xs)) successor_is (omega (arith, r, same_prefix_len));
+      run = subst (λ (m : ℕ). prefix_len p xs ≡ m + prefix_len p (drop m xs)) successor_is (omega (arith, its_run, same_prefix_len));
       within = omega arith;
     }
 
 pub stops_at : (p : ℕ → Bool) (xs : List ℕ) (n : ℕ) → Pass p xs n → n < length xs → p (slice_index_or xs n 0) ≡ false
     → n ≡ prefix_len p xs
 stops_at p xs n h l e =
-    let k = at_place p xs n l in
-    let prefix_len_is : prefix_len p (drop n xs) ≡ 0 = k ∙ ap (λ t. cond t (1 + prefix_len p (drop (suc n) xs)) 0) e in
+    let at_place_here = at_place p xs n l in
+    let prefix_len_is : prefix_len p (drop n xs) ≡ 0 = at_place_here ∙ ap (λ t. cond t (1 + prefix_len p (drop (suc n) xs)) 0) e in
     let run = h.run in
     omega (arith, run, prefix_len_is)
 

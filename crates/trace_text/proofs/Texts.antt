@@ -41,12 +41,12 @@ next text commands left number line more said h l s = h.is ∙ ap (λ ls. onto c
 pub skipped_on : (text : List ℕ) (commands : List Command) (left : List ℕ) (number : ℕ) (line more : List ℕ)
     → HasRead text commands left number → lines left ≡ line ∷ lines more → length more < length left
     → Skipped ≡ line_of line → HasRead text commands more (number + 1)
-skipped_on text commands left number line more h l m s = let w = h.within in record { is = next text commands left number line more Skipped h l s; within = omega (arith, w) }
+skipped_on text commands left number line more h l m s = let its_within = h.within in record { is = next text commands left number line more Skipped h l s; within = omega (arith, its_within) }
 
 pub says_on : (text : List ℕ) (commands : List Command) (left : List ℕ) (number : ℕ) (line more : List ℕ) (c : Command)
     → HasRead text commands left number → lines left ≡ line ∷ lines more → length more < length left
     → Says c ≡ line_of line → HasRead text (commands ++ c ∷ []) more (number + 1)
-says_on text commands left number line more c h l m s = let w = h.within in record { is = next text commands left number line more (Says c) h l s ∙ onto_more commands c (read_lines (number + 1 + 1) (map line_of (lines more))); within = omega (arith, w) }
+says_on text commands left number line more c h l m s = let its_within = h.within in record { is = next text commands left number line more (Says c) h l s ∙ onto_more commands c (read_lines (number + 1 + 1) (map line_of (lines more))); within = omega (arith, its_within) }
 
 pub faulty_here : (text : List ℕ) (commands : List Command) (left : List ℕ) (number : ℕ) (line more : List ℕ)
     (fault : Fault) (refusal : TextRefusal) → HasRead text commands left number → lines left ≡ line ∷ lines more

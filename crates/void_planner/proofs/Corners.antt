@@ -75,10 +75,10 @@ differ_not y = grind (arith, nat_tests)
 
 four_corners : (far : ℕ) (t : Coord) → 1 ≤ far → 4 ≡ 2 ^ dimension (tile far t)
 four_corners far t h =
-    let x = differ_by t.x far h in
-    let y = differ_not t.y in
-    let z = differ_by t.z far h in
-    sym (λ i. 2 ^ (x i + y i + z i))
+    let differs_one_x = differ_by t.x far h in
+    let differ_not_here_y = differ_not t.y in
+    let differs_one_z = differ_by t.z far h in
+    sym (λ i. 2 ^ (differs_one_x i + differ_not_here_y i + differs_one_z i))
 
 unlike : (a b : ℕ) → a + 1 ≤ b → same_number (pos a) (pos b) ≡ false
 unlike a b h = grind (arith, nat_tests)
@@ -105,17 +105,17 @@ corners_differ : (far x y z : ℕ) → 1 ≤ far
     → repeats (point (coord x y z) ∷ point (coord (x + far) y z) ∷ point (coord (x + far) y (z + far)) ∷ point (coord x y (z + far)) ∷ [])
     ≡ false
 corners_differ far x y z h =
-    let a = coord x y z in
-    let b = coord (x + far) y z in
-    let c = coord (x + far) y (z + far) in
-    let d = coord x y (z + far) in
-    none_repeats (same_point (point a) (point b)) (same_point (point a) (point c)) (same_point (point a) (point d)) (same_point (point b) (point c)) (same_point (point b) (point d)) (same_point (point c) (point d))
-    (other_x a b (unlike x (x + far) (omega arith)))
-    (other_x a c (unlike x (x + far) (omega arith)))
-    (other_z a d (unlike z (z + far) (omega arith)))
-    (other_z b c (unlike z (z + far) (omega arith)))
-    (other_x b d (unlike_back x (x + far) (omega arith)))
-    (other_x c d (unlike_back x (x + far) (omega arith)))
+    let first_corner = coord x y z in
+    let second_corner = coord (x + far) y z in
+    let third_corner = coord (x + far) y (z + far) in
+    let fourth_corner = coord x y (z + far) in
+    none_repeats (same_point (point first_corner) (point second_corner)) (same_point (point first_corner) (point third_corner)) (same_point (point first_corner) (point fourth_corner)) (same_point (point second_corner) (point third_corner)) (same_point (point second_corner) (point fourth_corner)) (same_point (point third_corner) (point fourth_corner))
+    (other_x first_corner second_corner (unlike x (x + far) (omega arith)))
+    (other_x first_corner third_corner (unlike x (x + far) (omega arith)))
+    (other_z first_corner fourth_corner (unlike z (z + far) (omega arith)))
+    (other_z second_corner third_corner (unlike z (z + far) (omega arith)))
+    (other_x second_corner fourth_corner (unlike_back x (x + far) (omega arith)))
+    (other_x third_corner fourth_corner (unlike_back x (x + far) (omega arith)))
 
 -- ---- the four
 
@@ -219,6 +219,6 @@ module _ (p : TapeState) (far x y z : ℕ) (k l m o f g h j : Diff) (full : p.pr
                 (record { x = stand.x; y = stand.y; z = stand.z; above = λ c l. region_fewer p.matrix (tile far low) c (stand.above c l) }));
           };
           there = there ∙ sym (ap spot bots);
-          fissions_are = let n = fissions_more p q commands 0 w.added refl in omega arith;
+          fissions_are = let more_fissions = fissions_more p q commands 0 w.added refl in omega arith;
           steps = w.steps;
         }

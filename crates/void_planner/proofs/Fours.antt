@@ -124,14 +124,14 @@ module _ (p : TapeState) (c : Coord) (w d : ℕ) (n : Coord) (width depth : ℕ)
       let two = bot_with 2 (coord (c.x + w) c.y c.z) 0 in
       let three = bot_with 3 (coord (c.x + w) c.y (c.z + d)) 0 in
       let four = bot_with 4 (coord c.x c.y (c.z + d)) 0 in
-      let q = coord (n.x + width) n.y n.z in
-      let r = coord (n.x + width) n.y (n.z + depth) in
-      let s = coord n.x n.y (n.z + depth) in (
-        (lie one two k l n q goes.first goes.second (before_x left_right), (lie one three k m n r goes.first goes.third (before_x left_right), (lie one four k o n s goes.first goes.fourth (before_z front_rear), tt))),
+      let corner = coord (n.x + width) n.y n.z in
+      let corner_here = coord (n.x + width) n.y (n.z + depth) in
+      let corner_there = coord n.x n.y (n.z + depth) in (
+        (lie one two k l n corner goes.first goes.second (before_x left_right), (lie one three k m n corner_here goes.first goes.third (before_x left_right), (lie one four k o n corner_there goes.first goes.fourth (before_z front_rear), tt))),
         (
-          (lie two three l m q r goes.second goes.third (before_z front_rear), (lie two four l o q s goes.second goes.fourth (before_z front_rear), tt)),
+          (lie two three l m corner corner_here goes.second goes.third (before_z front_rear), (lie two four l o corner corner_there goes.second goes.fourth (before_z front_rear), tt)),
           (
-            (lie three four m o r s goes.third goes.fourth (after_x left_right), tt),
+            (lie three four m o corner_here corner_there goes.third goes.fourth (after_x left_right), tt),
             (tt, tt),
           ),
         ),
@@ -139,11 +139,11 @@ module _ (p : TapeState) (c : Coord) (w d : ℕ) (n : Coord) (width depth : ℕ)
 
   pub four_gone : bots_gone (four c w d) (k ∷ l ∷ m ∷ o ∷ []) ≡ four n width depth
   four_gone =
-      let a = gone_is (bot_with 1 c (2 ^ 41 - 2 ^ 5)) k n goes.first in
-      let b = gone_is (bot_with 2 (coord (c.x + w) c.y c.z) 0) l (coord (n.x + width) n.y n.z) goes.second in
-      let e = gone_is (bot_with 3 (coord (c.x + w) c.y (c.z + d)) 0) m (coord (n.x + width) n.y (n.z + depth)) goes.third in
-      let f = gone_is (bot_with 4 (coord c.x c.y (c.z + d)) 0) o (coord n.x n.y (n.z + depth)) goes.fourth in
-      λ i. a i ∷ b i ∷ e i ∷ f i ∷ []
+      let bot_gone = gone_is (bot_with 1 c (2 ^ 41 - 2 ^ 5)) k n goes.first in
+      let is_gone = gone_is (bot_with 2 (coord (c.x + w) c.y c.z) 0) l (coord (n.x + width) n.y n.z) goes.second in
+      let bot_gone_here = gone_is (bot_with 3 (coord (c.x + w) c.y (c.z + d)) 0) m (coord (n.x + width) n.y (n.z + depth)) goes.third in
+      let bot_gone_too = gone_is (bot_with 4 (coord c.x c.y (c.z + d)) 0) o (coord n.x n.y (n.z + depth)) goes.fourth in
+      λ i. bot_gone i ∷ is_gone i ∷ bot_gone_here i ∷ bot_gone_too i ∷ []
 
   module _ (bots : p.bots ≡ four c w d) where
     pub can_move_all : CanMoveAll p (k ∷ l ∷ m ∷ o ∷ [])
@@ -170,7 +170,7 @@ module _ (p : TapeState) (c : Coord) (w d : ℕ) (n : Coord) (width depth : ℕ)
             stand = subst (λ (at : Coord). CanStand q.matrix width depth at) (sym there) (subst (λ (x : Matrix). CanStand x width depth n) (sym s.matrix) then);
           };
           there = there;
-          fissions_are = let f = fissions_more p q (k ∷ l ∷ m ∷ o ∷ []) 0 s.added none in omega arith;
+          fissions_are = let more_fissions = fissions_more p q (k ∷ l ∷ m ∷ o ∷ []) 0 s.added none in omega arith;
           steps = s.steps;
         }
 

@@ -12,31 +12,31 @@ use Rattle.plan_tape.proofs.LegalModels.{outside_is_void, void_by_space}
 
 -- a small legal model is void
 pub small_is_void : (m : Matrix) → IsLegal m → m.resolution ≤ 2 → IsVoidModel m
-small_is_void m h l = λ c. outside_is_void m c h (λ b. let x = b.x in let end = b.x_end in omega arith)
+small_is_void m h l = λ c. outside_is_void m c h (λ b. let along_x = b.x in let end = b.x_end in omega arith)
 
 -- ---- how many voxels are full
 
 none_full : (m : Matrix) (cs : List Coord) → IsVoidModel m → count_by (is_full m) cs ≡ 0
 none_full m [] v = refl
 none_full m (c ∷ cs) v =
-    let s = sum_by-cons (λ d. cond {A = ℕ} (is_full m d) 1 0) c cs in
-    let f : cond {A = ℕ} (is_full m c) 1 0 ≡ 0 = ap (λ t. cond {A = ℕ} t 1 0) (v c) in
+    let sum_is = sum_by-cons (λ d. cond {A = ℕ} (is_full m d) 1 0) c cs in
+    let full_count_zero : cond {A = ℕ} (is_full m c) 1 0 ≡ 0 = ap (λ t. cond {A = ℕ} t 1 0) (v c) in
     let count_is : count_by (is_full m) cs ≡ 0 = none_full m cs v in
-    omega (arith, s, f, count_is)
+    omega (arith, sum_is, full_count_zero, count_is)
 
 pub void_count : (m : Matrix) → IsVoidModel m → count_by (is_full m) (all_of m) ≡ 0
 void_count m v = none_full m (all_of m) v
 
 count_void : (m : Matrix) (cs : List Coord) → count_by (is_full m) cs ≡ 0 → (c : Coord) → In c cs → is_full m c ≡ false
 count_void m [] e c i = absurd i
-count_void m (d ∷ cs) e c i = by i (count_void m cs (let s = sum_by-cons (λ x. cond {A = ℕ} (is_full m x) 1 0) d cs in omega (arith, s, e)) c)
+count_void m (d ∷ cs) e c i = by i (count_void m cs (let sum_is = sum_by-cons (λ x. cond {A = ℕ} (is_full m x) 1 0) d cs in omega (arith, sum_is, e)) c)
   where
     here : (b : Bool) → cond {A = ℕ} b 1 0 ≡ 0 → b ≡ false
     here true z = absurd (omega arith)
     here false z = refl
 
     by : (c ≡ d) ⊎ In c cs → (In c cs → is_full m c ≡ false) → is_full m c ≡ false
-    by (inl f) later = ap (is_full m) f ∙ here (is_full m d) (let s = sum_by-cons (λ x. cond {A = ℕ} (is_full m x) 1 0) d cs in omega (arith, s, e))
+    by (inl f) later = ap (is_full m) f ∙ here (is_full m d) (let sum_is = sum_by-cons (λ x. cond {A = ℕ} (is_full m x) 1 0) d cs in omega (arith, sum_is, e))
     by (inr j) later = later j
 
 -- where no voxel is counted, all is void

@@ -14,11 +14,11 @@ use Rattle.plan_tape.proofs.ClearWays.{no_moves}
 
 pub risen_stands : (t : TapeState) → HasRisen t → 2 ≤ t.source.resolution → CanStand t.matrix 1 1 (spot t.bots)
 risen_stands t h some =
-    let x = ap (λ (bots : List Bot). (spot bots).x) h.bots_are in
-    let y = ap (λ (bots : List Bot). (spot bots).y) h.bots_are in
-    let z = ap (λ (bots : List Bot). (spot bots).z) h.bots_are in
-    let r = ap (λ (m : Matrix). m.resolution) h.matrix in
-    record { x = omega (arith, x, r); y = omega (arith, y, r); z = omega (arith, z, r); above = h.clear }
+    let same_x = ap (λ (bots : List Bot). (spot bots).x) h.bots_are in
+    let same_y = ap (λ (bots : List Bot). (spot bots).y) h.bots_are in
+    let same_z = ap (λ (bots : List Bot). (spot bots).z) h.bots_are in
+    let resolution_is = ap (λ (m : Matrix). m.resolution) h.matrix in
+    record { x = omega (arith, same_x, resolution_is); y = omega (arith, same_y, resolution_is); z = omega (arith, same_z, resolution_is); above = h.clear }
 
 -- bots that come of others stand where they can
 pub becomes_stands : (p q : TapeState) (bots : List Bot) (made w d : ℕ) → Becomes p q bots made

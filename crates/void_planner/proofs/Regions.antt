@@ -41,10 +41,10 @@ tile_void m far x y z = λ c a b e f g. region_void m (tile far (coord x y z)) c
 
 none_is : {A : Type 0} (o : Option A) (t : Bool) → is_some o ≡ not t → t ≡ true → o ≡ None
 none_is None t e f = refl
-none_is (Some a) t e f = let g = e ∙ ap not f in cc
+none_is (Some a) t e f = let impossible = e ∙ ap not f in cc
 
 not_full : (a b : Bool) → (a && b) ≡ false → b ≡ true → a ≡ false
-not_full true b e f = let g = sym e ∙ f in cc
+not_full true b e f = let impossible = sym e ∙ f in cc
 not_full false b e f = refl
 
 -- a region in which no full coordinate is found is void

@@ -143,18 +143,18 @@ module _ (p : TapeState) (c : Coord) (d e : Diff) (bots : p.bots ≡ two c) (ful
       let sy = stand.y in
       let sz = stand.z in
       let right = coord (c.x + 1) c.y c.z in
-      let q = coord c.x c.y (c.z + 1) in
-      let r = coord (c.x + 1) c.y (c.z + 1) in
+      let corner = coord c.x c.y (c.z + 1) in
+      let corner_here = coord (c.x + 1) c.y (c.z + 1) in
       subst (λ (bs : List Bot). AreFree (state_of p) (acts bs (Fission d 0 ∷ Fission e 0 ∷ []))) (sym bots) (record {
         each = (
           record {
             allowed = ap (λ (f : Profile). is_allowed f (Fission d 0)) full;
-            may = (free_spot p.matrix 1 1 c q (plus (point c) d) stand rear (record { x = omega arith; y = sy; z = sz }) refl, some_seeds);
+            may = (free_spot p.matrix 1 1 c corner (plus (point c) d) stand rear (record { x = omega arith; y = sy; z = sz }) refl, some_seeds);
           },
           (
             record {
               allowed = ap (λ (f : Profile). is_allowed f (Fission e 0)) full;
-              may = (free_spot p.matrix 1 1 c r (plus (point right) e) stand rear_right (record { x = sx; y = sy; z = sz }) refl, one_seed);
+              may = (free_spot p.matrix 1 1 c corner_here (plus (point right) e) stand rear_right (record { x = sx; y = sy; z = sz }) refl, one_seed);
             },
             tt,
           ),
@@ -162,9 +162,9 @@ module _ (p : TapeState) (c : Coord) (d e : Diff) (bots : p.bots ≡ two c) (ful
         untangled = (
           (
             inr (
-              (before_by c right (point c) (point right) refl refl (omega arith), (before_by c r (point c) (plus (point right) e) refl rear_right (omega arith), tt)),
+              (before_by c right (point c) (point right) refl refl (omega arith), (before_by c corner_here (point c) (plus (point right) e) refl rear_right (omega arith), tt)),
               (
-                (before_by q right (plus (point c) d) (point right) rear refl (omega arith), (before_by q r (plus (point c) d) (plus (point right) e) rear rear_right (omega arith), tt)),
+                (before_by corner right (plus (point c) d) (point right) rear refl (omega arith), (before_by corner corner_here (plus (point c) d) (plus (point right) e) rear rear_right (omega arith), tt)),
                 tt,
               ),
             ),

@@ -30,7 +30,7 @@ clears_more a b c p q s k n most h g l = record {
   fewer = λ d v. g.fewer d (h.fewer d v);
   square = subst (λ r. IsRectangle c (far_of r) (far_of r)) h.resolution g.square;
   fissions_are = g.fissions_are ∙ h.fissions_are;
-  steps_are = let x = h.steps_are in let steps_are = g.steps_are in omega arith;
+  steps_are = let its_steps_are = h.steps_are in let steps_are = g.steps_are in omega arith;
 }
 
 -- the way to another coordinate
@@ -42,7 +42,7 @@ clears_to a b p q s k n most h l m = record {
   fewer = h.fewer;
   square = h.square;
   fissions_are = h.fissions_are;
-  steps_are = let steps_are = h.steps_are in let w = moves_on (spot b.bots) q s in omega arith;
+  steps_are = let steps_are = h.steps_are in let onward = moves_on (spot b.bots) q s in omega arith;
 }
 
 -- the four can go on where they have voided
@@ -63,20 +63,20 @@ pub tile_cleared : (a b c : TapeState) (x y z far : ℕ) → far ≡ far_of b.ma
     (with_region b.matrix (tile far (coord (spot b.bots).x ((spot b.bots).y - 1) (spot b.bots).z)) false)
     → Clears a c (coord x (y + 1) z) (coord x (y + 1) z) 1 × IsVoidTile c.matrix (far_of a.matrix.resolution) x y z
 tile_cleared a b c x y z far ef g v =
-    let t = coord x (y + 1) z in
+    let corner = coord x (y + 1) z in
     let er : far ≡ far_of a.matrix.resolution = ef ∙ ap (λ (m : Matrix). far_of m.resolution) g.matrix in
     let down : y + 1 - 1 ≡ y = omega arith in
     let em : c.matrix ≡ with_region a.matrix (tile (far_of a.matrix.resolution) (coord x y z)) false =
     v.matrix ∙ ((λ i. with_region (g.matrix i) (tile (er i) (coord (g.there i).x ((g.there i).y - 1) (g.there i).z)) false) ∙ ap (λ n. with_region a.matrix (tile (far_of a.matrix.resolution) (coord x n z)) false) down) in
-    let there : spot c.bots ≡ t = v.there ∙ g.there in
-    let none : moves_to (spot c.bots) t ≡ 0 = ap (λ (s : Coord). moves_to s t) there ∙ no_moves t in (
+    let there : spot c.bots ≡ corner = v.there ∙ g.there in
+    let none : moves_to (spot c.bots) corner ≡ 0 = ap (λ (s : Coord). moves_to s corner) there ∙ no_moves corner in (
       record {
         source = v.source ∙ g.source;
         resolution = ap (λ (m : Matrix). m.resolution) em;
         fewer = λ d w. ap (λ (m : Matrix). is_full m d) em ∙ region_fewer a.matrix (tile (far_of a.matrix.resolution) (coord x y z)) d w;
         square = subst (λ f. IsRectangle c f f) er v.rectangle;
         fissions_are = v.fissions_are ∙ g.fissions_are;
-        steps_are = let p = g.steps in let steps = v.steps in omega arith;
+        steps_are = let its_steps = g.steps in let steps = v.steps in omega arith;
       },
       subst (λ (m : Matrix). IsVoidTile m (far_of a.matrix.resolution) x y z) (sym em) (tile_void a.matrix (far_of a.matrix.resolution) x y z),
     )
@@ -144,18 +144,18 @@ pub strip_on : (a b c : TapeState) (r : ℕ) (back : Bool) (x y k : ℕ) → Cle
     (coord x (y + 1) (place_of r (turned (tiles_of r) back (k + 1 - 1)))) (4 * (k + 1))
 strip_on a b c r back x y k p q =
     let start = coord x (y + 1) (edge r back) in
-    let u = coord x (y + 1) (place_of r (turned (tiles_of r) back (k - 1))) in
-    let t = coord x (y + 1) (place_of r (turned (tiles_of r) back k)) in
-    let way : moves_to u t ≤ 3 = let n = next_turned r (tiles_of r) back k in omega arith in
+    let corner = coord x (y + 1) (place_of r (turned (tiles_of r) back (k - 1))) in
+    let corner_here = coord x (y + 1) (place_of r (turned (tiles_of r) back k)) in
+    let way : moves_to corner corner_here ≤ 3 = let next_near = next_turned r (tiles_of r) back k in omega arith in
     let here : k ≡ k + 1 - 1 = omega arith in
     subst (λ v. Clears a c start (coord x (y + 1) (place_of r (turned (tiles_of r) back v))) (4 * (k + 1))) here
-    (clears_more a b c start t t (4 * k + 3) 1 (4 * (k + 1)) (clears_to a b start u t (4 * k) 3 (4 * k + 3) p way (omega arith)) q (omega arith))
+    (clears_more a b c start corner_here corner_here (4 * k + 3) 1 (4 * (k + 1)) (clears_to a b start corner corner_here (4 * k) 3 (4 * k + 3) p way (omega arith)) q (omega arith))
 
 pub strip_void : (m : Matrix) (r : ℕ) (back : Bool) (x y : ℕ) → AreVoidTiles m r back x y (tiles_of r)
     → IsVoidStrip m (far_of r) x y r
 strip_void m r back x y h = λ c u v w l.
-    let n = in_tile r c.z l in
-    each_taken (λ j. IsVoidTile m (far_of r) x y (place_of r j)) (tiles_of r) back h (c.z / 31) n.0 c u v w n.1 n.2
+    let within_tile = in_tile r c.z l in
+    each_taken (λ j. IsVoidTile m (far_of r) x y (place_of r j)) (tiles_of r) back h (c.z / 31) within_tile.0 c u v w within_tile.1 within_tile.2
 
 -- ---- a layer
 
@@ -172,8 +172,8 @@ strips_more a b r turn y k fewer h t =
 pub layer_void : (m : Matrix) (r : ℕ) (turn : Bool) (y : ℕ) → m.resolution ≡ r → AreVoidStrips m r turn y (tiles_of r)
     → IsVoidBefore m r y
 layer_void m r turn y e h = λ c l w.
-    let n = in_tile r c.x l in
-    void_by_space m c (λ i. each_taken (λ j. IsVoidStrip m (far_of r) (place_of r j) y r) (tiles_of r) turn h (c.x / 31) n.0 c n.1 n.2 w (let z = i.z in omega arith))
+    let within_tile = in_tile r c.x l in
+    void_by_space m c (λ i. each_taken (λ j. IsVoidStrip m (far_of r) (place_of r j) y r) (tiles_of r) turn h (c.x / 31) within_tile.0 c within_tile.1 within_tile.2 w (let along_z = i.z in omega arith))
 
 -- the next strip is within the steps of all
 pub layer_limit : (a b : TapeState) (r : ℕ) (turn first now : Bool) (y k limit : ℕ) → k < tiles_of r
@@ -182,12 +182,12 @@ pub layer_limit : (a b : TapeState) (r : ℕ) (turn first now : Bool) (y k limit
     → steps_to a (coord (edge r turn) (y + 1) (edge r first)) + strip_steps r * tiles_of r < limit
     → steps_to b (coord (place_of r (turned (tiles_of r) turn k)) (y + 1) (edge r now)) + 4 * tiles_of r < limit
 layer_limit a b r turn first now y k limit h p q =
-    let u = coord (place_of r (turned (tiles_of r) turn (k - 1))) (y + 1) (edge r now) in
-    let t = coord (place_of r (turned (tiles_of r) turn k)) (y + 1) (edge r now) in
-    let way : moves_to u t ≤ 3 = let n = next_turned r (tiles_of r) turn k in omega arith in
-    let on = moves_on (spot b.bots) u t in
+    let corner = coord (place_of r (turned (tiles_of r) turn (k - 1))) (y + 1) (edge r now) in
+    let corner_here = coord (place_of r (turned (tiles_of r) turn k)) (y + 1) (edge r now) in
+    let way : moves_to corner corner_here ≤ 3 = let next_near = next_turned r (tiles_of r) turn k in omega arith in
+    let on = moves_on (spot b.bots) corner corner_here in
     let all : strip_steps r * (k + 1) ≤ strip_steps r * tiles_of r = mul-le-mul (omega arith) (omega arith) in
-    within (steps_to a (coord (edge r turn) (y + 1) (edge r first))) b.steps (moves_to (spot b.bots) u) (moves_to (spot b.bots) t) (moves_to u t) (tiles_of r) k (strip_steps r * tiles_of r) limit p.steps_are on way all q
+    within (steps_to a (coord (edge r turn) (y + 1) (edge r first))) b.steps (moves_to (spot b.bots) corner) (moves_to (spot b.bots) corner_here) (moves_to corner corner_here) (tiles_of r) k (strip_steps r * tiles_of r) limit p.steps_are on way all q
   where
     within : (s b u t w n k m limit : ℕ) → b + u ≤ s + (4 * n + 3) * k → t ≤ u + w → w ≤ 3 → (4 * n + 3) * (k + 1) ≤ m
         → s + m < limit → b + t + 4 * n < limit
@@ -203,14 +203,14 @@ pub layer_on : (a b c : TapeState) (r : ℕ) (turn first now : Bool) (y k : ℕ)
     (coord (place_of r (turned (tiles_of r) turn (k + 1 - 1))) (y + 1) (edge r (not now))) (strip_steps r * (k + 1))
 layer_on a b c r turn first now y k p q =
     let start = coord (edge r turn) (y + 1) (edge r first) in
-    let u = coord (place_of r (turned (tiles_of r) turn (k - 1))) (y + 1) (edge r now) in
-    let t = coord (place_of r (turned (tiles_of r) turn k)) (y + 1) (edge r now) in
-    let way : moves_to u t ≤ 3 = let n = next_turned r (tiles_of r) turn k in omega arith in
+    let corner = coord (place_of r (turned (tiles_of r) turn (k - 1))) (y + 1) (edge r now) in
+    let corner_here = coord (place_of r (turned (tiles_of r) turn k)) (y + 1) (edge r now) in
+    let way : moves_to corner corner_here ≤ 3 = let next_near = next_turned r (tiles_of r) turn k in omega arith in
     let more : strip_steps r * (k + 1) ≡ strip_steps r * k + (4 * tiles_of r + 3) = one_more (strip_steps r) k in
     let here : k ≡ k + 1 - 1 = omega arith in
     subst (λ v. Clears a c start (coord (place_of r (turned (tiles_of r) turn v)) (y + 1) (edge r (not now))) (strip_steps r * (k + 1))) here
-    (clears_more a b c start t (coord (place_of r (turned (tiles_of r) turn k)) (y + 1) (edge r (not now))) (strip_steps r * k + 3) (4 * tiles_of r) (strip_steps r * (k + 1))
-    (clears_to a b start u t (strip_steps r * k) 3 (strip_steps r * k + 3) p way (omega arith)) q (omega arith))
+    (clears_more a b c start corner_here (coord (place_of r (turned (tiles_of r) turn k)) (y + 1) (edge r (not now))) (strip_steps r * k + 3) (4 * tiles_of r) (strip_steps r * (k + 1))
+    (clears_to a b start corner corner_here (strip_steps r * k) 3 (strip_steps r * k + 3) p way (omega arith)) q (omega arith))
   where
     one_more : (n k : ℕ) → n * (k + 1) ≡ n * k + n
     one_more n k = omega arith
@@ -255,7 +255,7 @@ squares n = omega arith
 
 -- a layer's steps leave room for a way back
 with_way : (n : ℕ) → ((4 * n + 3) * n + 1) + 6 * n ≤ 8 * (n * n) + 8
-with_way n = let s = squares n in let f = nine n in omega arith
+with_way n = let squares_here = squares n in let nine_here = nine n in omega arith
 
 times : (m n w l : ℕ) → 1 ≤ m → n + w ≤ l → m * n + w ≤ m * l
 times m n w l h k =
@@ -273,7 +273,7 @@ pub layers_limit : (a b : TapeState) (r y : ℕ) (turn back : Bool) (limit : ℕ
     → steps_to b (coord (edge r turn) (y - 1 + 1) (edge r back)) + strip_steps r * tiles_of r < limit
 layers_limit a b r y turn back limit h l p q =
     let up : y - 1 + 1 ≡ y = omega arith in
-    let most = all_but (r - 1 - y) (r - 1) (fro_steps r) (voiding_steps r) (omega arith) (let w = with_way (tiles_of r) in omega (arith, w)) in
+    let most = all_but (r - 1 - y) (r - 1) (fro_steps r) (voiding_steps r) (omega arith) (let with_way_here = with_way (tiles_of r) in omega (arith, with_way_here)) in
     subst (λ v. steps_to b (coord (edge r turn) v (edge r back)) + strip_steps r * tiles_of r < limit) (sym up) (within (steps_to a (coord 0 (r - 1) 0)) (steps_to b (coord (edge r turn) y (edge r back))) ((r - 1 - y) * fro_steps r) (strip_steps r * tiles_of r) ((r - 1) * voiding_steps r) limit p.steps_are most q)
   where
     within : (s t m n k limit : ℕ) → t ≤ s + m → m + (n + 1) ≤ k → s + k < limit → t + n < limit
@@ -285,7 +285,7 @@ pub layers_all : (a b : TapeState) (r y : ℕ) (turn back : Bool) → 2 ≤ r �
     → Clears a b (coord 0 (r - 1) 0) (coord 0 0 0) ((r - 1) * voiding_steps r)
 layers_all a b r y turn back some e p =
     let low = subst (λ v. Clears a b (coord 0 (r - 1) 0) (coord (edge r turn) v (edge r back)) ((r - 1 - v) * fro_steps r)) e p in
-    let way : moves_to (coord (edge r turn) 0 (edge r back)) (coord 0 0 0) ≤ 6 * tiles_of r = let u = edge_near r turn in let v = edge_near r back in omega arith in
+    let way : moves_to (coord (edge r turn) 0 (edge r back)) (coord 0 0 0) ≤ 6 * tiles_of r = let near_edge = edge_near r turn in let near_edge_here = edge_near r back in omega arith in
     clears_to a b (coord 0 (r - 1) 0) (coord (edge r turn) 0 (edge r back)) (coord 0 0 0) ((r - 1 - 0) * fro_steps r) (6 * tiles_of r) ((r - 1) * voiding_steps r) low way
     (subst (λ v. v * fro_steps r + 6 * tiles_of r ≤ (r - 1) * voiding_steps r) (let difference_is : r - 1 ≡ r - 1 - 0 = omega arith in difference_is) (times (r - 1) (fro_steps r) (6 * tiles_of r) (voiding_steps r) (omega arith) (with_way (tiles_of r))))
 

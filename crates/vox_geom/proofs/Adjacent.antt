@@ -31,7 +31,7 @@ adjacent_by a b e =
     ((λ i. gap a.x b.x i + gap a.y b.y i + gap a.z b.z i) ∙ e)
 
 pub adjacent-sym : (a b : Coord) → IsTrue (are_adjacent a b) → IsTrue (are_adjacent b a)
-adjacent-sym a b h = let g = gaps a b h in adjacent_by b a (omega arith)
+adjacent-sym a b h = let gaps_here = gaps a b h in adjacent_by b a (omega arith)
 
 -- where an adjacent coordinate lies
 pub data Side (a b : Coord) : Type 0 where

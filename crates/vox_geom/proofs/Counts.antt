@@ -65,7 +65,7 @@ unfolding tally
 pairs f g m zero = let product_is : 0 * m ≡ 0 = omega arith in rw product_is (omega arith)
 pairs f g m (suc n) =
     let both : ℕ → Bool = λ p. f (p / m) && g (p % m) in
-    let e : suc n * m ≡ n * m + m = omega arith in
+    let product_sum : suc n * m ≡ n * m + m = omega arith in
     let split : tally both (n * m + m) 0 ≡ tally both (n * m) 0 + tally both m (0 + n * m) = in_parts both (n * m) m 0 in
     let up : tally both m (0 + n * m) ≡ tally both m (n * m + 0) = (let sum_is : 0 + n * m ≡ n * m + 0 = omega arith in ap (tally both m) sum_is) in
     let at : tally both m (n * m + 0) ≡ tally (λ k. both (n * m + k)) m 0 = moved both m (n * m) 0 in
@@ -75,7 +75,7 @@ pairs f g m (suc n) =
     let one : tally f (n + 1) 0 ≡ tally f n 0 + tally f 1 (0 + n) = in_parts f n 1 0 in
     let here : tally f 1 (0 + n) ≡ cond (f n) 1 0 = (let sum_is : 0 + n ≡ n = omega arith in ap (λ v. cond (f v) 1 0 + 0) sum_is ∙ omega arith) in
     let whole : tally f (suc n) 0 ≡ tally f n 0 + cond (f n) 1 0 = (let successor_is : suc n ≡ n + 1 = omega arith in ap (λ v. tally f v 0) successor_is) ∙ (one ∙ ap (λ v. tally f n 0 + v) here) in
-    ap (λ v. tally both v 0) e ∙ (split ∙ (ap (λ v. v + tally both m (0 + n * m)) first ∙ (ap (λ v. tally f n 0 * tally g m 0 + v) (up ∙ (at ∙ (same ∙ last))) ∙ (omega arith ∙ ap (λ v. v * tally g m 0) (sym whole)))))
+    ap (λ v. tally both v 0) product_sum ∙ (split ∙ (ap (λ v. v + tally both m (0 + n * m)) first ∙ (ap (λ v. tally f n 0 * tally g m 0 + v) (up ∙ (at ∙ (same ∙ last))) ∙ (omega arith ∙ ap (λ v. v * tally g m 0) (sym whole)))))
   where
     digits : (k : ℕ) → k < 0 + m → (f ((n * m + k) / m) && g ((n * m + k) % m)) ≡ (f n && g k)
     digits k j = let below_m : k < m = omega arith in ap (λ v. f v && g ((n * m + k) % m)) (digits_div n below_m) ∙ ap (λ v. f n && g v) (digits_mod n below_m)
@@ -96,27 +96,27 @@ between_tallied : (low high r : ℕ) → low ≤ high → high < r
     → tally (λ v. is_between (pos low) (pos high) (pos v)) r 0 ≡ extent (pos low) (pos high)
 between_tallied low high r h k =
     let test : ℕ → Bool = λ v. is_between (pos low) (pos high) (pos v) in
-    let n = high - low + 1 in
-    let m = r - (high + 1) in
-    let r_is : r ≡ low + (n + m) = omega arith in
+    let sum = high - low + 1 in
+    let difference = r - (high + 1) in
+    let r_is : r ≡ low + (sum + difference) = omega arith in
     let front : tally test low 0 ≡ 0 = same_tally test (λ _. false) low 0 (λ v i j. below low high v h (omega arith)) ∙ none_tallied low 0 in
-    let middle : tally test n (0 + low) ≡ n = same_tally test (λ _. true) n (0 + low) (λ v i j. between_ends low high v (omega arith) (omega arith)) ∙ all_tallied n (0 + low) in
-    let back : tally test m (0 + low + n) ≡ 0 = same_tally test (λ _. false) m (0 + low + n) (λ v i j. above low high v h (omega arith)) ∙ none_tallied m (0 + low + n) in
-    let outer : tally test (low + (n + m)) 0 ≡ tally test low 0 + tally test (n + m) (0 + low) = in_parts test low (n + m) 0 in
-    let inner : tally test (n + m) (0 + low) ≡ tally test n (0 + low) + tally test m (0 + low + n) = in_parts test n m (0 + low) in
+    let middle : tally test sum (0 + low) ≡ sum = same_tally test (λ _. true) sum (0 + low) (λ v i j. between_ends low high v (omega arith) (omega arith)) ∙ all_tallied sum (0 + low) in
+    let back : tally test difference (0 + low + sum) ≡ 0 = same_tally test (λ _. false) difference (0 + low + sum) (λ v i j. above low high v h (omega arith)) ∙ none_tallied difference (0 + low + sum) in
+    let outer : tally test (low + (sum + difference)) 0 ≡ tally test low 0 + tally test (sum + difference) (0 + low) = in_parts test low (sum + difference) 0 in
+    let inner : tally test (sum + difference) (0 + low) ≡ tally test sum (0 + low) + tally test difference (0 + low + sum) = in_parts test sum difference (0 + low) in
     ap (λ v. tally test v 0) r_is ∙ (outer ∙ (omega arith ∙ sym (extent_is low high h)))
 
 -- the coordinates of the matrix in a region are counted axis by axis
 axis_by_axis : (r : ℕ) (s : Span) → count_by (λ c. is_within s (point c)) (coordinates r)
     ≡ tally (λ v. is_between s.from.x s.to.x (pos v)) r 0 * tally (λ v. is_between s.from.y s.to.y (pos v)) r 0 * tally (λ v. is_between s.from.z s.to.z (pos v)) r 0
 axis_by_axis r s =
-    let x : ℕ → Bool = λ v. is_between s.from.x s.to.x (pos v) in
-    let y : ℕ → Bool = λ v. is_between s.from.y s.to.y (pos v) in
-    let z : ℕ → Bool = λ v. is_between s.from.z s.to.z (pos v) in
-    let front : ℕ → Bool = λ q. x (q / r) && y (q % r) in
+    let is_between_x : ℕ → Bool = λ v. is_between s.from.x s.to.x (pos v) in
+    let is_between_y : ℕ → Bool = λ v. is_between s.from.y s.to.y (pos v) in
+    let is_between_z : ℕ → Bool = λ v. is_between s.from.z s.to.z (pos v) in
+    let front : ℕ → Bool = λ q. is_between_x (q / r) && is_between_y (q % r) in
     counted (λ c. is_within s (point c)) (coordinate_at r) (r * r * r) 0
-    ∙ (same_tally (λ p. x (p / (r * r)) && y (p / r % r) && z (p % r)) (λ p. front (p / r) && z (p % r)) (r * r * r) 0 (λ p i j. ap (λ v. x v && y (p / r % r) && z (p % r)) (sym (div-div-eq-div-mul p r r)))
-    ∙ (pairs front z r (r * r) ∙ ap (λ v. v * tally z r 0) (pairs x y r r)))
+    ∙ (same_tally (λ p. is_between_x (p / (r * r)) && is_between_y (p / r % r) && is_between_z (p % r)) (λ p. front (p / r) && is_between_z (p % r)) (r * r * r) 0 (λ p i j. ap (λ v. is_between_x v && is_between_y (p / r % r) && is_between_z (p % r)) (sym (div-div-eq-div-mul p r r)))
+    ∙ (pairs front is_between_z r (r * r) ∙ ap (λ v. v * tally is_between_z r 0) (pairs is_between_x is_between_y r r)))
 
 -- the number of coordinates of the matrix that are in a region of it is the region's size
 pub region_count : (r : ℕ) (k : Corners) → IsOrdered k → IsInSpace r k.high
@@ -167,19 +167,19 @@ at_most_extent (pos a) (pos b) r = by (cases_lt a b)
     by : ((a < b) ⊎ (b ≤ a)) → tally (λ v. is_between (pos a) (pos b) (pos v)) r 0 ≤ extent (pos a) (pos b)
     by (inl h) = up_to a b r (omega arith)
     by (inr h) =
-        let e : tally (λ v. is_between (pos a) (pos b) (pos v)) r 0 ≡ tally (λ v. is_between (pos b) (pos a) (pos v)) r 0 = same_tally (λ v. is_between (pos a) (pos b) (pos v)) (λ v. is_between (pos b) (pos a) (pos v)) r 0 (λ v i j. swapped (pos a) (pos b) (pos v)) in
-        let l = up_to b a r h in
+        let tally_is : tally (λ v. is_between (pos a) (pos b) (pos v)) r 0 ≡ tally (λ v. is_between (pos b) (pos a) (pos v)) r 0 = same_tally (λ v. is_between (pos a) (pos b) (pos v)) (λ v. is_between (pos b) (pos a) (pos v)) r 0 (λ v i j. swapped (pos a) (pos b) (pos v)) in
+        let tally_bound = up_to b a r h in
         let same_extent : extent (pos a) (pos b) ≡ extent (pos b) (pos a) = extent_swapped b a h in
         omega arith
 at_most_extent (pos a) (negsuc b) r =
-    let e : tally (λ v. is_between (pos a) (negsuc b) (pos v)) r 0 ≡ tally (λ v. is_between (pos 0) (pos a) (pos v)) r 0 = same_tally (λ v. is_between (pos a) (negsuc b) (pos v)) (λ v. is_between (pos 0) (pos a) (pos v)) r 0 (λ v i j. from_nothing a b v) in
-    let l = up_to 0 a r (omega arith) in
-    let f = longer a b in
+    let same_tally_here : tally (λ v. is_between (pos a) (negsuc b) (pos v)) r 0 ≡ tally (λ v. is_between (pos 0) (pos a) (pos v)) r 0 = same_tally (λ v. is_between (pos a) (negsuc b) (pos v)) (λ v. is_between (pos 0) (pos a) (pos v)) r 0 (λ v i j. from_nothing a b v) in
+    let tally_bound = up_to 0 a r (omega arith) in
+    let longer_here = longer a b in
     omega arith
 at_most_extent (negsuc a) (pos b) r =
-    let e : tally (λ v. is_between (negsuc a) (pos b) (pos v)) r 0 ≡ tally (λ v. is_between (pos 0) (pos b) (pos v)) r 0 = same_tally (λ v. is_between (negsuc a) (pos b) (pos v)) (λ v. is_between (pos 0) (pos b) (pos v)) r 0 (λ v i j. swapped (negsuc a) (pos b) (pos v) ∙ from_nothing b a v) in
-    let l = up_to 0 b r (omega arith) in
-    let f = longer' a b in
+    let same_tally_here : tally (λ v. is_between (negsuc a) (pos b) (pos v)) r 0 ≡ tally (λ v. is_between (pos 0) (pos b) (pos v)) r 0 = same_tally (λ v. is_between (negsuc a) (pos b) (pos v)) (λ v. is_between (pos 0) (pos b) (pos v)) r 0 (λ v i j. swapped (negsuc a) (pos b) (pos v) ∙ from_nothing b a v) in
+    let tally_bound = up_to 0 b r (omega arith) in
+    let longer_here = longer' a b in
     omega arith
 at_most_extent (negsuc a) (negsuc b) r =
     let tally_is : tally (λ v. is_between (negsuc a) (negsuc b) (pos v)) r 0 ≡ 0 = same_tally (λ v. is_between (negsuc a) (negsuc b) (pos v)) (λ _. false) r 0 (λ v i j. refl) ∙ none_tallied r 0 in
@@ -188,8 +188,8 @@ at_most_extent (negsuc a) (negsuc b) r =
 -- a region has at most as many coordinates of the matrix as its size says, also where it leaves the matrix
 pub region_count_most : (r : ℕ) (s : Span) → count_by (λ c. is_within s (point c)) (coordinates r) ≤ size s
 region_count_most r s =
-    let e = axis_by_axis r s in
-    let x = at_most_extent s.from.x s.to.x r in
-    let y = at_most_extent s.from.y s.to.y r in
-    let z = at_most_extent s.from.z s.to.z r in
-    rw e (mul-le-mul (mul-le-mul x y) z)
+    let axis_by_axis_here = axis_by_axis r s in
+    let extent_bound_x = at_most_extent s.from.x s.to.x r in
+    let extent_bound_y = at_most_extent s.from.y s.to.y r in
+    let extent_bound_z = at_most_extent s.from.z s.to.z r in
+    rw axis_by_axis_here (mul-le-mul (mul-le-mul extent_bound_x extent_bound_y) extent_bound_z)

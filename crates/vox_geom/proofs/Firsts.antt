@@ -31,7 +31,7 @@ nowhere test f (suc n) a none = ap (λ b. cond b (Some (f a)) (find test (map f 
 
 -- the order of places
 lead : (a b m u v : ℕ) → v < m → a * m + u < b * m + v → a ≤ b
-lead a b m u v k lt = let f : b < a → b * m + v < a * m = λ h. digits_lt h k in grind arith
+lead a b m u v k lt = let digits_lt_here : b < a → b * m + v < a * m = λ h. digits_lt h k in grind arith
 
 in_order : (d c : Coord) → d.x ≤ c.x → (d.x ≡ c.x → d.y ≤ c.y) → (d.x ≡ c.x → d.y ≡ c.y → d.z < c.z) → IsTrue (is_before d c)
 in_order d c x y z = grind (arith, nat_tests)
@@ -39,9 +39,9 @@ in_order d c x y z = grind (arith, nat_tests)
 pub before : (r : ℕ) (d c : Coord) → IsInSpace r d → IsInSpace r c → place r d < place r c → IsTrue (is_before d c)
 before r d c h k lt =
     let at_most_x : d.x ≤ c.x = lead d.x c.x (r * r) (d.y * r + d.z) (c.y * r + c.z) (digits_lt k.y k.z) (omega arith) in
-    let y : d.x ≡ c.x → d.y ≤ c.y = λ e. lead d.y c.y r d.z c.z k.z (omega (arith, ap (λ v. v * r * r) e)) in
-    let z : d.x ≡ c.x → d.y ≡ c.y → d.z < c.z = λ e f. omega (arith, ap (λ v. v * r * r) e, ap (λ v. v * r) f) in
-    in_order d c at_most_x y z
+    let y_at_most : d.x ≡ c.x → d.y ≤ c.y = λ e. lead d.y c.y r d.z c.z k.z (omega (arith, ap (λ v. v * r * r) e)) in
+    let z_below : d.x ≡ c.x → d.y ≡ c.y → d.z < c.z = λ e f. omega (arith, ap (λ v. v * r * r) e, ap (λ v. v * r) f) in
+    in_order d c at_most_x y_at_most z_below
 
 pub before-trans : (a b c : Coord) → IsTrue (is_before a b) → IsTrue (is_before b c) → IsTrue (is_before a c)
 before-trans a b c h k = grind (arith, nat_tests)
@@ -74,10 +74,10 @@ first_is r test (Some c) h =
   where
     none : place r c < r * r * r → (q : ℕ) → 0 ≤ q → q < place r c → IsFalse (test (coordinate_at r q))
     none below q i j =
-        let d : Coord = coordinate_at r q in
-        let in_space : IsInSpace r d = at_in_space r q (omega arith) in
-        let lt : place r d < place r c = subst (λ (n : ℕ). n < place r c) (sym (place-coordinate_at r q)) j in
-        by (test d) refl (before r d c in_space h.within lt) (h.least d in_space)
+        let place_there : Coord = coordinate_at r q in
+        let in_space : IsInSpace r place_there = at_in_space r q (omega arith) in
+        let lt : place r place_there < place r c = subst (λ (n : ℕ). n < place r c) (sym (place-coordinate_at r q)) j in
+        by (test place_there) refl (before r place_there c in_space h.within lt) (h.least place_there in_space)
       where
         by : (b : Bool) → test (coordinate_at r q) ≡ b → IsTrue (is_before (coordinate_at r q) c)
             → (IsTrue (test (coordinate_at r q)) → IsFalse (is_before (coordinate_at r q) c))

@@ -36,9 +36,9 @@ chunk_bit w s count k l = ap (λ d. d == 1) (low_bit (w / 2 ^ s) count k l ∙ s
 in_one_word : (ws : List ℕ) (index count k : ℕ) → k < count → index % 64 + count ≤ 64 → is_set ws (index + k) ≡ bit (get_or ws (index / 64) 0) (index % 64 + k)
 unfolding is_set
 in_one_word ws index count k l h =
-    let d : (index + k) / 64 ≡ index / 64 = omega arith in
+    let same_quotient : (index + k) / 64 ≡ index / 64 = omega arith in
     let same_index : (index + k) % 64 ≡ index % 64 + k = omega arith in
-    λ t. bit (get_or ws (d t) 0) (same_index t)
+    λ t. bit (get_or ws (same_quotient t) 0) (same_index t)
 
 pub chunk_is : (ws : List ℕ) (index count k w v m : ℕ) → k < count → index % 64 + count ≤ 64
     → w ≡ get_or ws (index / 64) 0 → m ≡ 2 ^ (0 + count) - 2 ^ 0 → v ≡ bit_and (w / 2 ^ (index % 64)) m
@@ -80,7 +80,7 @@ mask_small s count h =
 mixed_here : (w bits s count k : ℕ) → s + count ≤ 64 → k < count
     → bit (mixed w bits s (2 ^ (s + count) - 2 ^ s)) (s + k) ≡ bit bits k
 mixed_here w bits s count k h l =
-    let m : ℕ = 2 ^ (s + count) - 2 ^ s in
+    let difference : ℕ = 2 ^ (s + count) - 2 ^ s in
     let one : bit_at (2 ^ (s + count) - 2 ^ s) (s + k) ≡ 1 = bit_at_mask_inside s (s + count) (s + k) (omega arith) (omega arith) in
     let back : s + k - s ≡ k = omega arith in
     ap (λ d. d == 1)
@@ -111,7 +111,7 @@ outside index count j h = by (cases_lt j index) (cases_lt j (index + count))
     by : ((j < index) ⊎ (index ≤ j)) → ((j < index + count) ⊎ (index + count ≤ j)) → (j < index) ⊎ (index + count ≤ j)
     by (inl l) m = inl l
     by (inr l) (inr m) = inr m
-    by (inr l) (inl m) = let t = inside l m in cc
+    by (inr l) (inl m) = let inside_here = inside l m in cc
 
 -- words of which so many bits from one on are those of another word
 pub record ArePutBits (old new : List ℕ) (index count bits : ℕ) : Type 0 where

@@ -46,8 +46,8 @@ in_word : (ws : List ℕ) (first i k : ℕ) → k < 64 → is_set ws (first * 64
 unfolding is_set
 in_word ws first i k l =
     let same_first : (first * 64 + (64 * i + k)) / 64 ≡ first + i = omega arith in
-    let m : (first * 64 + (64 * i + k)) % 64 ≡ k = omega arith in
-    λ t. bit (get_or ws (same_first t) 0) (m t)
+    let remainder_is : (first * 64 + (64 * i + k)) % 64 ≡ k = omega arith in
+    λ t. bit (get_or ws (same_first t) 0) (remainder_is t)
 
 -- up to the bit k of the next word, where its bits below k are the same
 alike_to : (ws us : List ℕ) (first i k w u : ℕ) → k ≤ 64 → w ≡ get_or ws (first + i) 0 → u ≡ get_or us (first + i) 0
@@ -58,14 +58,14 @@ alike_to ws us first i k w u l ew eu a none = record { same = λ j m. by j m (ca
         → is_set ws (first * 64 + j) ≡ is_set us (first * 64 + j)
     by j m (inl h) = a.same j h
     by j m (inr h) =
-        let n : ℕ = j - 64 * i in
-        let j_is : j ≡ 64 * i + n = omega arith in
+        let difference : ℕ = j - 64 * i in
+        let j_is : j ≡ 64 * i + difference = omega arith in
         ap (λ v. is_set ws (first * 64 + v)) j_is
-        ∙ (in_word ws first i n (omega arith)
-        ∙ (ap (λ v. bit v n) (sym ew)
-        ∙ (bits_same w u n (none n (omega arith))
-        ∙ (ap (λ v. bit v n) eu
-        ∙ (sym (in_word us first i n (omega arith))
+        ∙ (in_word ws first i difference (omega arith)
+        ∙ (ap (λ v. bit v difference) (sym ew)
+        ∙ (bits_same w u difference (none difference (omega arith))
+        ∙ (ap (λ v. bit v difference) eu
+        ∙ (sym (in_word us first i difference (omega arith))
         ∙ ap (λ v. is_set us (first * 64 + v)) (sym j_is))))))
 
 pub alike_more : (ws us : List ℕ) (first i w u : ℕ) → w ≡ get_or ws (first + i) 0 → u ≡ get_or us (first + i) 0
@@ -82,12 +82,12 @@ pub first_differs : (ws us : List ℕ) (first i w u : ℕ) → w ≡ get_or ws (
     → 0 < bit_xor w u → bit_xor w u < 2 ^ 64 → AreAlike ws us first (64 * i)
     → (trailing_zeros w64 (bit_xor w u) < 64) × IsFirst ws us first (64 * i + trailing_zeros w64 (bit_xor w u))
 first_differs ws us first i w u ew eu p l a =
-    let z = bit_at-trailing_zeros w64 (bit_xor w u) p l in
+    let lowest_bit = bit_at-trailing_zeros w64 (bit_xor w u) p l in
     let k : ℕ = trailing_zeros w64 (bit_xor w u) in (
-      z.0,
+      lowest_bit.0,
       record {
-        before = alike_to ws us first i k w u (let m = z.0 in omega arith) ew eu a z.2;
-        differs = λ e. bits_differ w u k z.1 (ap (λ v. bit v k) ew ∙ (sym (in_word ws first i k z.0) ∙ (e ∙ (in_word us first i k z.0 ∙ ap (λ v. bit v k) (sym eu)))));
+        before = alike_to ws us first i k w u (let m = lowest_bit.0 in omega arith) ew eu a lowest_bit.2;
+        differs = λ e. bits_differ w u k lowest_bit.1 (ap (λ v. bit v k) ew ∙ (sym (in_word ws first i k lowest_bit.0) ∙ (e ∙ (in_word us first i k lowest_bit.0 ∙ ap (λ v. bit v k) (sym eu)))));
       },
     )
 
@@ -178,9 +178,9 @@ layer_differs r ws us y at hw hu ly la f = (used, record { within = within; pass
 
     passes : IsTrue (in_layer_differ (layered r ws) (layered r us) y (record { x = at / r; y = y; z = at % r }))
     passes =
-        let d : Coord = record { x = at / r; y = y; z = at % r } in
-        let bit_index_is : bit_index r d ≡ y * layer_words r * 64 + at = ap (λ v. y * layer_words r * 64 + v) back in
-        let differ : differ_at (layered r ws) (layered r us) d ≡ true = differ-bits r ws us d within ∙ differ-other (is_set ws (bit_index r d)) (is_set us (bit_index r d)) (λ s. f.differs (sym (ap (is_set ws) bit_index_is) ∙ (s ∙ ap (is_set us) bit_index_is))) in
+        let place_there : Coord = record { x = at / r; y = y; z = at % r } in
+        let bit_index_is : bit_index r place_there ≡ y * layer_words r * 64 + at = ap (λ v. y * layer_words r * 64 + v) back in
+        let differ : differ_at (layered r ws) (layered r us) place_there ≡ true = differ-bits r ws us place_there within ∙ differ-other (is_set ws (bit_index r place_there)) (is_set us (bit_index r place_there)) (λ s. f.differs (sym (ap (is_set ws) bit_index_is) ∙ (s ∙ ap (is_set us) bit_index_is))) in
         rw differ same_layer
       where
         same_layer : (y == y) ≡ true

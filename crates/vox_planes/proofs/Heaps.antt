@@ -43,18 +43,18 @@ lost_bit : (w u : ℕ) → w < 2 ^ 64 → u < 2 ^ 64 → 0 < bit_and w (bit_not 
     → (k : ℕ) × (k < 64) × (bit w k ≡ true) × (bit u k ≡ false)
 lost_bit w u fits small some =
     let k : ℕ = trailing_zeros w64 (bit_and w (bit_not w64 u)) in
-    let z = bit_at-trailing_zeros w64 (bit_and w (bit_not w64 u)) some (and_lt 64 w (bit_not w64 u) fits (omega arith)) in
-    let other : 1 - bit_at u k ≡ bit_at (bit_not w64 u) k = sym (bit_at_not w64 u k small z.0) in
-    let both : min (bit_at w k) (1 - bit_at u k) ≡ 1 = ap (min (bit_at w k)) other ∙ (sym (bit_at_and w (bit_not w64 u) k) ∙ z.1) in
+    let lowest_bit = bit_at-trailing_zeros w64 (bit_and w (bit_not w64 u)) some (and_lt 64 w (bit_not w64 u) fits (omega arith)) in
+    let other : 1 - bit_at u k ≡ bit_at (bit_not w64 u) k = sym (bit_at_not w64 u k small lowest_bit.0) in
+    let both : min (bit_at w k) (1 - bit_at u k) ≡ 1 = ap (min (bit_at w k)) other ∙ (sym (bit_at_and w (bit_not w64 u) k) ∙ lowest_bit.1) in
     let values = lost_value (bit_at w k) (bit_at u k) (bit_at-lt w k) both in
-    (k, z.0, ap (λ d. d == 1) values.0, ap (λ d. d == 1) values.1)
+    (k, lowest_bit.0, ap (λ d. d == 1) values.0, ap (λ d. d == 1) values.1)
 
 pub word_bit : (ws : List ℕ) (i k : ℕ) → k < 64 → is_set ws (i * 64 + k) ≡ bit (get_or ws i 0) k
 unfolding is_set
 word_bit ws i k l =
-    let d : (i * 64 + k) / 64 ≡ i = omega arith in
+    let quotient_is : (i * 64 + k) / 64 ≡ i = omega arith in
     let remainder_is : (i * 64 + k) % 64 ≡ k = omega arith in
-    λ t. bit (get_or ws (d t) 0) (remainder_is t)
+    λ t. bit (get_or ws (quotient_is t) 0) (remainder_is t)
 
 -- a word above the lowest layer, and the word under it
 pub record AreStacked (ws : List ℕ) (layer i w u : ℕ) : Type 0 where
@@ -76,14 +76,14 @@ module _ (ws : List ℕ) (layer : ℕ) where
           → is_set ws (j - layer * 64) ≡ true
       by j low high h (inl l) = a.held j low l h
       by j low high h (inr l) =
-          let k : ℕ = j - i * 64 in
+          let difference : ℕ = j - i * 64 in
           let few : j - i * 64 < 64 = omega arith in
           let above : layer ≤ i = s.above in
           let here : i * 64 + (j - i * 64) ≡ j = omega arith in
           let there : j - layer * 64 ≡ (i - layer) * 64 + (j - i * 64) = omega arith in
-          let one : bit w k ≡ true = ap (λ v. bit v k) s.upper ∙ (sym (word_bit ws i k few) ∙ (ap (is_set ws) here ∙ h)) in
+          let one : bit w difference ≡ true = ap (λ v. bit v difference) s.upper ∙ (sym (word_bit ws i difference few) ∙ (ap (is_set ws) here ∙ h)) in
           ap (is_set ws) there
-          ∙ (word_bit ws (i - layer) k few ∙ (ap (λ v. bit v k) (sym s.lower) ∙ kept_bit w u k s.lower_fits few none one))
+          ∙ (word_bit ws (i - layer) difference few ∙ (ap (λ v. bit v difference) (sym s.lower) ∙ kept_bit w u difference s.lower_fits few none one))
 
 -- ---- all words
 
@@ -135,7 +135,7 @@ module _ (r : ℕ) (ws : List ℕ) (h : IsLayered r ws) (heap : IsHeap (layered 
         where
           by : ((at < r * r) ⊎ (r * r ≤ at)) → at < r * r
           by (inl l) = l
-          by (inr l) = let none = h.unused y at high l end in let e = ap (is_set ws) is_j in cc
+          by (inr l) = let none = h.unused y at high l end in let is_set_is = ap (is_set ws) is_j in cc
 
       some : 0 < r
       some = omega (arith, h.some)

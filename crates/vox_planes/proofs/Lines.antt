@@ -176,7 +176,7 @@ module _ (r : ℕ) (ws : List ℕ) (m : Matrix) (k : Corners) (e : layered r ws 
   index_within : (c : Coord) → IsInSpace r c → (bit_index r c) / 64 < r * layer_words r
   index_within c h =
       let layer = in_layer r c h in
-      let below : (c.y + 1) * layer_words r ≤ r * layer_words r = mul-le-mul (let l = h.y in omega arith) (omega arith) in
+      let below : (c.y + 1) * layer_words r ≤ r * layer_words r = mul-le-mul (let h_along_y = h.y in omega arith) (omega arith) in
       omega arith
 
   pub within_x : k.low.y ≡ k.high.y → k.low.z ≡ k.high.z → (words : List ℕ) (first apart : ℕ) → words ≡ ws

@@ -202,29 +202,29 @@ module _ (r : ℕ) (first : Coord) (last : ℕ) (old new : List ℕ) (full : Boo
       by : (b : Bool) → is_in_row first last d ≡ b
           → is_set new (bit_index r d) ≡ cond b full (is_set old (bit_index r d))
       by true t =
-          let p = parts t in
-          let d_is : d ≡ at first (first.z + (d.z - first.z)) = (λ j. record { x = p.0 j; y = p.1 j; z = (let z_is : d.z ≡ first.z + (d.z - first.z) = omega arith in z_is) j }) in
+          let parts_here = parts t in
+          let d_is : d ≡ at first (first.z + (d.z - first.z)) = (λ j. record { x = parts_here.0 j; y = parts_here.1 j; z = (let z_is : d.z ≡ first.z + (d.z - first.z) = omega arith in z_is) j }) in
           ap (is_set new) (ap (bit_index r) d_is ∙ on (d.z - first.z)) ∙ h.here (d.z - first.z) (omega arith)
       by false f = h.others (bit_index r d) (none_of_these (bit_index r first) (last + 1 - first.z) (bit_index r d) (λ k l e. other k l (one_bit r d (at first (first.z + k)) i (in_row k l) (e ∙ sym (on k)))))
         where
           other : (k : ℕ) → k < last + 1 - first.z → d ≡ at first (first.z + k) → ⊥
-          other k l e = let t : is_in_row first last d ≡ true = ap (is_in_row first last) e ∙ mine k l in cc
+          other k l e = let in_row_holds : is_in_row first last d ≡ true = ap (is_in_row first last) e ∙ mine k l in cc
 
   row_others : n ≡ count_by (λ c. is_state (layered r old) (not full) c && is_in_row first last c) (coordinates r)
   row_others =
       let test : Coord → Bool = is_state (layered r old) (not full) in
-      let k : Corners = row_of first last in
-      let ordered : IsOrdered k = record { x = omega arith; y = omega arith; z = order } in
-      let in_space : IsInSpace r k.high = record { x = within.x; y = within.y; z = end } in
-      let area : (λ c. is_state (layered r old) (not full) c && is_in_row first last c) ≡ passes_in k test = (λ i c. test c && layers_are k ordered c i) in
+      let corners : Corners = row_of first last in
+      let ordered : IsOrdered corners = record { x = omega arith; y = omega arith; z = order } in
+      let in_space : IsInSpace r corners.high = record { x = within.x; y = within.y; z = end } in
+      let area : (λ c. is_state (layered r old) (not full) c && is_in_row first last c) ≡ passes_in corners test = (λ i c. test c && layers_are corners ordered c i) in
       h.changed
       ∙ (others_total old (bit_index r first) (last + 1 - first.z) full
       ∙ (total-same (last + 1 - first.z) _ (λ j. one_if (is_state (layered r old) (not full) (at first (first.z + j)))) (λ j l.
       ap one_if (ap (has_value (not full)) (ap (is_set old) (sym (on j)) ∙ sym (is_full-layered r old (at first (first.z + j)) (in_row j l)))))
       ∙ (sym (row_count (is_state (layered r old) (not full)) first last)
       ∙ (sym (length-filter (is_state (layered r old) (not full)) (row first last))
-      ∙ (ap length (row_listed r k test ordered in_space refl refl)
-      ∙ (length-filter (passes_in k test) (coordinates r)
+      ∙ (ap length (row_listed r corners test ordered in_space refl refl)
+      ∙ (length-filter (passes_in corners test) (coordinates r)
       ∙ ap (λ t. count_by t (coordinates r)) (sym area)))))))
 
   pub row_painted : IsPainted (layered r old) (layered r new) (is_in_row first last) full n

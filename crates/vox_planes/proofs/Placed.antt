@@ -47,7 +47,7 @@ none_of_these from count p h = by (cases_lt p from) (cases_lt p (from + count))
 pub next_place : (r from k : ℕ) → from < volume r → (coordinate_at r from).z + k < r
     → coordinate_at r (from + k) ≡ at (coordinate_at r from) ((coordinate_at r from).z + k)
 next_place r from k l h =
-    let c : Coord = coordinate_at r from in
+    let place_there : Coord = coordinate_at r from in
     let in_space : IsInSpace r (coordinate_at r from) = at_in_space r from l in
     let within : IsInSpace r (at (coordinate_at r from) ((coordinate_at r from).z + k)) = record { x = in_space.x; y = in_space.y; z = h } in
     let back : place r (coordinate_at r from) ≡ from = place-coordinate_at r from in
@@ -64,7 +64,7 @@ pub voxel_by_bit : (r : ℕ) (ws : List ℕ) (p : ℕ) → p < volume r
 voxel_by_bit r ws p l = get_or-where r (λ c. is_set ws (bit_index r c)) p l
 
 no_voxel : (r : ℕ) (ws : List ℕ) (p : ℕ) → volume r ≤ p → voxel_at (layered r ws) p ≡ false
-no_voxel r ws p l = get_or_past (layered r ws).voxels p false (let e = length-where r (λ c. is_set ws (bit_index r c)) in omega arith)
+no_voxel r ws p l = get_or_past (layered r ws).voxels p false (let where_length = length-where r (λ c. is_set ws (bit_index r c)) in omega arith)
 
 -- ---- bits that were put
 
@@ -117,7 +117,7 @@ module _ (r : ℕ) (old new : List ℕ) (from count bits : ℕ) (within : from +
       unused : (y i : ℕ) → y < r → r * r ≤ i → i < layer_words r * 64 → (k : ℕ) → k < count
           → y * layer_words r * 64 + i ≡ bit_index r (coordinate_at r from) + k → ⊥
       unused y i l m n k u e =
-          let c : Coord = coordinate_at r (from + k) in
+          let place_there : Coord = coordinate_at r (from + k) in
           let less : from + k < volume r = omega arith in
           let in_space : IsInSpace r (coordinate_at r (from + k)) = at_in_space r (from + k) less in
           let inside : (coordinate_at r (from + k)).x * r + (coordinate_at r (from + k)).z < r * r = digits_lt in_space.x in_space.z in
@@ -195,7 +195,7 @@ pub bits_joined : (w v u k n : ℕ) (test : ℕ → Bool) → HasBits w k test �
     → ((j : ℕ) → j < n → bit v j ≡ test (k + j)) → k + n ≤ 64 → u ≡ w + v * 2 ^ k % 2 ^ 64 → HasBits u (k + n) test
 bits_joined w v u k n test h below bits few eu = record {
   bits = λ j m. by j m (cases_lt j k);
-  below = (let l = raised w v k n h.below below in omega (arith, is));
+  below = (let raised_here = raised w v k n h.below below in omega (arith, is));
 }
   where
     is : u ≡ v * 2 ^ k + w
@@ -211,8 +211,8 @@ bits_joined w v u k n test h below bits few eu = record {
 pub joined_fits : (w v k n : ℕ) → w < 2 ^ k → v < 2 ^ n → k + n ≤ 64 → w + v * 2 ^ k % 2 ^ 64 < 2 ^ 64
 joined_fits w v k n lw lv h =
     let most : 2 ^ (k + n) ≤ 2 ^ 64 = pow-le-pow_right {n = 2} (omega arith) h in
-    let l = raised w v k n lw lv in
-    let e = not_cut v k n lv h in
+    let raised_here = raised w v k n lw lv in
+    let not_cut_here = not_cut v k n lv h in
     omega arith
 
 -- the bits that were read of one word of a row are those of the voxels

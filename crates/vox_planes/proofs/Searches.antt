@@ -34,9 +34,9 @@ state-false false false e = cc
 bit_from : (ws : List ℕ) (i k : ℕ) → i % 64 + k < 64 → is_set ws (i + k) ≡ bit (get_or ws (i / 64) 0) (i % 64 + k)
 unfolding is_set
 bit_from ws i k l =
-    let d : (i + k) / 64 ≡ i / 64 = omega arith in
+    let same_quotient : (i + k) / 64 ≡ i / 64 = omega arith in
     let remainder_is : (i + k) % 64 ≡ i % 64 + k = omega arith in
-    λ t. bit (get_or ws (d t) 0) (remainder_is t)
+    λ t. bit (get_or ws (same_quotient t) 0) (remainder_is t)
 
 -- a bit past the shift that is not marked has the other value
 unmarked : (ws : List ℕ) (i w v k : ℕ) (value : Bool) → w ≡ get_or ws (i / 64) 0 → IsMarked w v value → i % 64 + k < 64
@@ -62,29 +62,29 @@ free_word ws from i w v value e h z f = record { free = λ j l m. by j l m (case
     by : (j : ℕ) → from ≤ j → j < i + (64 - i % 64) → ((j < i) ⊎ (i ≤ j)) → is_set ws j ≡ not value
     by j l m (inl a) = f.free j l a
     by j l m (inr a) =
-        let k : ℕ = j - i in
-        let same : i + k ≡ j = omega arith in
-        sym (ap (is_set ws) same) ∙ unmarked ws i w v k value e h (omega arith) (ap (λ n. bit_at n k) z ∙ bit_at-zero k)
+        let difference : ℕ = j - i in
+        let same : i + difference ≡ j = omega arith in
+        sym (ap (is_set ws) same) ∙ unmarked ws i w v difference value e h (omega arith) (ap (λ n. bit_at n difference) z ∙ bit_at-zero difference)
 
 pub next_in_word : (ws : List ℕ) (from i w v : ℕ) (value : Bool) → w ≡ get_or ws (i / 64) 0 → v < 2 ^ 64
     → IsMarked w v value → 0 < v / 2 ^ (i % 64) → from ≤ i → LacksValue ws from i value
     → IsNextBit ws from (i + trailing_zeros w64 (v / 2 ^ (i % 64))) value
 next_in_word ws from i w v value e l h p o f =
     let bits : ℕ = v / 2 ^ (i % 64) in
-    let s : ℕ = i % 64 in
-    let whole : bits < 2 ^ 64 = (let q = shr_le v s in omega arith) in
-    let z = bit_at-trailing_zeros w64 bits p whole in
+    let remainder : ℕ = i % 64 in
+    let whole : bits < 2 ^ 64 = (let shr_le_here = shr_le v remainder in omega arith) in
+    let lowest_bit = bit_at-trailing_zeros w64 bits p whole in
     let t : ℕ = trailing_zeros w64 bits in
-    let fits : v < 2 ^ (64 - s + s) = (let s_is : 64 ≡ 64 - s + s = omega arith in subst (λ (n : ℕ). v < 2 ^ n) s_is l) in
-    let short : bits < 2 ^ (64 - s) = shr_below v (64 - s) s fits in
-    let near : s + t < 64 = in_range bits s t z.1 short (omega arith) in
+    let fits : v < 2 ^ (64 - remainder + remainder) = (let s_is : 64 ≡ 64 - remainder + remainder = omega arith in subst (λ (n : ℕ). v < 2 ^ n) s_is l) in
+    let short : bits < 2 ^ (64 - remainder) = shr_below v (64 - remainder) remainder fits in
+    let near : remainder + t < 64 = in_range bits remainder t lowest_bit.1 short (omega arith) in
     record {
       first = omega arith;
-      before = record { free = λ j a b. by j a b z.2 near (cases_lt j i) };
+      before = record { free = λ j a b. by j a b lowest_bit.2 near (cases_lt j i) };
       here =
           bit_from ws i t near
-          ∙ (ap (λ n. bit n (s + t)) (sym e)
-          ∙ state-true value (bit w (s + t)) (sym (h.bits (s + t) near) ∙ is_one v (s + t) (sym (shifted_bit v s t) ∙ z.1)));
+          ∙ (ap (λ n. bit n (remainder + t)) (sym e)
+          ∙ state-true value (bit w (remainder + t)) (sym (h.bits (remainder + t) near) ∙ is_one v (remainder + t) (sym (shifted_bit v remainder t) ∙ lowest_bit.1)));
     }
   where
     in_range : (bits s t : ℕ) → bit_at bits t ≡ 1 → bits < 2 ^ (64 - s) → s < 64 → s + t < 64
@@ -99,9 +99,9 @@ next_in_word ws from i w v value e l h p o f =
         → i % 64 + trailing_zeros w64 (v / 2 ^ (i % 64)) < 64 → ((j < i) ⊎ (i ≤ j)) → is_set ws j ≡ not value
     by j a b zeros near (inl c) = f.free j a c
     by j a b zeros near (inr c) =
-        let k : ℕ = j - i in
-        let same : i + k ≡ j = omega arith in
-        sym (ap (is_set ws) same) ∙ unmarked ws i w v k value e h (omega arith) (zeros k (omega arith))
+        let difference : ℕ = j - i in
+        let same : i + difference ≡ j = omega arith in
+        sym (ap (is_set ws) same) ∙ unmarked ws i w v difference value e h (omega arith) (zeros difference (omega arith))
 
 -- ---- the voxels of a row
 
@@ -151,9 +151,9 @@ row_found r ws m c last i value e h l il cl n =
   where
     hit : is_state (layered r ws) value (at c (c.z + (i - bit_index r c))) ≡ true
     hit =
-        let z : ℕ = c.z + (i - bit_index r c) in
-        let same : bit_index r c + (z - c.z) ≡ i = (let first = n.first in omega arith) in
-        is-state (layered r ws) value (at c z) (is_set ws i) (bit_of r ws c z h (omega arith) (omega arith) ∙ ap (is_set ws) same) n.here
+        let sum_z : ℕ = c.z + (i - bit_index r c) in
+        let same : bit_index r c + (sum_z - c.z) ≡ i = (let first = n.first in omega arith) in
+        is-state (layered r ws) value (at c sum_z) (is_set ws i) (bit_of r ws c sum_z h (omega arith) (omega arith) ∙ ap (is_set ws) same) n.here
 
     none : (y : ℕ) → c.z ≤ y → y < c.z + (i - bit_index r c) → is_state (layered r ws) value (at c y) ≡ false
     none y a b = is-no_state (layered r ws) value (at c y) (is_set ws (bit_index r c + (y - c.z))) (bit_of r ws c y h a (omega arith)) ((n.before).free (bit_index r c + (y - c.z)) (omega arith) (omega arith))
@@ -195,12 +195,12 @@ head_by test (suc n) c last d e f = by (test c) refl (λ later. head_by test n (
     by false t rest =
         let more = row-more c last (omega arith) in
         let later : find test (row (at c (c.z + 1)) last) ≡ Some d = sym (ap (find test) more ∙ ap (λ b. cond b (Some c) (find test (row (at c (c.z + 1)) last))) t) ∙ f in
-        let h = rest later in
+        let rest_here = rest later in
         record {
-          is = h.is;
-          low = omega (arith, h.low);
-          high = h.high;
-          list = ap (filter test) more ∙ (ap (λ b. cond b (c ∷ filter test (row (at c (c.z + 1)) last)) (filter test (row (at c (c.z + 1)) last))) t ∙ h.list);
+          is = rest_here.is;
+          low = omega (arith, rest_here.low);
+          high = rest_here.high;
+          list = ap (filter test) more ∙ (ap (λ b. cond b (c ∷ filter test (row (at c (c.z + 1)) last)) (filter test (row (at c (c.z + 1)) last))) t ∙ rest_here.list);
         }
 
 pub head_of : (test : Coord → Bool) (c : Coord) (last : ℕ) (d : Coord) → find test (row c last) ≡ Some d

@@ -124,7 +124,7 @@ module _ (r : ℕ) (old now full : List ℕ) (layered_is : IsLayered r full) (co
   within_words : (c : Coord) → IsInSpace r c → bit_index r c < length full * 64
   within_words c i =
       let row = in_layer r c i in
-      let most : (c.y + 1) * layer_words r ≤ r * layer_words r = mul-le-mul_right (layer_words r) (let y = i.y in omega arith) in
+      let most : (c.y + 1) * layer_words r ≤ r * layer_words r = mul-le-mul_right (layer_words r) (let along_y = i.y in omega arith) in
       let all = layered_is.whole in
       omega arith
 
@@ -141,7 +141,7 @@ module _ (r : ℕ) (old now full : List ℕ) (layered_is : IsLayered r full) (co
       || (is_set full (bit_index r (level c zero) - layer_words r * 64) && not (is_set now (bit_index r (level c zero) - layer_words r * 64)))))
       ∙ gone_low (is_full (layered r full) (level c zero)))
   column c (suc y) i =
-      let lower : IsInSpace r (level c y) = record { x = i.x; y = (let l = i.y in omega arith); z = i.z } in
+      let lower : IsInSpace r (level c y) = record { x = i.x; y = (let along_y = i.y in omega arith); z = i.z } in
       let down : suc y * layer_words r ≡ (suc y - 1) * layer_words r + layer_words r = one_down (suc y) (layer_words r) (omega arith) in
       let less : suc y - 1 ≡ y = omega arith in
       let again : (suc y - 1) * layer_words r ≡ y * layer_words r = ap (λ k. k * layer_words r) less in
@@ -164,8 +164,8 @@ module _ (r : ℕ) (old now full : List ℕ) (layered_is : IsLayered r full) (co
           → is_full (layered r now) c ≡ (is_full (layered r full) c && not (is_stacked (layered r full) c))
       by false s = none now s ∙ sym (ap (λ b. b && not (is_stacked (layered r full) c)) (none full s))
       by true s =
-          let i : IsInSpace r c = space_by_test r c s in
-          is_full-layered r now c i ∙ column c c.y i
+          let is_in_space : IsInSpace r c = space_by_test r c s in
+          is_full-layered r now c is_in_space ∙ column c c.y is_in_space
 
   pub stacked_layered : length now ≡ length full
       → ((y i : ℕ) → y < r → r * r ≤ i → i < layer_words r * 64 → is_set old (y * layer_words r * 64 + i) ≡ false)

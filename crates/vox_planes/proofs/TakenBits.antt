@@ -158,8 +158,8 @@ module _ (r : ℕ) (old new : List ℕ) (first : Coord) (count bits taken : ℕ)
           → (is_from (bit_index r first) count (bit_index r d) && bit bits (bit_index r d - bit_index r first))
           ≡ is_marked first count bits d
       by true t =
-          let p = parts t in
-          let d_is : d ≡ at first (first.z + (d.z - first.z)) = (λ j. record { x = p.0 j; y = p.1 j; z = (let z_is : d.z ≡ first.z + (d.z - first.z) = omega arith in z_is) j }) in
+          let parts_here = parts t in
+          let d_is : d ≡ at first (first.z + (d.z - first.z)) = (λ j. record { x = parts_here.0 j; y = parts_here.1 j; z = (let z_is : d.z ≡ first.z + (d.z - first.z) = omega arith in z_is) j }) in
           let same_bit_index : bit_index r d ≡ bit_index r first + (d.z - first.z) = ap (bit_index r) d_is ∙ on (d.z - first.z) in
           let bit_index_is : bit_index r d - bit_index r first ≡ d.z - first.z = omega arith in
           (λ j. one_of_these (bit_index r first) count (bit_index r d) (omega arith) (omega arith) j && bit bits (bit_index_is j))
@@ -170,7 +170,7 @@ module _ (r : ℕ) (old new : List ℕ) (first : Coord) (count bits taken : ℕ)
         where
           other : (k : ℕ) → k < count → d ≡ at first (first.z + k) → ⊥
           other k l e =
-              let t : ((d.x == first.x) && (d.y == first.y) && is_from first.z count d.z) ≡ true = ap (λ (v : Coord). (v.x == first.x) && (v.y == first.y) && is_from first.z count v.z) e ∙ (mine k ∙ one_of_these first.z count (first.z + k) (omega arith) (omega arith)) in
+              let both_hold : ((d.x == first.x) && (d.y == first.y) && is_from first.z count d.z) ≡ true = ap (λ (v : Coord). (v.x == first.x) && (v.y == first.y) && is_from first.z count v.z) e ∙ (mine k ∙ one_of_these first.z count (first.z + k) (omega arith) (omega arith)) in
               cc
 
   pub row_left : (d : Coord)
@@ -184,10 +184,10 @@ module _ (r : ℕ) (old new : List ℕ) (first : Coord) (count bits taken : ℕ)
           → is_full (layered r new) d ≡ (is_full (layered r old) d && not (is_marked first count bits d))
       by false s = none new s ∙ sym (ap (λ b. b && not (is_marked first count bits d)) (none old s))
       by true s =
-          let i : IsInSpace r d = space_by_test r d s in
-          is_full-layered r new d i
+          let is_in_space : IsInSpace r d = space_by_test r d s in
+          is_full-layered r new d is_in_space
           ∙ (h.left (bit_index r d)
-          ∙ (λ j. sym (is_full-layered r old d i) j && not (marked d i j)))
+          ∙ (λ j. sym (is_full-layered r old d is_in_space) j && not (marked d is_in_space j)))
 
   pub row_layered : length new ≡ length old → IsLayered r old → IsLayered r new
   row_layered same w = record {

@@ -112,14 +112,14 @@ pub ones-total : (k w : ℕ) → w < 2 ^ k → count_ones w ≡ total k (λ i. b
 unfolding total ones ones_in
 ones-total zero w l = let w_is : w ≡ 0 = omega arith in ap count_ones w_is
 ones-total (suc k) w l =
-    let a : ℕ = w / 2 ^ k in
-    let b : ℕ = w % 2 ^ k in
-    let split : a * 2 ^ k + b ≡ w = shr_split w k in
-    let low : b < 2 ^ k = mod_below w (2 ^ k) (pow_pos k) in
-    let high : a < 2 = shr_below w 1 k (let successor_is : suc k ≡ 1 + k = omega arith in rw (← successor_is) l) in
-    let top : a ≡ bit_at w k = omega arith in
-    let rest : total k (λ i. bit_at b i) ≡ total k (λ i. bit_at w i) = total-same k (λ i. bit_at b i) (λ i. bit_at w i) (λ i j. sym (bit_at_cat_low a k b i j) ∙ ap (λ v. bit_at v i) split) in
-    ap count_ones (sym split) ∙ (ones_cat k a b low ∙ omega (arith, small_ones a high, ones-total k b low))
+    let quotient : ℕ = w / 2 ^ k in
+    let remainder : ℕ = w % 2 ^ k in
+    let split : quotient * 2 ^ k + remainder ≡ w = shr_split w k in
+    let low : remainder < 2 ^ k = mod_below w (2 ^ k) (pow_pos k) in
+    let high : quotient < 2 = shr_below w 1 k (let successor_is : suc k ≡ 1 + k = omega arith in rw (← successor_is) l) in
+    let top : quotient ≡ bit_at w k = omega arith in
+    let rest : total k (λ i. bit_at remainder i) ≡ total k (λ i. bit_at w i) = total-same k (λ i. bit_at remainder i) (λ i. bit_at w i) (λ i j. sym (bit_at_cat_low quotient k remainder i j) ∙ ap (λ v. bit_at v i) split) in
+    ap count_ones (sym split) ∙ (ones_cat k quotient remainder low ∙ omega (arith, small_ones quotient high, ones-total k remainder low))
 
 pub as_number : (n k : ℕ) → cond (bit n k) 1 0 ≡ bit_at n k
 as_number n k = by (bit_at n k) (bit_at-lt n k)
@@ -145,9 +145,9 @@ bits_more ws j w e l =
   where
     here : (i : ℕ) → i < 64 → cond (bit (get_or ws ((64 * j + i) / 64) 0) ((64 * j + i) % 64)) 1 0 ≡ bit_at w i
     here i h =
-        let d : (64 * j + i) / 64 ≡ j = omega arith in
+        let quotient_is : (64 * j + i) / 64 ≡ j = omega arith in
         let remainder_is : (64 * j + i) % 64 ≡ i = omega arith in
-        (λ t. cond (bit (get_or ws (d t) 0) (remainder_is t)) 1 0) ∙ (ap (λ v. cond (bit v i) 1 0) (sym e) ∙ as_number w i)
+        (λ t. cond (bit (get_or ws (quotient_is t) 0) (remainder_is t)) 1 0) ∙ (ap (λ v. cond (bit v i) 1 0) (sym e) ∙ as_number w i)
 
 pub bits_none : (ws : List ℕ) → bits_below ws 0 ≡ 0
 unfolding bits_below total
@@ -175,13 +175,13 @@ bits_all r ws h =
     one_voxel : (y x z : ℕ) → y < r → x < r → z < r → one_if (is_set ws (y * (layer_words r * 64) + (x * r + z)))
         ≡ one_if (is_full (layered r ws) (coordinate_at r ((x * r + y) * r + z)))
     one_voxel y x z ly lx lz =
-        let c : Coord = record { x = x; y = y; z = z } in
-        let within : IsInSpace r c = record { x = lx; y = ly; z = lz } in
-        let y_is : y * (layer_words r * 64) + (x * r + z) ≡ bit_index r c = omega arith in
-        let sum_is : (x * r + y) * r + z ≡ place r c = omega arith in
+        let place_there : Coord = record { x = x; y = y; z = z } in
+        let within : IsInSpace r place_there = record { x = lx; y = ly; z = lz } in
+        let y_is : y * (layer_words r * 64) + (x * r + z) ≡ bit_index r place_there = omega arith in
+        let sum_is : (x * r + y) * r + z ≡ place r place_there = omega arith in
         ap (λ v. one_if (is_set ws v)) y_is
-        ∙ (ap one_if (sym (is_full-layered r ws c within))
-        ∙ ap (λ d. one_if (is_full (layered r ws) d)) (sym (ap (coordinate_at r) sum_is ∙ coordinate_at-place r c within)))
+        ∙ (ap one_if (sym (is_full-layered r ws place_there within))
+        ∙ ap (λ d. one_if (is_full (layered r ws) d)) (sym (ap (coordinate_at r) sum_is ∙ coordinate_at-place r place_there within)))
 
     unused : (y : ℕ) → y < r → (i : ℕ) → r * r ≤ i → i < layer_words r * 64
         → one_if (is_set ws (y * (layer_words r * 64) + i)) ≡ 0
@@ -199,8 +199,8 @@ bits_all r ws h =
 pub words_most : (r n : ℕ) → 1 ≤ r → n ≡ r * layer_words r → n ≤ r * r * r
 words_most r n h e =
     let one : r ≤ r * r = (let at_most_r : 1 * r ≤ r * r = mul-le-mul h (omega arith) in omega arith) in
-    let l : layer_words r ≤ r * r = omega arith in
-    let at_most_r : r * layer_words r ≤ r * (r * r) = mul-le-mul (omega arith) l in
+    let at_most_product : layer_words r ≤ r * r = omega arith in
+    let at_most_r : r * layer_words r ≤ r * (r * r) = mul-le-mul (omega arith) at_most_product in
     omega arith
 
 -- and there are at most a million words

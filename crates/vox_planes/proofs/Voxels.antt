@@ -92,10 +92,10 @@ layered-zeros r = same_where r (λ c. is_set (replicate (r * layer_words r) 0) (
 pub same_point-is : (c d : Coord) → same_point (point c) (point d) ≡ true → c ≡ d
 same_point-is c d h =
     let parts = parts_of_three (same_number (pos c.x) (pos d.x)) (same_number (pos c.y) (pos d.y)) (same_number (pos c.z) (pos d.z)) h in
-    let x = numbers_are_same c.x d.x parts.0 in
-    let y = numbers_are_same c.y d.y parts.1 in
-    let z = numbers_are_same c.z d.z parts.2 in
-    λ i. record { x = x i; y = y i; z = z i }
+    let same_x = numbers_are_same c.x d.x parts.0 in
+    let same_y = numbers_are_same c.y d.y parts.1 in
+    let same_z = numbers_are_same c.z d.z parts.2 in
+    λ i. record { x = same_x i; y = same_y i; z = same_z i }
 
 -- words of which one bit was changed
 pub record IsChanged (old new : List ℕ) (i : ℕ) (b : Bool) : Type 0 where
@@ -129,7 +129,7 @@ changed_at r old new c b h k d i = by (same_point (point d) (point c)) refl
     by false t = k.others (bit_index r d) (λ e. differs (one_bit r d c i h e))
       where
         differs : d ≡ c → ⊥
-        differs e = let s = ap (λ v. same_point (point v) (point c)) e ∙ point_itself c in cc
+        differs e = let same_point_is = ap (λ v. same_point (point v) (point c)) e ∙ point_itself c in cc
 
 pub layered-changed : (r : ℕ) (old new : List ℕ) (c : Coord) (b : Bool) → IsInSpace r c
     → IsChanged old new (bit_index r c) b → layered r new ≡ with_voxel (layered r old) c b
@@ -147,8 +147,8 @@ full_others r old new c b h k d n = by (in_space r (point d)) refl
     by : (s : Bool) → in_space r (point d) ≡ s → is_full (layered r new) d ≡ is_full (layered r old) d
     by false s = ap (λ t. t && get_or (layered r new).voxels (place r d) false) s ∙ sym (ap (λ t. t && get_or (layered r old).voxels (place r d) false) s)
     by true s =
-        let i : IsInSpace r d = space_by_test r d s in
-        is_full-layered r new d i ∙ (k.others (bit_index r d) (λ e. n (one_bit r d c i h e)) ∙ sym (is_full-layered r old d i))
+        let is_in_space : IsInSpace r d = space_by_test r d s in
+        is_full-layered r new d is_in_space ∙ (k.others (bit_index r d) (λ e. n (one_bit r d c is_in_space h e)) ∙ sym (is_full-layered r old d is_in_space))
 
 -- what `set_bit` says, read from the words as they were to those that are kept
 pub changed_by : (r : ℕ) (c : Coord) (old old' new new' : List ℕ) (i : ℕ) (b : Bool) → old' ≡ old → new ≡ new'

@@ -90,10 +90,10 @@ pub record IsOf (k : Corners) (c : Coord) : Type 0 where
 pub is_of : (k : Corners) (c : Coord) → IsOrdered k → is_within (span k) (point c) ≡ true → IsOf k c
 is_of k c o h =
     let parts = parts_of_three (is_between (pos k.low.x) (pos k.high.x) (pos c.x)) (is_between (pos k.low.y) (pos k.high.y) (pos c.y)) (is_between (pos k.low.z) (pos k.high.z) (pos c.z)) h in
-    let x = from_between k.low.x k.high.x c.x o.x parts.0 in
-    let y = from_between k.low.y k.high.y c.y o.y parts.1 in
-    let z = from_between k.low.z k.high.z c.z o.z parts.2 in
-    record { x_low = x.0; x_high = x.1; y_low = y.0; y_high = y.1; z_low = z.0; z_high = z.1 }
+    let lies_between_x = from_between k.low.x k.high.x c.x o.x parts.0 in
+    let lies_between_y = from_between k.low.y k.high.y c.y o.y parts.1 in
+    let lies_between_z = from_between k.low.z k.high.z c.z o.z parts.2 in
+    record { x_low = lies_between_x.0; x_high = lies_between_x.1; y_low = lies_between_y.0; y_high = lies_between_y.1; z_low = lies_between_z.0; z_high = lies_between_z.1 }
 
 pub of_is : (k : Corners) (c : Coord) → IsOf k c → is_within (span k) (point c) ≡ true
 of_is k c h = λ i. between_ends k.low.x k.high.x c.x h.x_low h.x_high i && between_ends k.low.y k.high.y c.y h.y_low h.y_high i && between_ends k.low.z k.high.z c.z h.z_low h.z_high i
@@ -183,7 +183,7 @@ pub next_wall : {A : Type 0} (r : ℕ) (k : Corners) (walk : ℕ → A) → IsWa
 next_wall r k walk w o s x = over r k walk w o (place r (row_start k x (k.high.y + 1))) (place r (row_start k (x + 1) k.low.y)) ordered none
   where
     ordered : place r (row_start k x (k.high.y + 1)) ≤ place r (row_start k (x + 1) k.low.y)
-    ordered = let at_most_r : (k.high.y + 1) * r ≤ r * r = mul-le-mul (let l = s.y in omega arith) (≤_refl r) in omega arith
+    ordered = let at_most_r : (k.high.y + 1) * r ≤ r * r = mul-le-mul (let along_y = s.y in omega arith) (≤_refl r) in omega arith
 
     none : (c : Coord) → IsOf k c → place r (row_start k x (k.high.y + 1)) ≤ place r c
         → place r c < place r (row_start k (x + 1) k.low.y) → ⊥
@@ -202,7 +202,7 @@ to_end r k walk w o s = over r k walk w o (place r (row_start k (k.high.x + 1) k
     none : (c : Coord) → IsOf k c → place r (row_start k (k.high.x + 1) k.low.y) ≤ place r c
         → place r c < place r (row_start k (k.high.x + 1) k.low.y) + r * r * r → ⊥
     none c h i j =
-        let small : c.y * r + c.z < r * r = digits_lt (let l = s.y in let y_high = h.y_high in omega arith) (let l = s.z in let z_high = h.z_high in omega arith) in
+        let small : c.y * r + c.z < r * r = digits_lt (let along_y = s.y in let y_high = h.y_high in omega arith) (let along_z = s.z in let z_high = h.z_high in omega arith) in
         let at_most_x : c.x * (r * r) ≤ k.high.x * (r * r) = mul-le-mul h.x_high (≤_refl (r * r)) in
         omega arith
 
@@ -243,11 +243,11 @@ module _ (r : ℕ) (k : Corners) (test : Coord → Bool) (o : IsOrdered k) (s : 
       (find (passes_in k test) (coordinates_from r (place r (row_start k x (y + 1)))))
       ≡ find (passes_in k test) (coordinates_from r (place r (row_start k x y)))
   find-step x y xl xh yl yh =
-      let c : Coord = row_start k x y in
-      let within : IsInSpace r c = record { x = omega (arith, s.x); y = omega (arith, s.y); z = omega (arith, s.z, o.z) } in
-      let last : IsOf k (at c k.high.z) = record { x_low = xl; x_high = xh; y_low = yl; y_high = yh; z_low = o.z; z_high = omega arith } in
-      let split = ap (find (passes_in k test)) (from-row r c k.high.z within o.z s.z) ∙ find-append (passes_in k test) (row c k.high.z) (coordinates_from r (place r (at c (k.high.z + 1)))) in
-      sym (split ∙ (λ i. option_or (find_row k test (k.high.z + 1 - k.low.z) c refl last (omega arith) (omega (arith, o.z)) i) (next_row r k (λ p. find (passes_in k test) (coordinates_from r p)) (found_walks r k test) o s x y i)))
+      let place_there : Coord = row_start k x y in
+      let within : IsInSpace r place_there = record { x = omega (arith, s.x); y = omega (arith, s.y); z = omega (arith, s.z, o.z) } in
+      let last : IsOf k (at place_there k.high.z) = record { x_low = xl; x_high = xh; y_low = yl; y_high = yh; z_low = o.z; z_high = omega arith } in
+      let split = ap (find (passes_in k test)) (from-row r place_there k.high.z within o.z s.z) ∙ find-append (passes_in k test) (row place_there k.high.z) (coordinates_from r (place r (at place_there (k.high.z + 1)))) in
+      sym (split ∙ (λ i. option_or (find_row k test (k.high.z + 1 - k.low.z) place_there refl last (omega arith) (omega (arith, o.z)) i) (next_row r k (λ p. find (passes_in k test) (coordinates_from r p)) (found_walks r k test) o s x y i)))
 
   pub find-next_wall : (x : ℕ) → find (passes_in k test) (coordinates_from r (place r (row_start k x (k.high.y + 1))))
       ≡ find (passes_in k test) (coordinates_from r (place r (row_start k (x + 1) k.low.y)))
@@ -268,11 +268,11 @@ module _ (r : ℕ) (k : Corners) (test : Coord → Bool) (o : IsOrdered k) (s : 
       ++ filter (passes_in k test) (coordinates_from r (place r (row_start k x (y + 1))))
       ≡ filter (passes_in k test) (coordinates_from r (place r (row_start k x y)))
   filter-step x y xl xh yl yh =
-      let c : Coord = row_start k x y in
-      let within : IsInSpace r c = record { x = omega (arith, s.x); y = omega (arith, s.y); z = omega (arith, s.z, o.z) } in
-      let last : IsOf k (at c k.high.z) = record { x_low = xl; x_high = xh; y_low = yl; y_high = yh; z_low = o.z; z_high = omega arith } in
-      let split = ap (filter (passes_in k test)) (from-row r c k.high.z within o.z s.z) ∙ filter-append (passes_in k test) (row c k.high.z) (coordinates_from r (place r (at c (k.high.z + 1)))) in
-      sym (split ∙ (λ i. filter_row k test (k.high.z + 1 - k.low.z) c refl last (omega arith) (omega (arith, o.z)) i ++ next_row r k (λ p. filter (passes_in k test) (coordinates_from r p)) (listed_walks r k test) o s x y i))
+      let place_there : Coord = row_start k x y in
+      let within : IsInSpace r place_there = record { x = omega (arith, s.x); y = omega (arith, s.y); z = omega (arith, s.z, o.z) } in
+      let last : IsOf k (at place_there k.high.z) = record { x_low = xl; x_high = xh; y_low = yl; y_high = yh; z_low = o.z; z_high = omega arith } in
+      let split = ap (filter (passes_in k test)) (from-row r place_there k.high.z within o.z s.z) ∙ filter-append (passes_in k test) (row place_there k.high.z) (coordinates_from r (place r (at place_there (k.high.z + 1)))) in
+      sym (split ∙ (λ i. filter_row k test (k.high.z + 1 - k.low.z) place_there refl last (omega arith) (omega (arith, o.z)) i ++ next_row r k (λ p. filter (passes_in k test) (coordinates_from r p)) (listed_walks r k test) o s x y i))
 
   pub filter-next_wall : (x : ℕ)
       → filter (passes_in k test) (coordinates_from r (place r (row_start k x (k.high.y + 1))))

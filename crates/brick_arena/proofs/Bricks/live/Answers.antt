@@ -5,5 +5,5 @@ use Rattle.brick_arena.proofs.Bricks.live.Goals as goal
 
 pub returns-clause-slots : goal.returns-clause-slots
 returns-clause-slots c =
-    let b = c.self.inside in
-    subst AreSlots c.self.view_is (are_slots b.chunks.items b.first_vacant b.vacant b.reached c.self.invariant)
+    let inside = c.self.inside in
+    subst AreSlots c.self.view_is (are_slots inside.chunks.items inside.first_vacant inside.vacant inside.reached c.self.invariant)

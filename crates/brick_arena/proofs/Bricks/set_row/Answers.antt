@@ -6,8 +6,8 @@ use Rattle.brick_arena.proofs.Bricks.set_row.Goals as goal
 
 pub store_row-requires-clause-inside : goal.store_row-requires-clause-inside
 store_row-requires-clause-inside g c =
-    let b = c.self.inside in
-    let at = live_at b.chunks.items b.first_vacant b.vacant b.reached c.self.invariant c.args.self.now c.self.view_is c.args.slot c.requires.live in
+    let inside = c.self.inside in
+    let at = live_at inside.chunks.items inside.first_vacant inside.vacant inside.reached c.self.invariant c.args.self.now c.self.view_is c.args.slot c.requires.live in
     omega (arith, at.2, c.requires.row, c.place.ensures)
 
 pub store_row-requires-clause-row : goal.store_row-requires-clause-row
@@ -15,23 +15,23 @@ store_row-requires-clause-row g c = omega (arith, c.requires.row, c.place.ensure
 
 pub invariant_of-self : goal.invariant_of-self
 invariant_of-self g c =
-    let b = c.self.inside in
-    let at = live_at b.chunks.items b.first_vacant b.vacant b.reached c.self.invariant c.args.self.now c.self.view_is c.args.slot c.requires.live in
-    arena_with_row b.chunks.items c.store_row.new.chunks.items b.first_vacant b.vacant b.reached c.args.slot c.args.index c.args.word c.place.result c.self.invariant c.store_row.ensures c.place.ensures c.requires.row at.0 at.1
+    let inside = c.self.inside in
+    let at = live_at inside.chunks.items inside.first_vacant inside.vacant inside.reached c.self.invariant c.args.self.now c.self.view_is c.args.slot c.requires.live in
+    arena_with_row inside.chunks.items c.store_row.new.chunks.items inside.first_vacant inside.vacant inside.reached c.args.slot c.args.index c.args.word c.place.result c.self.invariant c.store_row.ensures c.place.ensures c.requires.row at.0 at.1
 
 pub returns-clause-value : goal.returns-clause-value
 returns-clause-value g c =
-    let b = c.self.inside in
-    let at = live_at b.chunks.items b.first_vacant b.vacant b.reached c.self.invariant c.args.self.now c.self.view_is c.args.slot c.requires.live in
-    view_with_row b.chunks.items c.store_row.new.chunks.items b.first_vacant b.vacant b.reached c.args.slot c.args.index c.args.word c.place.result c.self.invariant c.store_row.ensures c.place.ensures c.requires.row at.0 at.1
+    let inside = c.self.inside in
+    let at = live_at inside.chunks.items inside.first_vacant inside.vacant inside.reached c.self.invariant c.args.self.now c.self.view_is c.args.slot c.requires.live in
+    view_with_row inside.chunks.items c.store_row.new.chunks.items inside.first_vacant inside.vacant inside.reached c.args.slot c.args.index c.args.word c.place.result c.self.invariant c.store_row.ensures c.place.ensures c.requires.row at.0 at.1
     ∙ ap (λ v. with_row v c.args.slot c.args.index 8 c.args.word) c.self.view_is
 
 pub returns-clause-written : goal.returns-clause-written
 returns-clause-written g c k l =
-    let b = c.self.inside in
-    let slots = subst AreSlots c.self.view_is (are_slots b.chunks.items b.first_vacant b.vacant b.reached c.self.invariant) in
+    let inside = c.self.inside in
+    let slots = subst AreSlots c.self.view_is (are_slots inside.chunks.items inside.first_vacant inside.vacant inside.reached c.self.invariant) in
     row_last c.args.self.now c.args.slot c.args.index k c.args.word c.requires.live (slots.lengths c.args.slot c.requires.live) (omega (arith, l, c.requires.row))
 
 pub returns-clause-slots : goal.returns-clause-slots
 returns-clause-slots g c =
-    let b = c.self.inside in are_slots c.store_row.new.chunks.items b.first_vacant b.vacant b.reached (invariant_of-self g c)
+    let inside = c.self.inside in are_slots c.store_row.new.chunks.items inside.first_vacant inside.vacant inside.reached (invariant_of-self g c)

@@ -7,20 +7,20 @@ use Rattle.brick_arena.proofs.Bricks.word.Goals as goal
 
 pub load-requires-clause-inside : goal.load-requires-clause-inside
 load-requires-clause-inside g c =
-    let b = c.self.inside in
-    let at = live_at b.chunks.items b.first_vacant b.vacant b.reached c.self.invariant c.args.self.now c.self.view_is c.args.slot c.requires.live in
+    let inside = c.self.inside in
+    let at = live_at inside.chunks.items inside.first_vacant inside.vacant inside.reached c.self.invariant c.args.self.now c.self.view_is c.args.slot c.requires.live in
     omega (arith, at.2, c.requires.index, c.place.ensures)
 
 pub returns-clause-value : goal.returns-clause-value
 returns-clause-value g c =
-    let b = c.self.inside in let s = c.args.slot in let i = c.args.index in let m = chunk_word b.chunks.items in
-    let at = live_at b.chunks.items b.first_vacant b.vacant b.reached c.self.invariant c.args.self.now c.self.view_is s c.requires.live in
-    let place : c.place.result ≡ 512 * s + i = omega (arith, c.place.ensures) in
-    c.load.ensures ∙ ap m place ∙ sym (get-row m (512 * s) 512 i 0 c.requires.index)
-    ∙ sym (ap (λ words. get_or words i 0) (words-live b.chunks.items b.first_vacant b.vacant b.reached c.self.invariant s at.0 at.1))
-    ∙ ap (λ v. get_or (words_of v s) i 0) c.self.view_is
+    let inside = c.self.inside in let slot = c.args.slot in let index = c.args.index in let chunk_word_here = chunk_word inside.chunks.items in
+    let at = live_at inside.chunks.items inside.first_vacant inside.vacant inside.reached c.self.invariant c.args.self.now c.self.view_is slot c.requires.live in
+    let place : c.place.result ≡ 512 * slot + index = omega (arith, c.place.ensures) in
+    c.load.ensures ∙ ap chunk_word_here place ∙ sym (get-row chunk_word_here (512 * slot) 512 index 0 c.requires.index)
+    ∙ sym (ap (λ words. get_or words index 0) (words-live inside.chunks.items inside.first_vacant inside.vacant inside.reached c.self.invariant slot at.0 at.1))
+    ∙ ap (λ v. get_or (words_of v slot) index 0) c.self.view_is
 
 pub returns-clause-slots : goal.returns-clause-slots
 returns-clause-slots g c =
-    let b = c.self.inside in
-    subst AreSlots c.self.view_is (are_slots b.chunks.items b.first_vacant b.vacant b.reached c.self.invariant)
+    let inside = c.self.inside in
+    subst AreSlots c.self.view_is (are_slots inside.chunks.items inside.first_vacant inside.vacant inside.reached c.self.invariant)

@@ -11,8 +11,8 @@ use Rattle.file_tests.proofs.codec.decode_in_pieces.Goals as goal
 next : (bytes : List ℕ) (start more : ℕ)
     → take start bytes ++ take (start + more - start) (drop start bytes) ≡ take (start + more) bytes
 next bytes start more =
-    let n : start + more - start ≡ more = omega arith in
-    ap (λ k. take start bytes ++ take k (drop start bytes)) n ∙ sym (take-add start more bytes)
+    let difference_is : start + more - start ≡ more = omega arith in
+    ap (λ k. take start bytes ++ take k (drop start bytes)) difference_is ∙ sym (take-add start more bytes)
 
 pub loop-start-preserved : goal.loop-start-preserved
 loop-start-preserved c = (
@@ -25,10 +25,10 @@ loop-start-preserved c = (
 
 pub returns-in_err-take_piece : goal.returns-in_err-take_piece
 returns-in_err-take_piece c =
-    let p = err_from_is_err_and c.from_residual.result c.from_residual.ensures.1 in
+    let err_from = err_from_is_err_and c.from_residual.result c.from_residual.ensures.1 in
     let end = c.loop-start.start + c.min.result in
     let refused = c.in_err-take_piece.ensures.err (take c.loop-start.start c.args.trace.now) (drop end c.args.trace.now) c.loop-start.invariant.1 in
-    rw (p.1, p.2) (subst (λ (b : List ℕ). Decodes b (Err c.in_err-take_piece.field-0.0)) (ap (λ b. b ++ drop end c.args.trace.now) (next c.args.trace.now c.loop-start.start c.min.result) ∙ take-append-drop end c.args.trace.now) refused)
+    rw (err_from.1, err_from.2) (subst (λ (b : List ℕ). Decodes b (Err c.in_err-take_piece.field-0.0)) (ap (λ b. b ++ drop end c.args.trace.now) (next c.args.trace.now c.loop-start.start c.min.result) ∙ take-append-drop end c.args.trace.now) refused)
 
 pub returns-in_err-end : goal.returns-in_err-end
 returns-in_err-end c =

@@ -6,7 +6,7 @@ use Rattle.floor_planner.proofs.flat.is_flat.Goals as goal
 pub returns-clause-flat : goal.returns-clause-flat
 returns-clause-flat c = λ t.
     let none : c.first_full.result ≡ None = search rules in
-    flat_where c.args.model.now (c.resolution-most.result - 1) (span c.of-above.result) (let e = c.resolution-most.ensures.value in omega arith) c.of-above.ensures.covers (sym c.first_full.ensures ∙ none)
+    flat_where c.args.model.now (c.resolution-most.result - 1) (span c.of-above.result) (let most_value = c.resolution-most.ensures.value in omega arith) c.of-above.ensures.covers (sym c.first_full.ensures ∙ none)
 
 pub returns-clause-told : goal.returns-clause-told
 returns-clause-told c = λ f.

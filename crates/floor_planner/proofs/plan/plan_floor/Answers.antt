@@ -12,16 +12,16 @@ close-requires-clause-legal c = subst IsLegal (sym (matrix_is c.fill_floor.new.t
 
 pub close-requires-clause-limit : goal.close-requires-clause-limit
 close-requires-clause-limit c =
-    let w = c.recall.ensures.whole in
-    let some = w.some in
-    let r = c.args.target.now.resolution in
-    let room = room_left c.fill_floor.new.tape c.args.target.now r 0 origin c.in_ok-fill_floor.ensures (omega arith) (omega arith) w.most (record { x = some; y = some; z = some }) in
+    let recall_whole = c.recall.ensures.whole in
+    let some = recall_whole.some in
+    let resolution = c.args.target.now.resolution in
+    let room = room_left c.fill_floor.new.tape c.args.target.now resolution 0 origin c.in_ok-fill_floor.ensures (omega arith) (omega arith) recall_whole.most (record { x = some; y = some; z = some }) in
     omega (arith, room)
 
 pub returns : goal.returns
 returns c =
-    let t = c.fill_floor.new.tape in
-    let s = c.in_ok-fill_floor.ensures in
+    let tape_after_fill_floor = c.fill_floor.new.tape in
+    let fill_floor_ensured = c.in_ok-fill_floor.ensures in
     record {
-      accepted = accepted_to c.close.result t.source (empty c.args.target.now.resolution) t.matrix c.args.target.now t.profile full_profile s.source (λ q. ap (λ (m : Matrix). is_full m q) (matrix_is t c.args.target.now s c.recall.ensures.whole)) s.profile c.close.ensures.accepted;
+      accepted = accepted_to c.close.result tape_after_fill_floor.source (empty c.args.target.now.resolution) tape_after_fill_floor.matrix c.args.target.now tape_after_fill_floor.profile full_profile fill_floor_ensured.source (λ q. ap (λ (m : Matrix). is_full m q) (matrix_is tape_after_fill_floor c.args.target.now fill_floor_ensured c.recall.ensures.whole)) fill_floor_ensured.profile c.close.ensures.accepted;
     }

@@ -24,10 +24,10 @@ fill-requires-clause-limit c =
 
 pub returns : goal.returns
 returns c =
-    let b = c.go.new.self in
+    let self_after_go = c.go.new.self in
     let target = c.args.target.now in
     let wanted : is_full target (coord c.args.x 0 c.args.z) ≡ true = cc in
     on_ok_weaker c.fill.result
-    (λ (w : Writes b c.fill.new.self (Fill c.down.result) (with_voxel b.matrix (beside b c.down.result) true) b.harmonics b.bots _).
-    filled_one c.args.tape.now b c.fill.new.self target (Fill down) _ c.args.x c.args.z c.requires.legal c.requires.flat c.recall.ensures.whole.most c.requires.swept wanted c.in_ok-go.ensures.ok (rw c.down.ensures at w))
+    (λ (w : Writes self_after_go c.fill.new.self (Fill c.down.result) (with_voxel self_after_go.matrix (beside self_after_go c.down.result) true) self_after_go.harmonics self_after_go.bots _).
+    filled_one c.args.tape.now self_after_go c.fill.new.self target (Fill down) _ c.args.x c.args.z c.requires.legal c.requires.flat c.recall.ensures.whole.most c.requires.swept wanted c.in_ok-go.ensures.ok (rw c.down.ensures at w))
     c.fill.ensures.ok

@@ -11,8 +11,8 @@ pub loop-x-preserved : goal.loop-x-preserved
 loop-x-preserved c =
     let more = sum_below-more (λ x. one_if (is_row c.args.planes.now x c.args.y)) c.loop-x.x in
     let here : c.if-is_row.rows ≡ c.loop-x.rows + one_if (is_row c.args.planes.now c.loop-x.x c.args.y) = (elim c.if-is_row.branch [
-      | then-is_row w ↦ (let e = ap one_if (sym c.is_row.ensures ∙ w.if-is_row.true) in omega (arith, e, w.rows-is))
-      | else-is_row w ↦ (let e = ap one_if (sym c.is_row.ensures ∙ w.if-is_row.false) in omega (arith, e, w.rows-is))
+      | then-is_row w ↦ (let one_if_is = ap one_if (sym c.is_row.ensures ∙ w.if-is_row.true) in omega (arith, one_if_is, w.rows-is))
+      | else-is_row w ↦ (let one_if_is = ap one_if (sym c.is_row.ensures ∙ w.if-is_row.false) in omega (arith, one_if_is, w.rows-is))
     ]) in
     let one = at_most_one (is_row c.args.planes.now c.loop-x.x c.args.y) in
     let value = c.loop-x.invariant.value in

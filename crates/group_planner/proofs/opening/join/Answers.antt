@@ -11,10 +11,10 @@ act_all-requires-clause-calm c = join_calm c.args.tape.now c.ahead.result c.behi
 
 pub returns : goal.returns
 returns c =
-    let p = c.args.tape.now in
-    let k = FusionP c.ahead.result ∷ FusionS c.behind.result ∷ [] in
-    let still = c.bots_act.ensures.still (state_of p) k c.recall_ready.ensures.ready (join_stays p c.ahead.result c.behind.result c.ahead.ensures c.behind.ensures c.requires.pair c.requires.beside) in
-    on_ok_weaker c.act_all.result (λ s. has_joined p c.ahead.result c.behind.result c.ahead.ensures c.behind.ensures c.requires.pair c.requires.beside c.act_all.new.self s still) c.act_all.ensures.ok
+    let tape = c.args.tape.now in
+    let commands_here = FusionP c.ahead.result ∷ FusionS c.behind.result ∷ [] in
+    let still = c.bots_act.ensures.still (state_of tape) commands_here c.recall_ready.ensures.ready (join_stays tape c.ahead.result c.behind.result c.ahead.ensures c.behind.ensures c.requires.pair c.requires.beside) in
+    on_ok_weaker c.act_all.result (λ s. has_joined tape c.ahead.result c.behind.result c.ahead.ensures c.behind.ensures c.requires.pair c.requires.beside c.act_all.new.self s still) c.act_all.ensures.ok
 
 pub act_all-requires-clause-held : goal.act_all-requires-clause-held
 act_all-requires-clause-held c = held_high c.args.tape.now.harmonics _ c.requires.pair.high

@@ -11,10 +11,10 @@ act_all-requires-clause-calm c = split_calm c.args.tape.now c.ahead.result c.ahe
 
 pub returns : goal.returns
 returns c =
-    let p = c.args.tape.now in
-    let k = Fission c.ahead.result 0 ∷ [] in
-    let still = c.bots_act.ensures.still (state_of p) k c.recall_ready.ensures.ready (split_stays p c.ahead.result c.ahead.ensures c.requires.alone c.requires.full c.requires.room c.requires.within c.requires.free) in
-    on_ok_weaker c.act_all.result (λ s. has_split p c.ahead.result c.ahead.ensures c.requires.alone c.requires.full c.requires.room c.requires.within c.requires.free c.act_all.new.self c.requires.unsplit c.requires.high s still) c.act_all.ensures.ok
+    let tape = c.args.tape.now in
+    let commands_here = Fission c.ahead.result 0 ∷ [] in
+    let still = c.bots_act.ensures.still (state_of tape) commands_here c.recall_ready.ensures.ready (split_stays tape c.ahead.result c.ahead.ensures c.requires.alone c.requires.full c.requires.room c.requires.within c.requires.free) in
+    on_ok_weaker c.act_all.result (λ s. has_split tape c.ahead.result c.ahead.ensures c.requires.alone c.requires.full c.requires.room c.requires.within c.requires.free c.act_all.new.self c.requires.unsplit c.requires.high s still) c.act_all.ensures.ok
 
 pub act_all-requires-clause-held : goal.act_all-requires-clause-held
 act_all-requires-clause-held c = held_high c.args.tape.now.harmonics _ c.requires.high

@@ -44,10 +44,10 @@ close-requires-clause-limit c =
 
 pub returns-clause-accepted : goal.returns-clause-accepted
 returns-clause-accepted c =
-    let t = c.gather.new.tape in
-    let k = c.in_ok-rebuild.ensures in
-    let j = c.in_ok-gather.ensures in
-    accepted_to c.close.result t.source c.args.source.now t.matrix c.args.target.now t.profile full_profile (j.source ∙ k.source) (λ q. ap (λ (m : Matrix). is_full m q) (j.matrix ∙ k.matrix)) j.profile c.close.ensures.accepted
+    let tape_after_gather = c.gather.new.tape in
+    let rebuild_ensured = c.in_ok-rebuild.ensures in
+    let gather_ensured = c.in_ok-gather.ensures in
+    accepted_to c.close.result tape_after_gather.source c.args.source.now tape_after_gather.matrix c.args.target.now tape_after_gather.profile full_profile (gather_ensured.source ∙ rebuild_ensured.source) (λ q. ap (λ (m : Matrix). is_full m q) (gather_ensured.matrix ∙ rebuild_ensured.matrix)) gather_ensured.profile c.close.ensures.accepted
 
 pub returns-clause-steps : goal.returns-clause-steps
 returns-clause-steps c =
@@ -58,18 +58,18 @@ returns-clause-steps c =
 pub returns-clause-commands : goal.returns-clause-commands
 returns-clause-commands c =
     let home = home_steps c.rebuild.new.tape c.gather.new.tape c.args.source.now c.args.target.now c.in_ok-rebuild.ensures c.recall.ensures.whole.most c.requires.same c.in_ok-gather.ensures in
-    let k = c.in_ok-rebuild.ensures in
-    let steps = k.steps_are in
-    let before = k.commands_are in
+    let rebuild_ensured = c.in_ok-rebuild.ensures in
+    let steps = rebuild_ensured.steps_are in
+    let before = rebuild_ensured.commands_are in
     let spent = c.in_ok-gather.ensures.spends.commands_are in
     IfOk-weaker c.close.result _ _ (λ plan e. omega (arith, e, home, steps, before, spent)) c.close.ensures.commands
 
 pub returns-clause-bytes : goal.returns-clause-bytes
 returns-clause-bytes c =
     let home = home_steps c.rebuild.new.tape c.gather.new.tape c.args.source.now c.args.target.now c.in_ok-rebuild.ensures c.recall.ensures.whole.most c.requires.same c.in_ok-gather.ensures in
-    let k = c.in_ok-rebuild.ensures in
-    let steps = k.steps_are in
-    let before = k.bytes_are in
+    let rebuild_ensured = c.in_ok-rebuild.ensures in
+    let steps = rebuild_ensured.steps_are in
+    let before = rebuild_ensured.bytes_are in
     let spent = c.in_ok-gather.ensures.spends.bytes_are in
     IfOk-weaker c.close.result _ _ (λ plan e. omega (arith, e, home, steps, before, spent)) c.close.ensures.bytes
 

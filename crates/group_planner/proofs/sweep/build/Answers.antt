@@ -12,70 +12,70 @@ loop-y-init c = record { stamps = stamps_none c.args.tape.now c.args.target.now 
 
 pub write_layer-requires-clause-ready : goal.write_layer-requires-clause-ready
 write_layer-requires-clause-ready c =
-    let a = c.args.tape.now in
-    let b = c.loop-y.tape in
+    let tape = c.args.tape.now in
+    let tape_so_far = c.loop-y.tape in
     let y = c.loop-y.y in
-    let g = c.loop-y.invariant.stamps in
-    let r = g.resolution in
-    let s = c.requires.same in
-    let e = c.resolution-y-end.ensures.value in
+    let stamps = c.loop-y.invariant.stamps in
+    let resolution = stamps.resolution in
+    let same_required = c.requires.same in
+    let end_value = c.resolution-y-end.ensures.value in
     let low = c.loop-y.auto.y in
     record {
-      pair = g.pair;
-      same = s ∙ sym r;
-      within = omega (arith, r, s, e);
-      above = still_void a b c.args.target.now true (between_layers c.args.low y) _ (y + 1) g (λ d l. above_between c.args.low y d (omega arith)) (λ d l. c.requires.free d (omega arith));
+      pair = stamps.pair;
+      same = same_required ∙ sym resolution;
+      within = omega (arith, resolution, same_required, end_value);
+      above = still_void tape tape_so_far c.args.target.now true (between_layers c.args.low y) _ (y + 1) stamps (λ d l. above_between c.args.low y d (omega arith)) (λ d l. c.requires.free d (omega arith));
     }
 
 pub write_layer-requires-clause-limit : goal.write_layer-requires-clause-limit
 write_layer-requires-clause-limit c =
-    let m = c.args.target.now in
+    let target = c.args.target.now in
     let y = c.loop-y.y in
-    let r = c.args.tape.now.matrix.resolution in
-    let more = sum_below-more (stamping_steps m) y in
-    let s = c.requires.same in
-    let e = c.resolution-y-end.ensures.value in
-    let rises = sum_below-rises (stamping_steps m) (y + 1) r (omega (arith, s, e)) in
+    let resolution = c.args.tape.now.matrix.resolution in
+    let more = sum_below-more (stamping_steps target) y in
+    let same_required = c.requires.same in
+    let end_value = c.resolution-y-end.ensures.value in
+    let rises = sum_below-rises (stamping_steps target) (y + 1) resolution (omega (arith, same_required, end_value)) in
     let inv = c.loop-y.invariant.climb in
     let limit = c.requires.limit in
-    omega (arith, more, rises, inv, limit, s, e)
+    omega (arith, more, rises, inv, limit, same_required, end_value)
 
 pub loop-y-preserved : goal.loop-y-preserved
 loop-y-preserved c =
-    let m = c.args.target.now in
+    let target = c.args.target.now in
     let y = c.loop-y.y in
     let inv = c.loop-y.invariant in
-    let g = c.in_ok-write_layer.ensures in
-    let runs_more = sum_below-more (runs_of_layer m) y in
-    let steps_more = sum_below-more (stamping_steps m) y in
-    let one = g.climb in
+    let write_layer_ensured = c.in_ok-write_layer.ensures in
+    let runs_more = sum_below-more (runs_of_layer target) y in
+    let steps_more = sum_below-more (stamping_steps target) y in
+    let one = write_layer_ensured.climb in
     let before = inv.climb in
     record {
-      stamps = stamps_more c.args.tape.now c.loop-y.tape c.write_layer.new.tape m true (between_layers c.args.low y) (layer y) (between_layers c.args.low (y + 1)) _ _ _ inv.stamps g.stamps (λ d. between_layers-more c.args.low y d c.loop-y.auto.y) (omega (arith, runs_more));
+      stamps = stamps_more c.args.tape.now c.loop-y.tape c.write_layer.new.tape target true (between_layers c.args.low y) (layer y) (between_layers c.args.low (y + 1)) _ _ _ inv.stamps write_layer_ensured.stamps (λ d. between_layers-more c.args.low y d c.loop-y.auto.y) (omega (arith, runs_more));
       climb = omega (arith, steps_more, one, before);
     }
 
 pub returns-clause-stamps : goal.returns-clause-stamps
 returns-clause-stamps c =
-    let a = c.args.tape.now in
-    let m = c.args.target.now in
+    let tape = c.args.tape.now in
+    let target = c.args.target.now in
     let y = c.loop-y.y in
     let low = c.requires.low in
-    let s = c.requires.same in
-    let e = c.resolution-y-end.ensures.value in
-    let end : y ≡ a.matrix.resolution - 1 = omega (arith, s, e, low) in
-    let rises = sum_below-rises (runs_of_layer m) y m.resolution (omega (arith, s, end)) in
-    subst (λ (n : ℕ). Stamps a c.loop-y.tape m true (between_layers c.args.low n) (runs m)) end (stamps_as a c.loop-y.tape m true (between_layers c.args.low y) (between_layers c.args.low y) _ (runs m) c.loop-y.invariant.stamps (λ d. refl) rises)
+    let same_required = c.requires.same in
+    let end_value = c.resolution-y-end.ensures.value in
+    let end : y ≡ tape.matrix.resolution - 1 = omega (arith, same_required, end_value, low) in
+    let rises = sum_below-rises (runs_of_layer target) y target.resolution (omega (arith, same_required, end)) in
+    subst (λ (n : ℕ). Stamps tape c.loop-y.tape target true (between_layers c.args.low n) (runs target)) end (stamps_as tape c.loop-y.tape target true (between_layers c.args.low y) (between_layers c.args.low y) _ (runs target) c.loop-y.invariant.stamps (λ d. refl) rises)
 
 pub returns-clause-steps : goal.returns-clause-steps
 returns-clause-steps c =
-    let a = c.args.tape.now in
-    let m = c.args.target.now in
+    let tape = c.args.tape.now in
+    let target = c.args.target.now in
     let y = c.loop-y.y in
     let low = c.requires.low in
-    let s = c.requires.same in
-    let e = c.resolution-y-end.ensures.value in
-    let end : y ≡ a.matrix.resolution - 1 = omega (arith, s, e, low) in
-    let rises = sum_below-rises (stamping_steps m) y a.matrix.resolution (omega (arith, end)) in
+    let same_required = c.requires.same in
+    let end_value = c.resolution-y-end.ensures.value in
+    let end : y ≡ tape.matrix.resolution - 1 = omega (arith, same_required, end_value, low) in
+    let rises = sum_below-rises (stamping_steps target) y tape.matrix.resolution (omega (arith, end)) in
     let inv = c.loop-y.invariant.climb in
     omega (arith, rises, inv, end)

@@ -16,37 +16,37 @@ write_row-requires-clause-ready c = stamp_on c.args.tape.now c.loop-x.tape c.arg
 
 pub write_row-requires-clause-limit : goal.write_row-requires-clause-limit
 write_row-requires-clause-limit c =
-    let m = c.args.model.now in
-    let f : ℕ → ℕ = λ x. row_steps m x c.args.y in
-    let more = sum_below-more f c.loop-x.x in
-    let rises = sum_below-rises f (c.loop-x.x + 1) m.resolution (omega arith) in
-    let all = layer_sum m c.args.y in
+    let model = c.args.model.now in
+    let row_steps_here : ℕ → ℕ = λ x. row_steps model x c.args.y in
+    let more = sum_below-more row_steps_here c.loop-x.x in
+    let rises = sum_below-rises row_steps_here (c.loop-x.x + 1) model.resolution (omega arith) in
+    let all = layer_sum model c.args.y in
     let inv = c.loop-x.invariant.climb in
     let limit = c.requires.limit in
     omega (arith, more, rises, all, inv, limit)
 
 pub loop-x-preserved : goal.loop-x-preserved
 loop-x-preserved c =
-    let m = c.args.model.now in
+    let model = c.args.model.now in
     let inv = c.loop-x.invariant in
-    let g = c.in_ok-write_row.ensures in
-    let runs = sum_below-more (λ x. runs_of_row m x c.args.y) c.loop-x.x in
-    let steps = sum_below-more (λ x. row_steps m x c.args.y) c.loop-x.x in
-    let one = g.climb in
+    let write_row_ensured = c.in_ok-write_row.ensures in
+    let runs = sum_below-more (λ x. runs_of_row model x c.args.y) c.loop-x.x in
+    let steps = sum_below-more (λ x. row_steps model x c.args.y) c.loop-x.x in
+    let one = write_row_ensured.climb in
     let before = inv.climb in
     record {
-      stamps = stamps_more c.args.tape.now c.loop-x.tape c.write_row.new.tape m c.args.full (in_layer c.loop-x.x c.args.y) (is_in_line c.loop-x.x c.args.y) (in_layer (c.loop-x.x + 1) c.args.y) _ _ _ inv.stamps g.stamps (in_layer-more c.loop-x.x c.args.y) (omega (arith, runs));
+      stamps = stamps_more c.args.tape.now c.loop-x.tape c.write_row.new.tape model c.args.full (in_layer c.loop-x.x c.args.y) (is_in_line c.loop-x.x c.args.y) (in_layer (c.loop-x.x + 1) c.args.y) _ _ _ inv.stamps write_row_ensured.stamps (in_layer-more c.loop-x.x c.args.y) (omega (arith, runs));
       climb = omega (arith, steps, one, before);
     }
 
 pub returns-clause-stamps : goal.returns-clause-stamps
-returns-clause-stamps c = stamps_layer c.args.tape.now c.loop-x.tape c.args.model.now c.args.full c.loop-x.x c.args.y (omega arith) c.loop-x.invariant.stamps (let e : c.loop-x.x ≡ c.args.model.now.resolution = omega arith in ap (sum_below (λ x. runs_of_row c.args.model.now x c.args.y)) e)
+returns-clause-stamps c = stamps_layer c.args.tape.now c.loop-x.tape c.args.model.now c.args.full c.loop-x.x c.args.y (omega arith) c.loop-x.invariant.stamps (let same_x : c.loop-x.x ≡ c.args.model.now.resolution = omega arith in ap (sum_below (λ x. runs_of_row c.args.model.now x c.args.y)) same_x)
 
 pub returns-clause-climb : goal.returns-clause-climb
 returns-clause-climb c =
-    let m = c.args.model.now in
-    let f : ℕ → ℕ = λ x. row_steps m x c.args.y in
-    let all = layer_sum m c.args.y in
-    let rises = sum_below-rises f c.loop-x.x m.resolution (omega arith) in
+    let model = c.args.model.now in
+    let row_steps_here : ℕ → ℕ = λ x. row_steps model x c.args.y in
+    let all = layer_sum model c.args.y in
+    let rises = sum_below-rises row_steps_here c.loop-x.x model.resolution (omega arith) in
     let inv = c.loop-x.invariant.climb in
     omega (arith, all, rises, inv)

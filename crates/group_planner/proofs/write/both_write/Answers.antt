@@ -9,10 +9,10 @@ paint_all-requires-clause-group c = can_paint c.args.tape.now c.args.full c.all_
 
 pub returns : goal.returns
 returns c =
-    let p = c.args.tape.now in
+    let tape = c.args.tape.now in
     let first = ap (λ (d : Coord). d.z) c.rear-first.ensures.value in
     let last = ap (λ (d : Coord). d.z) c.front-last.ensures.value in
-    let group = one_group p c.args.full c.all_below.result c.all_below-2.result c.rear-first.result.z c.front-last.result.z c.requires.pair c.requires.above first last c.all_below.ensures c.all_below-2.ensures in
+    let group = one_group tape c.args.full c.all_below.result c.all_below-2.result c.rear-first.result.z c.front-last.result.z c.requires.pair c.requires.above first last c.all_below.ensures c.all_below-2.ensures in
     on_ok_weaker c.paint_all.result
-    (λ s. wrote_both p c.args.full c.all_below.result c.all_below-2.result c.rear-first.result.z c.front-last.result.z c.requires.pair c.requires.above first last c.all_below.ensures c.all_below-2.ensures c.paint_all.new.self (s _ c.args.full group))
+    (λ s. wrote_both tape c.args.full c.all_below.result c.all_below-2.result c.rear-first.result.z c.front-last.result.z c.requires.pair c.requires.above first last c.all_below.ensures c.all_below-2.ensures c.paint_all.new.self (s _ c.args.full group))
     c.paint_all.ensures.ok

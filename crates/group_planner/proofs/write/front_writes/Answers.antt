@@ -11,10 +11,10 @@ act_all-requires-clause-calm c = front_calm c.args.tape.now c.one_below.result c
 
 pub returns : goal.returns
 returns c =
-    let p = c.args.tape.now in
+    let tape = c.args.tape.now in
     let ks = (Wait ∷ c.one_below.result ∷ []) in
-    let bots = c.bots_act.ensures.gone (state_of p) ks c.recall_ready.ensures.ready (sym c.requires.pair.two) (front_stays p c.one_below.result c.args.full c.one_below.ensures c.requires.pair c.requires.above) in
-    on_ok_weaker c.act_all.result (λ s. front_wrote p c.one_below.result c.args.full c.one_below.ensures c.requires.pair c.requires.above c.act_all.new.self s bots (c.bots_act.ensures.voxels (state_of p) ks)) c.act_all.ensures.ok
+    let bots = c.bots_act.ensures.gone (state_of tape) ks c.recall_ready.ensures.ready (sym c.requires.pair.two) (front_stays tape c.one_below.result c.args.full c.one_below.ensures c.requires.pair c.requires.above) in
+    on_ok_weaker c.act_all.result (λ s. front_wrote tape c.one_below.result c.args.full c.one_below.ensures c.requires.pair c.requires.above c.act_all.new.self s bots (c.bots_act.ensures.voxels (state_of tape) ks)) c.act_all.ensures.ok
 
 pub act_all-requires-clause-held : goal.act_all-requires-clause-held
 act_all-requires-clause-held c = held_high c.args.tape.now.harmonics _ c.requires.pair.high

@@ -9,23 +9,23 @@ use Rattle.group_planner.proofs.write.write_voxel.Goals as goal
 
 pub returns-in_ok-front_goes : goal.returns-in_ok-front_goes
 returns-in_ok-front_goes c =
-    let p = c.args.tape.now in
-    let q = c.front_goes.new.tape in
+    let tape = c.args.tape.now in
+    let tape_after_front_goes = c.front_goes.new.tape in
     let z = c.args.z in
-    let e = ap (λ (d : Coord). d.z) c.rear.ensures.value in
+    let same_z = ap (λ (d : Coord). d.z) c.rear.ensures.value in
     let at = ap (λ (d : Coord). d.z) c.in_ok-front_goes.ensures.front_is in
     on_ok_weaker c.front_writes.result
-    (λ w. wrote p q c.front_writes.new.tape (rear p) (put Z (front p) z) (moves (front p).z z) z (z + 1) 0 c.args.full c.in_ok-front_goes.ensures (sets_at q c.front_writes.new.tape (front q).z ((front q).z + 1) z (z + 1) c.args.full 0 at (ap (λ n. n + 1) at) w) (omega arith) refl refl (work_front (rear p).z (front p).z z (omega arith)) (back_front (rear p).z (front p).z z (omega arith)))
+    (λ w. wrote tape tape_after_front_goes c.front_writes.new.tape (rear tape) (put Z (front tape) z) (moves (front tape).z z) z (z + 1) 0 c.args.full c.in_ok-front_goes.ensures (sets_at tape_after_front_goes c.front_writes.new.tape (front tape_after_front_goes).z ((front tape_after_front_goes).z + 1) z (z + 1) c.args.full 0 at (ap (λ n. n + 1) at) w) (omega arith) refl refl (work_front (rear tape).z (front tape).z z (omega arith)) (back_front (rear tape).z (front tape).z z (omega arith)))
     c.front_writes.ensures
 
 pub returns-in_ok-rear_goes : goal.returns-in_ok-rear_goes
 returns-in_ok-rear_goes c =
-    let p = c.args.tape.now in
-    let q = c.rear_goes.new.tape in
+    let tape = c.args.tape.now in
+    let tape_after_rear_goes = c.rear_goes.new.tape in
     let z = c.args.z in
-    let e = ap (λ (d : Coord). d.z) c.rear.ensures.value in
+    let same_z = ap (λ (d : Coord). d.z) c.rear.ensures.value in
     let at = ap (λ (d : Coord). d.z) c.in_ok-rear_goes.ensures.rear_is in
     let order = c.requires.pair.in_row.order in
     on_ok_weaker c.rear_writes.result
-    (λ w. wrote p q c.rear_writes.new.tape (put Z (rear p) z) (front p) (moves (rear p).z z) z (z + 1) 0 c.args.full c.in_ok-rear_goes.ensures (sets_at q c.rear_writes.new.tape (rear q).z ((rear q).z + 1) z (z + 1) c.args.full 0 at (ap (λ n. n + 1) at) w) (omega arith) refl refl (work_rear (rear p).z (front p).z z (omega arith) order) (back_rear (rear p).z (front p).z z (omega arith) order))
+    (λ w. wrote tape tape_after_rear_goes c.rear_writes.new.tape (put Z (rear tape) z) (front tape) (moves (rear tape).z z) z (z + 1) 0 c.args.full c.in_ok-rear_goes.ensures (sets_at tape_after_rear_goes c.rear_writes.new.tape (rear tape_after_rear_goes).z ((rear tape_after_rear_goes).z + 1) z (z + 1) c.args.full 0 at (ap (λ n. n + 1) at) w) (omega arith) refl refl (work_rear (rear tape).z (front tape).z z (omega arith) order) (back_rear (rear tape).z (front tape).z z (omega arith) order))
     c.rear_writes.ensures

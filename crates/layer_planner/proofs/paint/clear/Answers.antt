@@ -12,31 +12,31 @@ use Rattle.layer_planner.proofs.Gaps.{next_layer}
 
 pub loop-y-preserved : goal.loop-y-preserved
 loop-y-preserved c =
-    let a = c.args.tape.now in
-    let b = c.loop-y.tape in
+    let tape = c.args.tape.now in
+    let tape_so_far = c.loop-y.tape in
     let inv = c.loop-y.invariant in
-    let r = a.matrix.resolution in
+    let resolution = tape.matrix.resolution in
     let y = c.loop-y.y in
-    let e = c.in_ok-paint_layer.ensures in
+    let paint_layer_ensured = c.in_ok-paint_layer.ensures in
     let same = inv.paints.resolution in
     let within = inv.within in
     let above : y - 1 + 1 ≡ y = omega arith in
-    let painted : Paints b c.paint_layer.new.tape c.args.nothing.now (layer (y - 1)) (coord 0 y 0) (coord r y 0) (r * row_bytes r) =
-    (subst (λ n. Paints b c.paint_layer.new.tape c.args.nothing.now (layer (y - 1)) (coord 0 n 0) (coord r n 0) (r * row_bytes r)) above (subst (λ n. Paints b c.paint_layer.new.tape c.args.nothing.now (layer (y - 1)) (coord 0 (y - 1 + 1) 0) (coord n (y - 1 + 1) 0) (n * row_bytes n)) same e)) in
+    let painted : Paints tape_so_far c.paint_layer.new.tape c.args.nothing.now (layer (y - 1)) (coord 0 y 0) (coord resolution y 0) (resolution * row_bytes resolution) =
+    (subst (λ n. Paints tape_so_far c.paint_layer.new.tape c.args.nothing.now (layer (y - 1)) (coord 0 n 0) (coord resolution n 0) (resolution * row_bytes resolution)) above (subst (λ n. Paints tape_so_far c.paint_layer.new.tape c.args.nothing.now (layer (y - 1)) (coord 0 (y - 1 + 1) 0) (coord n (y - 1 + 1) 0) (n * row_bytes n)) same paint_layer_ensured)) in
     record {
-      paints = paints_to a c.paint_layer.new.tape c.args.nothing.now (from_layer (y - 1)) (top a.matrix) (coord r y 0) (coord 0 (y - 1) 0) ((r - 1 - y) * layer_bytes r + r * row_bytes r) (r + 2) ((r - 1 - (y - 1)) * layer_bytes r)
-          (paints_more a b c.paint_layer.new.tape c.args.nothing.now (from_layer y) (layer (y - 1)) (from_layer (y - 1)) (top a.matrix) (coord 0 y 0) (coord r y 0) ((r - 1 - y) * layer_bytes r) (r * row_bytes r) ((r - 1 - y) * layer_bytes r + r * row_bytes r) inv.paints painted (λ d. from_layer-more y d (omega arith)) (omega arith))
-          (next_layer r y (y - 1) (omega arith) (omega arith) (omega arith)) (let less = one_layer_less r y (layer_bytes r) (omega arith) inv.within in omega arith);
+      paints = paints_to tape c.paint_layer.new.tape c.args.nothing.now (from_layer (y - 1)) (top tape.matrix) (coord resolution y 0) (coord 0 (y - 1) 0) ((resolution - 1 - y) * layer_bytes resolution + resolution * row_bytes resolution) (resolution + 2) ((resolution - 1 - (y - 1)) * layer_bytes resolution)
+          (paints_more tape tape_so_far c.paint_layer.new.tape c.args.nothing.now (from_layer y) (layer (y - 1)) (from_layer (y - 1)) (top tape.matrix) (coord 0 y 0) (coord resolution y 0) ((resolution - 1 - y) * layer_bytes resolution) (resolution * row_bytes resolution) ((resolution - 1 - y) * layer_bytes resolution + resolution * row_bytes resolution) inv.paints painted (λ d. from_layer-more y d (omega arith)) (omega arith))
+          (next_layer resolution y (y - 1) (omega arith) (omega arith) (omega arith)) (let less = one_layer_less resolution y (layer_bytes resolution) (omega arith) inv.within in omega arith);
       within = omega arith;
       low = omega arith;
     }
 
 pub returns : goal.returns
 returns c =
-    let a = c.args.tape.now in
+    let tape = c.args.tape.now in
     let y = c.loop-y.y in
     let inv = c.loop-y.invariant in
-    let r = a.matrix.resolution in
-    let down : y ≡ c.args.low = let l = inv.low in omega arith in
-    subst (λ n. Paints a c.loop-y.tape c.args.nothing.now (from_layer n) (top a.matrix) (coord 0 n 0) ((r - 1) * layer_bytes r)) down
-    (paints_few a c.loop-y.tape c.args.nothing.now (from_layer y) (top a.matrix) (coord 0 y 0) _ _ inv.paints (fewer_layers r y (layer_bytes r)))
+    let resolution = tape.matrix.resolution in
+    let down : y ≡ c.args.low = let low = inv.low in omega arith in
+    subst (λ n. Paints tape c.loop-y.tape c.args.nothing.now (from_layer n) (top tape.matrix) (coord 0 n 0) ((resolution - 1) * layer_bytes resolution)) down
+    (paints_few tape c.loop-y.tape c.args.nothing.now (from_layer y) (top tape.matrix) (coord 0 y 0) _ _ inv.paints (fewer_layers resolution y (layer_bytes resolution)))

@@ -27,29 +27,29 @@ paint_row-requires-clause-ready c =
 
 pub loop-x-preserved : goal.loop-x-preserved
 loop-x-preserved c =
-    let a = c.args.tape.now in
-    let b = c.loop-x.tape in
+    let tape = c.args.tape.now in
+    let tape_so_far = c.loop-x.tape in
     let x = c.loop-x.x in
     let y = c.args.y in
-    let r = a.matrix.resolution in
+    let resolution = tape.matrix.resolution in
     let inv = c.loop-x.invariant.paints in
-    let high : y + 1 < r = c.requires.ready.within in
-    let painted : Paints b c.paint_row.new.tape c.args.goal.now (is_in_line x y) (coord x (y + 1) 0) (coord x (y + 1) r) (3 * r) =
-    subst (λ n. Paints b c.paint_row.new.tape c.args.goal.now (is_in_line x y) (coord x (y + 1) 0) (coord x (y + 1) n) (3 * n)) inv.resolution c.in_ok-paint_row.ensures in
+    let high : y + 1 < resolution = c.requires.ready.within in
+    let painted : Paints tape_so_far c.paint_row.new.tape c.args.goal.now (is_in_line x y) (coord x (y + 1) 0) (coord x (y + 1) resolution) (3 * resolution) =
+    subst (λ n. Paints tape_so_far c.paint_row.new.tape c.args.goal.now (is_in_line x y) (coord x (y + 1) 0) (coord x (y + 1) n) (3 * n)) inv.resolution c.in_ok-paint_row.ensures in
     record {
-      paints = paints_to a c.paint_row.new.tape c.args.goal.now (in_layer (x + 1) y) (coord 0 (y + 1) 0) (coord x (y + 1) r) (coord (x + 1) (y + 1) 0) (x * row_bytes r + 3 * r) (r + 2) ((x + 1) * row_bytes r)
-          (paints_more a b c.paint_row.new.tape c.args.goal.now (in_layer x y) (is_in_line x y) (in_layer (x + 1) y) (coord 0 (y + 1) 0) (coord x (y + 1) 0) (coord x (y + 1) r) (x * row_bytes r) (3 * r) (x * row_bytes r + 3 * r) inv painted (λ d. in_layer-more x y d) (omega arith))
-          (next_row x (y + 1) r (omega arith)) (row_more x r);
+      paints = paints_to tape c.paint_row.new.tape c.args.goal.now (in_layer (x + 1) y) (coord 0 (y + 1) 0) (coord x (y + 1) resolution) (coord (x + 1) (y + 1) 0) (x * row_bytes resolution + 3 * resolution) (resolution + 2) ((x + 1) * row_bytes resolution)
+          (paints_more tape tape_so_far c.paint_row.new.tape c.args.goal.now (in_layer x y) (is_in_line x y) (in_layer (x + 1) y) (coord 0 (y + 1) 0) (coord x (y + 1) 0) (coord x (y + 1) resolution) (x * row_bytes resolution) (3 * resolution) (x * row_bytes resolution + 3 * resolution) inv painted (λ d. in_layer-more x y d) (omega arith))
+          (next_row x (y + 1) resolution (omega arith)) (row_more x resolution);
     }
 
 pub returns : goal.returns
 returns c =
-    let a = c.args.tape.now in
-    let b = c.loop-x.tape in
+    let tape = c.args.tape.now in
+    let tape_so_far = c.loop-x.tape in
     let y = c.args.y in
-    let r = a.matrix.resolution in
+    let resolution = tape.matrix.resolution in
     let same = c.requires.ready.sweep.same in
-    let last : c.loop-x.x ≡ r = omega arith in
-    let painted : Paints a b c.args.goal.now (in_layer r y) (coord 0 (y + 1) 0) (coord r (y + 1) 0) (r * row_bytes r) = subst (λ n. Paints a b c.args.goal.now (in_layer n y) (coord 0 (y + 1) 0) (coord n (y + 1) 0) (n * row_bytes r)) last c.loop-x.invariant.paints in
-    paints_as a b c.args.goal.now (in_layer r y) (layer y) (coord 0 (y + 1) 0) (coord r (y + 1) 0) (r * row_bytes r) painted
-    (whole_layer b.matrix a.matrix c.args.goal.now r painted.resolution refl same y painted.painted)
+    let last : c.loop-x.x ≡ resolution = omega arith in
+    let painted : Paints tape tape_so_far c.args.goal.now (in_layer resolution y) (coord 0 (y + 1) 0) (coord resolution (y + 1) 0) (resolution * row_bytes resolution) = subst (λ n. Paints tape tape_so_far c.args.goal.now (in_layer n y) (coord 0 (y + 1) 0) (coord n (y + 1) 0) (n * row_bytes resolution)) last c.loop-x.invariant.paints in
+    paints_as tape tape_so_far c.args.goal.now (in_layer resolution y) (layer y) (coord 0 (y + 1) 0) (coord resolution (y + 1) 0) (resolution * row_bytes resolution) painted
+    (whole_layer tape_so_far.matrix tape.matrix c.args.goal.now resolution painted.resolution refl same y painted.painted)

@@ -17,26 +17,26 @@ paint_voxel-requires-clause-ready c =
 
 pub loop-z-preserved : goal.loop-z-preserved
 loop-z-preserved c =
-    let a = c.args.tape.now in
-    let b = c.loop-z.tape in
+    let tape = c.args.tape.now in
+    let tape_so_far = c.loop-z.tape in
     let x = c.args.x in
     let y = c.args.y in
     let z = c.loop-z.z in
     record {
-      paints = paints_to a c.paint_voxel.new.tape c.args.goal.now (in_row x y (z + 1)) (coord x (y + 1) 0) (coord x (y + 1) z) (coord x (y + 1) (z + 1)) (3 * z + 1) 2 (3 * (z + 1))
-          (paints_more a b c.paint_voxel.new.tape c.args.goal.now (in_row x y z) (voxel x y z) (in_row x y (z + 1)) (coord x (y + 1) 0) (coord x (y + 1) z) (coord x (y + 1) z) (3 * z) 1 (3 * z + 1) c.loop-z.invariant.paints c.in_ok-paint_voxel.ensures (λ d. in_row-more x y z d) (omega arith))
+      paints = paints_to tape c.paint_voxel.new.tape c.args.goal.now (in_row x y (z + 1)) (coord x (y + 1) 0) (coord x (y + 1) z) (coord x (y + 1) (z + 1)) (3 * z + 1) 2 (3 * (z + 1))
+          (paints_more tape tape_so_far c.paint_voxel.new.tape c.args.goal.now (in_row x y z) (voxel x y z) (in_row x y (z + 1)) (coord x (y + 1) 0) (coord x (y + 1) z) (coord x (y + 1) z) (3 * z) 1 (3 * z + 1) c.loop-z.invariant.paints c.in_ok-paint_voxel.ensures (λ d. in_row-more x y z d) (omega arith))
           (next_voxel x (y + 1) z) (omega arith);
     }
 
 pub returns : goal.returns
 returns c =
-    let a = c.args.tape.now in
-    let b = c.loop-z.tape in
+    let tape = c.args.tape.now in
+    let tape_so_far = c.loop-z.tape in
     let x = c.args.x in
     let y = c.args.y in
-    let r = a.matrix.resolution in
+    let resolution = tape.matrix.resolution in
     let same = c.requires.ready.sweep.same in
-    let last : c.loop-z.z ≡ r = omega arith in
-    let painted : Paints a b c.args.goal.now (in_row x y r) (coord x (y + 1) 0) (coord x (y + 1) r) (3 * r) = subst (λ n. Paints a b c.args.goal.now (in_row x y n) (coord x (y + 1) 0) (coord x (y + 1) n) (3 * n)) last c.loop-z.invariant.paints in
-    paints_as a b c.args.goal.now (in_row x y r) (is_in_line x y) (coord x (y + 1) 0) (coord x (y + 1) r) (3 * r) painted
-    (whole_row b.matrix a.matrix c.args.goal.now r painted.resolution refl same x y painted.painted)
+    let last : c.loop-z.z ≡ resolution = omega arith in
+    let painted : Paints tape tape_so_far c.args.goal.now (in_row x y resolution) (coord x (y + 1) 0) (coord x (y + 1) resolution) (3 * resolution) = subst (λ n. Paints tape tape_so_far c.args.goal.now (in_row x y n) (coord x (y + 1) 0) (coord x (y + 1) n) (3 * n)) last c.loop-z.invariant.paints in
+    paints_as tape tape_so_far c.args.goal.now (in_row x y resolution) (is_in_line x y) (coord x (y + 1) 0) (coord x (y + 1) resolution) (3 * resolution) painted
+    (whole_row tape_so_far.matrix tape.matrix c.args.goal.now resolution painted.resolution refl same x y painted.painted)

@@ -16,13 +16,13 @@ close-requires-clause-legal c = subst IsLegal (sym c.in_ok-rebuild.ensures.rebui
 
 pub returns-clause-accepted : goal.returns-clause-accepted
 returns-clause-accepted c =
-    let t = c.rebuild.new.tape in
-    let k = c.in_ok-rebuild.ensures.rebuilt in
+    let tape_after_rebuild = c.rebuild.new.tape in
+    let rebuilt = c.in_ok-rebuild.ensures.rebuilt in
     let source = c.in_ok-rebuild.ensures.source ∙ (c.in_ok-tape.ensures.source ∙ c.in_ok-copy-2.ensures.value) in
-    accepted_to c.close.result t.source c.args.source.now t.matrix c.args.target.now t.profile full_profile source (λ q. ap (λ (m : Matrix). is_full m q) k.matrix) k.ready.full c.close.ensures.accepted
+    accepted_to c.close.result tape_after_rebuild.source c.args.source.now tape_after_rebuild.matrix c.args.target.now tape_after_rebuild.profile full_profile source (λ q. ap (λ (m : Matrix). is_full m q) rebuilt.matrix) rebuilt.ready.full c.close.ensures.accepted
 
 pub returns-clause-bytes : goal.returns-clause-bytes
-returns-clause-bytes c = IfOk-weaker c.close.result _ _ (λ plan e. let k = c.in_ok-rebuild.ensures.rebuilt.bytes_are in let same = c.requires.same in rw same (omega (arith, e, k))) c.close.ensures.bytes
+returns-clause-bytes c = IfOk-weaker c.close.result _ _ (λ plan e. let bytes_are = c.in_ok-rebuild.ensures.rebuilt.bytes_are in let same = c.requires.same in rw same (omega (arith, e, bytes_are))) c.close.ensures.bytes
 
 pub returns-clause-few : goal.returns-clause-few
 returns-clause-few c = few_made c.close.result c.args.source.now full_profile _ 1 (let none = c.in_ok-rebuild.ensures.rebuilt.ready.unsplit in omega (arith, none)) c.close.ensures.fissions

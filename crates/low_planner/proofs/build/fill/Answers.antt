@@ -12,19 +12,19 @@ use Rattle.low_planner.proofs.build.fill.Goals as goal
 
 pub fill-requires-clause-held : goal.fill-requires-clause-held
 fill-requires-clause-held c = λ _.
-    let a = c.args.tape.now in
-    let b = c.go_above.new.tape in
+    let tape = c.args.tape.now in
+    let tape_after_go_above = c.go_above.new.tape in
     let at = c.args.c in
     let went = c.in_ok-go_above.ensures in
-    let held = filled_is_grounded a.matrix at (lower_in_space a.matrix.resolution at c.requires.can_go.within) (c.recall_ready.ensures.held c.requires.can_go.working.low) c.requires.carried in
-    let here : beside b c.down.result ≡ at = ap (beside b) c.down.ensures ∙ below_spot b at went.there in
-    let same : with_voxel b.matrix (beside b c.down.result) true ≡ with_voxel a.matrix at true = (λ i. with_voxel (went.matrix i) (here i) true) in
+    let held = filled_is_grounded tape.matrix at (lower_in_space tape.matrix.resolution at c.requires.can_go.within) (c.recall_ready.ensures.held c.requires.can_go.working.low) c.requires.carried in
+    let here : beside tape_after_go_above c.down.result ≡ at = ap (beside tape_after_go_above) c.down.ensures ∙ below_spot tape_after_go_above at went.there in
+    let same : with_voxel tape_after_go_above.matrix (beside tape_after_go_above c.down.result) true ≡ with_voxel tape.matrix at true = (λ i. with_voxel (went.matrix i) (here i) true) in
     subst (λ (m : Matrix). FirstUngrounded m None) (sym same) held
 
 pub returns : goal.returns
 returns c =
-    let b = c.go_above.new.tape in
+    let tape_after_go_above = c.go_above.new.tape in
     on_ok_weaker c.fill.result
-    (λ (w : Writes b c.fill.new.self (Fill c.down.result) (with_voxel b.matrix (beside b c.down.result) true) b.harmonics b.bots _).
-    filled c.args.tape.now b c.fill.new.self c.args.c _ _ c.in_ok-go_above.ensures (rw c.down.ensures at w))
+    (λ (w : Writes tape_after_go_above c.fill.new.self (Fill c.down.result) (with_voxel tape_after_go_above.matrix (beside tape_after_go_above c.down.result) true) tape_after_go_above.harmonics tape_after_go_above.bots _).
+    filled c.args.tape.now tape_after_go_above c.fill.new.self c.args.c _ _ c.in_ok-go_above.ensures (rw c.down.ensures at w))
     c.fill.ensures.ok

@@ -14,10 +14,10 @@ use Rattle.plan_tape.proofs.ClearWays.{ways_to_border}
 
 pub go-requires-clause-ways : goal.go-requires-clause-ways
 go-requires-clause-ways c =
-    let m = c.args.target.now in
-    let p = c.args.tape in
-    let h = c.requires.finished in
-    ways_to_border p.matrix (spot p.bots) origin refl h.here (λ d e. h.made d ∙ void_at_border m c.requires.legal d e)
+    let target = c.args.target.now in
+    let tape = c.args.tape in
+    let finished = c.requires.finished in
+    ways_to_border tape.matrix (spot tape.bots) origin refl finished.here (λ d e. finished.made d ∙ void_at_border target c.requires.legal d e)
 
 pub go-requires-clause-limit : goal.go-requires-clause-limit
 go-requires-clause-limit c = let steps = steps_home c.args.target.now c.args.tape c.recall.ensures.whole.most c.requires.finished in omega arith
@@ -30,17 +30,17 @@ halt-requires-clause-limit c =
 
 pub returns-clause-accepted : goal.returns-clause-accepted
 returns-clause-accepted c =
-    let m = c.args.target.now in
-    let h = c.requires.finished in
+    let target = c.args.target.now in
+    let finished = c.requires.finished in
     let went = c.in_ok-go.ensures.works in
     let halted = c.in_ok-halt.ensures.ok in
     let plan = c.finish.result in
     let matrix : c.halt.new.self.matrix ≡ c.args.tape.matrix = halted.matrix ∙ went.matrix in
-    let alike : AreAlike c.halt.new.self.matrix m = λ d. ap (λ (k : Matrix). is_full k d) matrix ∙ h.made d in
-    let source : c.halt.new.self.source ≡ empty m.resolution = halted.source ∙ (went.source ∙ h.source) in
+    let alike : AreAlike c.halt.new.self.matrix target = λ d. ap (λ (k : Matrix). is_full k d) matrix ∙ finished.made d in
+    let source : c.halt.new.self.source ≡ empty target.resolution = halted.source ∙ (went.source ∙ finished.source) in
     let profile : c.halt.new.self.profile ≡ light_profile = halted.profile ∙ went.working.light in
-    subst (λ (k : Matrix). IsAccepted k m plan.commands light_profile plan.energy plan.steps) source
-    (subst (λ (k : Profile). IsAccepted c.halt.new.self.source m plan.commands k plan.energy plan.steps) profile (c.finish.ensures.accepted m alike))
+    subst (λ (k : Matrix). IsAccepted k target plan.commands light_profile plan.energy plan.steps) source
+    (subst (λ (k : Profile). IsAccepted c.halt.new.self.source target plan.commands k plan.energy plan.steps) profile (c.finish.ensures.accepted target alike))
 
 pub returns-clause-plain : goal.returns-clause-plain
 returns-clause-plain c =

@@ -11,10 +11,10 @@ past voxels places k i count e ec l u = get_or_past voxels (8 * k + i) false (om
 
 pub loop-k-preserved : goal.loop-k-preserved
 loop-k-preserved g c =
-    let m = c.args.planes.now in
-    let w = c.resolution-r.ensures.whole in
-    let places : c.volume-places.result ≡ volume m.resolution = c.volume-places.ensures ∙ ap volume c.resolution-r.ensures.value in
+    let planes = c.args.planes.now in
+    let resolution_whole = c.resolution-r.ensures.whole in
+    let places : c.volume-places.result ≡ volume planes.resolution = c.volume-places.ensures ∙ ap volume c.resolution-r.ensures.value in
     let pushed : c.push-in-loop-k.new.self.items ≡ c.loop-k.bytes.items ++ c.places-byte.result ∷ [] = search rules in
-    byte_pushed m.resolution m.voxels c.loop-k.k c.loop-k.bytes.items c.push-in-loop-k.new.self.items c.places-byte.result c.loop-k.invariant pushed
-    (byte_of m.voxels c.loop-k.k c.min.result c.places-byte.result (omega (arith, c.min.ensures)) c.places-byte.ensures.below c.places-byte.ensures.bits
-    (λ i l u. past m.voxels c.volume-places.result c.loop-k.k i c.min.result (w.voxels ∙ sym places) c.min.ensures l u))
+    byte_pushed planes.resolution planes.voxels c.loop-k.k c.loop-k.bytes.items c.push-in-loop-k.new.self.items c.places-byte.result c.loop-k.invariant pushed
+    (byte_of planes.voxels c.loop-k.k c.min.result c.places-byte.result (omega (arith, c.min.ensures)) c.places-byte.ensures.below c.places-byte.ensures.bits
+    (λ i l u. past planes.voxels c.volume-places.result c.loop-k.k i c.min.result (resolution_whole.voxels ∙ sym places) c.min.ensures l u))

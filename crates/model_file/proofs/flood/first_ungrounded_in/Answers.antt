@@ -21,21 +21,21 @@ pub spread-requires-clause-starts : goal.spread-requires-clause-starts
 spread-requires-clause-starts g c =
     let start : Flood = record { remaining = c.drop_heap.new.self; found = c.new.result } in
     let looks = c.in_ok-take_beside_all.ensures in
-    let t = looks.takes in
-    subst (λ (n : ℕ). All (IsStart n) c.take_beside_all.new.self.found.items) (sym t.resolution)
-    (found_starts (Grounded c.args.planes.now) start c.take_beside_all.new.self (All-same (IsStart c.drop_heap.new.self.resolution) c.new.result.items [] c.new.ensures.items (All-nil (IsStart c.drop_heap.new.self.resolution))) t)
+    let takes = looks.takes in
+    subst (λ (n : ℕ). All (IsStart n) c.take_beside_all.new.self.found.items) (sym takes.resolution)
+    (found_starts (Grounded c.args.planes.now) start c.take_beside_all.new.self (All-same (IsStart c.drop_heap.new.self.resolution) c.new.result.items [] c.new.ensures.items (All-nil (IsStart c.drop_heap.new.self.resolution))) takes)
 
 pub returns : goal.returns
 returns g c =
     let start : Flood = record { remaining = c.drop_heap.new.self; found = c.new.result } in
-    let m = c.args.planes.now in
-    let begun = flood_begun m start c.take_beside_all.new.self c.new.ensures.items (begun_dropped m start c.drop_heap.ensures.left c.drop_heap.ensures.resolution)
-    (floor_dropped m start c.drop_heap.ensures.left) c.in_ok-take_beside_all.ensures in
-    let done = c.in_ok-spread.ensures.reaches m begun in
+    let planes = c.args.planes.now in
+    let begun = flood_begun planes start c.take_beside_all.new.self c.new.ensures.items (begun_dropped planes start c.drop_heap.ensures.left c.drop_heap.ensures.resolution)
+    (floor_dropped planes start c.drop_heap.ensures.left) c.in_ok-take_beside_all.ensures in
+    let done = c.in_ok-spread.ensures.reaches planes begun in
     let left = c.spread.new.self.remaining in
     let least = subst (λ (r : ℕ). LeastOf r (is_full left) c.least_full.result) done.resolution c.least_full.ensures in
-    subst (λ (o : Option Coord). FirstUngrounded m o) (first_is m.resolution (is_full left) c.least_full.result least)
-    (left_is_ungrounded m c.spread.new.self (is_full left) done c.in_ok-spread.ensures.all (λ d t. t) (λ d t. t))
+    subst (λ (o : Option Coord). FirstUngrounded planes o) (first_is planes.resolution (is_full left) c.least_full.result least)
+    (left_is_ungrounded planes c.spread.new.self (is_full left) done c.in_ok-spread.ensures.all (λ d t. t) (λ d t. t))
 
 pub returns-then-is_heap : goal.returns-then-is_heap
 returns-then-is_heap g c = heap_is_grounded c.args.planes.now (c.is_heap.ensures.heap c.if-is_heap.true)

@@ -5,21 +5,21 @@ use Rattle.model_forge.proofs.rows.put_row.Goals as goal
 
 pub returns-then-y-tower-clause-forged : goal.returns-then-y-tower-clause-forged
 returns-then-y-tower-clause-forged c = λ number are begun.
-    let m = c.args.planes.now in
+    let planes = c.args.planes.now in
     let side : c.from-r.result ≡ c.args.planes.now.resolution = c.from-r.ensures ∙ c.resolution.ensures.value in
     let from : (c.from.result * c.from-r.result + c.from-2.result) * c.from-r.result + 1 ≡ row_place c.args.planes.now.resolution c.args.x c.args.y + 1 = λ i. (c.from.ensures i * side i + c.from-2.ensures i) * side i + 1 in
     let most : c.from-r.result - 2 ≡ length c.args.heights.now = omega (arith, side, c.requires.count) in
-    row_forged number c.args.tower m.resolution c.args.x c.args.y c.requires.x_low c.requires.x_high c.requires.y c.args.heights.now c.requires.count are m c.put_roof.new.planes _ from
+    row_forged number c.args.tower planes.resolution c.args.x c.args.y c.requires.x_low c.requires.x_high c.requires.y c.args.heights.now c.requires.count are planes c.put_roof.new.planes _ from
     refl (c.put_roof.ensures.resolution ∙ c.put_columns.ensures.resolution)
-    (roofed number c.args.tower m.resolution c.args.x c.args.y c.requires.x_low c.requires.x_high c.requires.y c.args.heights.now c.requires.count are m c.put_roof.new.planes _ from
+    (roofed number c.args.tower planes.resolution c.args.x c.args.y c.requires.x_low c.requires.x_high c.requires.y c.args.heights.now c.requires.count are planes c.put_roof.new.planes _ from
     c.put_columns.new.planes _ most c.if-y-tower.true c.put_columns.ensures.places c.put_roof.ensures.places) begun
 
 pub returns-else-y-tower-clause-forged : goal.returns-else-y-tower-clause-forged
 returns-else-y-tower-clause-forged c = λ number are begun.
-    let m = c.args.planes.now in
+    let planes = c.args.planes.now in
     let side : c.from-r.result ≡ c.args.planes.now.resolution = c.from-r.ensures ∙ c.resolution.ensures.value in
     let from : (c.from.result * c.from-r.result + c.from-2.result) * c.from-r.result + 1 ≡ row_place c.args.planes.now.resolution c.args.x c.args.y + 1 = λ i. (c.from.ensures i * side i + c.from-2.ensures i) * side i + 1 in
-    row_forged number c.args.tower m.resolution c.args.x c.args.y c.requires.x_low c.requires.x_high c.requires.y c.args.heights.now c.requires.count are m c.put_columns.new.planes _ from
+    row_forged number c.args.tower planes.resolution c.args.x c.args.y c.requires.x_low c.requires.x_high c.requires.y c.args.heights.now c.requires.count are planes c.put_columns.new.planes _ from
     refl c.put_columns.ensures.resolution
-    (unroofed number c.args.tower m.resolution c.args.x c.args.y c.requires.x_low c.requires.x_high c.requires.y c.args.heights.now c.requires.count are m c.put_columns.new.planes _ from
+    (unroofed number c.args.tower planes.resolution c.args.x c.args.y c.requires.x_low c.requires.x_high c.requires.y c.args.heights.now c.requires.count are planes c.put_columns.new.planes _ from
     c.if-y-tower.false c.put_columns.ensures.places) begun

@@ -7,8 +7,8 @@ use Rattle.plan_choice.proofs.crew.choose_crew_plan.Goals as goal
 
 pub returns : goal.returns
 returns c =
-    let s = c.args.source.now in
-    let t = c.args.target.now in
+    let source = c.args.source.now in
+    let target = c.args.target.now in
     let layer = c.in_ok-plan-2 in
     let group = c.in_ok-plan-3 in
     let void = c.in_ok-plan-4 in
@@ -25,9 +25,9 @@ returns c =
     record {
       plan = crew.plan;
       few_bytes = crew.few_bytes;
-      as_layer = cheaper_still IsLayerPlan s t it.plan.energy layer.plan.energy from_layer layer.ensures.as_layer;
-      as_group = λ fits. cheaper_still IsGroupPlan s t it.plan.energy group.plan.energy from_group (group.ensures.as_group fits);
-      as_void = λ there. cheaper_still IsVoidPlan s t it.plan.energy void.plan.energy from_void (void.ensures.as_void there);
-      as_low = λ here supported. cheaper_still IsLowPlan s t it.plan.energy low.plan.energy swarm_costs (low.ensures.as_low here supported);
+      as_layer = cheaper_still IsLayerPlan source target it.plan.energy layer.plan.energy from_layer layer.ensures.as_layer;
+      as_group = λ fits. cheaper_still IsGroupPlan source target it.plan.energy group.plan.energy from_group (group.ensures.as_group fits);
+      as_void = λ there. cheaper_still IsVoidPlan source target it.plan.energy void.plan.energy from_void (void.ensures.as_void there);
+      as_low = λ here supported. cheaper_still IsLowPlan source target it.plan.energy low.plan.energy swarm_costs (low.ensures.as_low here supported);
       as_swarm = it.ensures.as_swarm;
     }

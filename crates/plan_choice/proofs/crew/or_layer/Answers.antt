@@ -3,7 +3,7 @@ use Rattle.plan_choice.proofs.crew.or_layer.Goals as goal
 
 pub returns-clause-crew : goal.returns-clause-crew
 returns-clause-crew c =
-    let s = c.args.source.now in
-    let t = c.args.target.now in
+    let source = c.args.source.now in
+    let target = c.args.target.now in
     let other = c.in_ok-other.other in
-    either_crew s t c.args.plan other c.cheaper_of.result c.requires.crew (layer_crew s t other c.recall.ensures.whole.most c.in_ok-other.ensures) c.cheaper_of.ensures.either
+    either_crew source target c.args.plan other c.cheaper_of.result c.requires.crew (layer_crew source target other c.recall.ensures.whole.most c.in_ok-other.ensures) c.cheaper_of.ensures.either

@@ -11,21 +11,21 @@ use Rattle.plan_choice.proofs.plans.group_plan.Goals as goal
 
 pub returns : goal.returns
 returns c =
-    let s = c.args.source.now in
-    let t = c.args.target.now in
+    let source = c.args.source.now in
+    let target = c.args.target.now in
     let it = c.in_ok-plan-3.plan in
     let few = c.in_ok-plan-2.ensures in
     let lowered = c.in_ok-plan-3.ensures in
-    let two : HasAtMost s full_profile c.in_ok-plan-2.plan.commands c.group_bounds-most.result.bots = few.stands.bots (subst (λ n. HasAtMost s full_profile c.in_ok-plan.plan.commands n) (sym c.group_bounds-most.ensures.bots) c.in_ok-plan.ensures.few) in
-    let low = lowered.stands.bots (subst (λ (p : Profile). HasAtMost s p c.in_ok-plan-2.plan.commands c.group_bounds-most.result.bots) (sym c.full-profile.ensures) two) in
-    let steps : it.steps ≤ most_group_steps s t = search rules in
-    let commands : length it.commands ≤ 2 * most_group_steps s t = search rules in
-    let bytes : length (spellings it.commands) ≤ most_bytes s t = search rules in
+    let two : HasAtMost source full_profile c.in_ok-plan-2.plan.commands c.group_bounds-most.result.bots = few.stands.bots (subst (λ n. HasAtMost source full_profile c.in_ok-plan.plan.commands n) (sym c.group_bounds-most.ensures.bots) c.in_ok-plan.ensures.few) in
+    let low = lowered.stands.bots (subst (λ (p : Profile). HasAtMost source p c.in_ok-plan-2.plan.commands c.group_bounds-most.result.bots) (sym c.full-profile.ensures) two) in
+    let steps : it.steps ≤ most_group_steps source target = search rules in
+    let commands : length it.commands ≤ 2 * most_group_steps source target = search rules in
+    let bytes : length (spellings it.commands) ≤ most_bytes source target = search rules in
     record {
       plan = record {
         are_commands = subst AreCommands c.as_slice.ensures c.recall_all.ensures;
-        accepted = subst (λ (p : Profile). IsAccepted s t it.commands p it.energy it.steps) c.full-profile.ensures lowered.stands.accepted;
-        few_bots = subst (λ n. HasAtMost s full_profile it.commands n) c.group_bounds-most.ensures.bots (subst (λ (p : Profile). HasAtMost s p it.commands c.group_bounds-most.result.bots) c.full-profile.ensures low);
+        accepted = subst (λ (p : Profile). IsAccepted source target it.commands p it.energy it.steps) c.full-profile.ensures lowered.stands.accepted;
+        few_bots = subst (λ n. HasAtMost source full_profile it.commands n) c.group_bounds-most.ensures.bots (subst (λ (p : Profile). HasAtMost source p it.commands c.group_bounds-most.result.bots) c.full-profile.ensures low);
         halt_alone = λ same. alone_stays _ _ (alone_stays _ _ (c.in_ok-plan.ensures.halt_alone same) few.alone) lowered.alone;
       };
       few_steps = steps;

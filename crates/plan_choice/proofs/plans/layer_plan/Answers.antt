@@ -9,20 +9,20 @@ use Rattle.plan_choice.proofs.plans.layer_plan.Goals as goal
 
 pub returns : goal.returns
 returns c =
-    let s = c.args.source.now in
+    let source = c.args.source.now in
     let first = c.in_ok-plan.plan in
     let it = c.in_ok-plan-4.plan in
     let lowered = c.in_ok-plan-2.ensures in
     let attached = c.in_ok-plan-3.ensures in
     let few = c.in_ok-plan-4.ensures in
-    let one = subst (λ (p : Profile). HasAtMost s p first.commands 1) (sym c.full-profile.ensures) c.in_ok-plan.ensures.few in
-    let short : length (spellings it.commands) ≤ 8 * s.resolution * s.resolution * s.resolution + 200 = search rules in
+    let one = subst (λ (p : Profile). HasAtMost source p first.commands 1) (sym c.full-profile.ensures) c.in_ok-plan.ensures.few in
+    let short : length (spellings it.commands) ≤ 8 * source.resolution * source.resolution * source.resolution + 200 = search rules in
     record {
       plan = record {
         are_commands = subst AreCommands c.as_slice.ensures c.recall_all.ensures;
         accepted = few.stands.accepted;
-        few_bots = few.stands.bots (subst (λ (p : Profile). HasAtMost s p c.in_ok-plan-3.plan.commands 1) c.full-profile.ensures (attached.stands.bots (lowered.stands.bots one)));
+        few_bots = few.stands.bots (subst (λ (p : Profile). HasAtMost source p c.in_ok-plan-3.plan.commands 1) c.full-profile.ensures (attached.stands.bots (lowered.stands.bots one)));
         halt_alone = λ same. alone_stays _ _ (alone_stays _ _ (alone_stays _ _ (c.in_ok-plan.ensures.halt_alone same) lowered.alone) attached.alone) few.alone;
       };
-      bytes = eight_each s.resolution (length (spellings it.commands)) short;
+      bytes = eight_each source.resolution (length (spellings it.commands)) short;
     }

@@ -9,17 +9,17 @@ use Rattle.plan_choice.proofs.plans.low_plan.Goals as goal
 
 pub returns-clause-plan : goal.returns-clause-plan
 returns-clause-plan c =
-    let t = c.args.target.now in
+    let target = c.args.target.now in
     let first = c.in_ok-plan.ensures in
     let it = c.in_ok-plan-2.plan in
     let attached = c.in_ok-plan-2.ensures in
-    let steps : it.steps ≤ 4 * full_count t + volume t.resolution + 200 = search rules in
+    let steps : it.steps ≤ 4 * full_count target + volume target.resolution + 200 = search rules in
     record {
       plan = record {
         are_commands = subst AreCommands c.as_slice.ensures c.recall_all.ensures;
-        accepted = c.full_accepts_what_light_accepts.ensures (empty t.resolution) t it.commands it.energy it.steps attached.stands.accepted;
+        accepted = c.full_accepts_what_light_accepts.ensures (empty target.resolution) target it.commands it.energy it.steps attached.stands.accepted;
         few_bots = attached.stands.bots first.few;
-        halt_alone = λ same. alone_stays _ _ (first.halt_alone (subst IsEmpty same (empty_is_void t.resolution))) attached.alone;
+        halt_alone = λ same. alone_stays _ _ (first.halt_alone (subst IsEmpty same (empty_is_void target.resolution))) attached.alone;
       };
       accepted_as_light = attached.stands.accepted;
       plain = attached.plain first.plain;

@@ -15,22 +15,22 @@ lower-requires-clause-grounded c = empty_is_grounded c.in_ok-nothing.nothing c.r
 
 pub returns : goal.returns
 returns c =
-    let t = c.args.target.now in
+    let target = c.args.target.now in
     let it = c.in_ok-plan-3.plan in
     let squads = c.in_ok-plan-2.ensures in
     let lowered = c.in_ok-plan-3.ensures in
-    let void : c.in_ok-nothing.nothing ≡ empty t.resolution = c.in_ok-nothing.ensures.value ∙ ap empty c.resolution-2.ensures.value in
+    let void : c.in_ok-nothing.nothing ≡ empty target.resolution = c.in_ok-nothing.ensures.value ∙ ap empty c.resolution-2.ensures.value in
     let few = squads.stands.bots c.in_ok-plan.ensures.few in
     let before = subst (λ (m : Matrix). HasAtMost m c.light-profile.result c.in_ok-plan-2.plan.commands 20) (sym void)
-    (subst (λ (p : Profile). HasAtMost (empty t.resolution) p c.in_ok-plan-2.plan.commands 20) (sym c.light-profile.ensures) few) in
-    let light = subst (λ (m : Matrix). IsAccepted m t it.commands light_profile it.energy it.steps) void
-    (subst (λ (p : Profile). IsAccepted c.in_ok-nothing.nothing t it.commands p it.energy it.steps) c.light-profile.ensures lowered.stands.accepted) in
-    let steps : it.steps ≤ 4 * width t.resolution * t.resolution * t.resolution + 8 * t.resolution + 2000 = search rules in
+    (subst (λ (p : Profile). HasAtMost (empty target.resolution) p c.in_ok-plan-2.plan.commands 20) (sym c.light-profile.ensures) few) in
+    let light = subst (λ (m : Matrix). IsAccepted m target it.commands light_profile it.energy it.steps) void
+    (subst (λ (p : Profile). IsAccepted c.in_ok-nothing.nothing target it.commands p it.energy it.steps) c.light-profile.ensures lowered.stands.accepted) in
+    let steps : it.steps ≤ 4 * width target.resolution * target.resolution * target.resolution + 8 * target.resolution + 2000 = search rules in
     record {
       plan = record {
         are_commands = subst AreCommands c.as_slice.ensures c.recall_all.ensures;
-        accepted = c.full_accepts_what_light_accepts.ensures (empty t.resolution) t it.commands it.energy it.steps light;
-        few_bots = subst (λ (p : Profile). HasAtMost (empty t.resolution) p it.commands 20) c.light-profile.ensures
+        accepted = c.full_accepts_what_light_accepts.ensures (empty target.resolution) target it.commands it.energy it.steps light;
+        few_bots = subst (λ (p : Profile). HasAtMost (empty target.resolution) p it.commands 20) c.light-profile.ensures
             (subst (λ (m : Matrix). HasAtMost m c.light-profile.result it.commands 20) void (lowered.stands.bots before));
         halt_alone = λ same. alone_stays _ _ (alone_stays _ _ (c.in_ok-plan.ensures.halt_alone (sym same)) squads.alone) lowered.alone;
       };

@@ -11,19 +11,19 @@ use Rattle.plan_choice.proofs.plans.void_plan.Goals as goal
 
 pub returns : goal.returns
 returns c =
-    let s = c.args.source.now in
+    let source = c.args.source.now in
     let first = c.in_ok-plan.plan in
     let it = c.in_ok-plan-3.plan in
     let lowered = c.in_ok-plan-2.ensures in
     let slabs = c.in_ok-plan-3.ensures in
-    let void : c.in_ok-nothing.nothing ≡ empty s.resolution = search rules in
-    let four = subst (λ (p : Profile). HasAtMost s p first.commands 4) (sym c.full-profile.ensures) c.in_ok-plan.ensures.few in
-    let steps : it.steps ≤ most_void_steps s.resolution = search rules in
+    let void : c.in_ok-nothing.nothing ≡ empty source.resolution = search rules in
+    let four = subst (λ (p : Profile). HasAtMost source p first.commands 4) (sym c.full-profile.ensures) c.in_ok-plan.ensures.few in
+    let steps : it.steps ≤ most_void_steps source.resolution = search rules in
     record {
       plan = record {
         are_commands = subst AreCommands c.as_slice.ensures c.recall_all.ensures;
-        accepted = subst (λ (m : Matrix). IsAccepted s m it.commands full_profile it.energy it.steps) void slabs.stands.accepted;
-        few_bots = slabs.stands.bots (subst (λ (p : Profile). HasAtMost s p c.in_ok-plan-2.plan.commands 4) c.full-profile.ensures (lowered.stands.bots four));
+        accepted = subst (λ (m : Matrix). IsAccepted source m it.commands full_profile it.energy it.steps) void slabs.stands.accepted;
+        few_bots = slabs.stands.bots (subst (λ (p : Profile). HasAtMost source p c.in_ok-plan-2.plan.commands 4) c.full-profile.ensures (lowered.stands.bots four));
         halt_alone = λ same. alone_stays _ _ (alone_stays _ _ (c.in_ok-plan.ensures.halt_alone same) lowered.alone) slabs.alone;
       };
       few_steps = steps;

@@ -19,12 +19,12 @@ flip-requires-clause-held c = λ low. grounded_at c.go.new.self.matrix c.args.ta
 
 pub returns-clause-accepted : goal.returns-clause-accepted
 returns-clause-accepted c = λ target alike.
-    let g = c.in_ok-go.ensures.ok in
-    let f = c.in_ok-flip.ensures.ok in
-    let h = c.in_ok-halt.ensures.ok in
-    subst (λ (k : Profile). IsAccepted c.args.tape.source target c.finish.result.commands k c.finish.result.energy c.finish.result.steps) (h.profile ∙ (f.profile ∙ g.profile))
-    (subst (λ (m : Matrix). IsAccepted m target c.finish.result.commands c.halt.new.self.profile c.finish.result.energy c.finish.result.steps) (h.source ∙ (f.source ∙ g.source))
-    (c.finish.ensures.accepted target (λ q. ap (λ (m : Matrix). is_full m q) (h.matrix ∙ (f.matrix ∙ g.matrix)) ∙ alike q)))
+    let go_ok = c.in_ok-go.ensures.ok in
+    let flip_ok = c.in_ok-flip.ensures.ok in
+    let halt_ok = c.in_ok-halt.ensures.ok in
+    subst (λ (k : Profile). IsAccepted c.args.tape.source target c.finish.result.commands k c.finish.result.energy c.finish.result.steps) (halt_ok.profile ∙ (flip_ok.profile ∙ go_ok.profile))
+    (subst (λ (m : Matrix). IsAccepted m target c.finish.result.commands c.halt.new.self.profile c.finish.result.energy c.finish.result.steps) (halt_ok.source ∙ (flip_ok.source ∙ go_ok.source))
+    (c.finish.ensures.accepted target (λ q. ap (λ (m : Matrix). is_full m q) (halt_ok.matrix ∙ (flip_ok.matrix ∙ go_ok.matrix)) ∙ alike q)))
 
 pub returns-clause-commands : goal.returns-clause-commands
 returns-clause-commands c =

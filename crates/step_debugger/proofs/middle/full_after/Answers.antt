@@ -28,8 +28,8 @@ bounds-next-i g c =
 pub edit_of-requires-clause-stays : goal.edit_of-requires-clause-stays
 edit_of-requires-clause-stays g c =
     let same = c.bots-bots.ensures.value ∙ c.crew.ensures.value in
-    let r = c.resolution.ensures.value ∙ ap (λ (m : Matrix). m.resolution) c.matrix-matrix.ensures.value in
-    subst (λ (n : ℕ). IsTrue (stays_in_space n (act (get_or c.bots-bots.result.now c.loop-i.i no_bot) c.index-next-i.result))) (sym r)
+    let resolution_is = c.resolution.ensures.value ∙ ap (λ (m : Matrix). m.resolution) c.matrix-matrix.ensures.value in
+    subst (λ (n : ℕ). IsTrue (stays_in_space n (act (get_or c.bots-bots.result.now c.loop-i.i no_bot) c.index-next-i.result))) (sym resolution_is)
     (stays_here c.args.machine.now.state c.args.next.now (c.args.machine.now.steps + 1) c.crew.ensures.ready c.requires.judged c.args.begun.now c.args.c c.requires.within
     c.bots-bots.result.now same c.loop-i.i c.loop-i-test.true (get_or c.bots-bots.result.now c.loop-i.i no_bot) no_bot c.index-next-i.result _ refl c.index-next-i.is)
 

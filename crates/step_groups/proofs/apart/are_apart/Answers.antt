@@ -16,13 +16,13 @@ pub loop-i-preserved : goal.loop-i-preserved
 loop-i-preserved c =
     let bots = c.args.bots.now in
     let i = c.loop-i.i in
-    let b = get_or bots i blank in
-    let k = c.index-commands-i.result in
+    let bot = get_or bots i blank in
+    let command = c.index-commands-i.result in
     record {
-      boxed = boxed_more _ _ (act b k) c.loop-i.hulls.items c.push.new.self.items c.as_slice.result.now c.as_slice-in-loop-i.result.now c.loop-i.all c.with_box-all.result c.own_hull-hull.result
+      boxed = boxed_more _ _ (act bot command) c.loop-i.hulls.items c.push.new.self.items c.as_slice.result.now c.as_slice-in-loop-i.result.now c.loop-i.all c.with_box-all.result c.own_hull-hull.result
           c.loop-i.invariant.boxed
-          (take_more bots c.args.commands.now i b k c.loop-i-test.true c.requires.lengths (get_or_default bots i blank b c.loop-i-test.true) c.index-commands-i.is)
+          (take_more bots c.args.commands.now i bot command c.loop-i-test.true c.requires.lengths (get_or_default bots i blank bot c.loop-i-test.true) c.index-commands-i.is)
           c.push.ensures.items c.as_slice.ensures.value c.as_slice-in-loop-i.ensures.value c.own_hull-hull.ensures
           (c.is_apart.ensures c.if-not-is_apart.false) c.with_box-all.ensures;
-      len = let l = c.push.ensures.len in let m = c.loop-i.invariant.len in omega arith;
+      len = let push_len = c.push.ensures.len in let len_so_far = c.loop-i.invariant.len in omega arith;
     }

@@ -9,8 +9,8 @@ use Rattle.step_groups.proofs.apart.is_apart.Goals as goal
 pub loop-j-preserved : goal.loop-j-preserved
 loop-j-preserved c = λ q h t.
     let others = c.args.others.now in
-    let k = c.index-others-j.result in
-    elim (in_more_boxes _ k q (sym (ap (λ ks. in_boxes ks q) (take_one others c.loop-j.j k c.loop-j-test.true c.index-others-j.is)) ∙ t)) [
+    let other = c.index-others-j.result in
+    elim (in_more_boxes _ other q (sym (ap (λ ks. in_boxes ks q) (take_one others c.loop-j.j other c.loop-j-test.true c.index-others-j.is)) ∙ t)) [
       | inl i ↦ c.loop-j.invariant q h i
-      | inr i ↦ none_of c.meets-in-loop-j.result ((d : Coord) → AreShared c.args.hull.now k d → ⊥) (sym c.is_some.ensures ∙ c.if-is_some.false) c.meets-in-loop-j.ensures.none q (h, i)
+      | inr i ↦ none_of c.meets-in-loop-j.result ((d : Coord) → AreShared c.args.hull.now other d → ⊥) (sym c.is_some.ensures ∙ c.if-is_some.false) c.meets-in-loop-j.ensures.none q (h, i)
     ]

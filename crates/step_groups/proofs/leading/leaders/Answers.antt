@@ -31,14 +31,14 @@ loop-i-preserved-then-from-i c =
     let lengths : length commands ≡ length bots = c.requires ∙ sym (ap length c.bots-bots.ensures.value) in
     let crew : IsCrew bots = subst (λ (bs : List Bot). IsCrew bs) (sym c.bots-bots.ensures.value) c.bots-bots.ensures.crew in
     let are : AreNumbers (acts bots commands) numbers = c.deref.ensures.0 ∙ c.number_groups-numbers.ensures in
-    let b = get_or bots i blank in
-    let k = get_or commands i Wait in
-    let here = get_or_default bots i blank b c.loop-i-test.true in
-    let there = get_or_default commands i Wait k (omega (arith, lengths, c.loop-i-test.true)) in
-    let behind = follows_by_number bots commands lengths crew numbers are i k c.loop-i-test.true there (λ e. c.if-from-i.true (c.from.ensures ∙ e)) in
+    let bot = get_or bots i blank in
+    let command = get_or commands i Wait in
+    let here = get_or_default bots i blank bot c.loop-i-test.true in
+    let there = get_or_default commands i Wait command (omega (arith, lengths, c.loop-i-test.true)) in
+    let behind = follows_by_number bots commands lengths crew numbers are i command c.loop-i-test.true there (λ e. c.if-from-i.true (c.from.ensures ∙ e)) in
     record {
-      bids = c.loop-i.invariant.bids ∙ sym (follows bots commands i b k c.loop-i-test.true lengths here there crew.rising behind);
-      len = let l = c.loop-i.invariant.len in omega arith;
+      bids = c.loop-i.invariant.bids ∙ sym (follows bots commands i bot command c.loop-i-test.true lengths here there crew.rising behind);
+      len = let len_so_far = c.loop-i.invariant.len in omega arith;
     }
 
 pub loop-i-preserved : goal.loop-i-preserved
@@ -50,12 +50,12 @@ loop-i-preserved c =
     let lengths : length commands ≡ length bots = c.requires ∙ sym (ap length c.bots-bots.ensures.value) in
     let crew : IsCrew bots = subst (λ (bs : List Bot). IsCrew bs) (sym c.bots-bots.ensures.value) c.bots-bots.ensures.crew in
     let are : AreNumbers (acts bots commands) numbers = c.deref.ensures.0 ∙ c.number_groups-numbers.ensures in
-    let b = get_or bots i blank in
-    let k = get_or commands i Wait in
-    let here = get_or_default bots i blank b c.loop-i-test.true in
-    let there = get_or_default commands i Wait k (omega (arith, lengths, c.loop-i-test.true)) in
-    let leads = leads_by_number bots commands lengths crew numbers are i k c.loop-i-test.true there (sym c.from.ensures ∙ c.if-from-i.false) in
+    let bot = get_or bots i blank in
+    let command = get_or commands i Wait in
+    let here = get_or_default bots i blank bot c.loop-i-test.true in
+    let there = get_or_default commands i Wait command (omega (arith, lengths, c.loop-i-test.true)) in
+    let leads = leads_by_number bots commands lengths crew numbers are i command c.loop-i-test.true there (sym c.from.ensures ∙ c.if-from-i.false) in
     record {
-      bids = c.push.ensures.items ∙ (ap (λ bids. bids ++ b.bid ∷ []) c.loop-i.invariant.bids ∙ sym (leads_one bots commands i b k c.loop-i-test.true lengths here there crew.rising leads));
-      len = let l = c.loop-i.invariant.len in let m = c.push.ensures.len in omega arith;
+      bids = c.push.ensures.items ∙ (ap (λ bids. bids ++ bot.bid ∷ []) c.loop-i.invariant.bids ∙ sym (leads_one bots commands i bot command c.loop-i-test.true lengths here there crew.rising leads));
+      len = let len_so_far = c.loop-i.invariant.len in let push_len = c.push.ensures.len in omega arith;
     }

@@ -23,20 +23,20 @@ returns-then-from-i-clause-groups c =
     let commands = c.args.commands.now in
     let numbers = c.args.numbers.now in
     let i = c.args.i in
-    let n = get_or numbers i 0 in
-    let b = get_or bots i blank in
-    let k = c.index-commands-i.result in
-    let here = get_or_default bots i blank b c.requires.i in
-    let follows = follows_by_number bots commands c.requires.lengths c.requires.crew numbers c.requires.numbers i k c.requires.i c.index-commands-i.is (λ e. c.if-from-i.true (c.from.ensures ∙ e)) in
-    none_here c.args.planes.now.resolution bots commands i b k c.requires.i c.requires.lengths here c.index-commands-i.is c.requires.crew.rising c.args.groups.now.items follows
+    let number = get_or numbers i 0 in
+    let bot = get_or bots i blank in
+    let command = c.index-commands-i.result in
+    let here = get_or_default bots i blank bot c.requires.i in
+    let follows = follows_by_number bots commands c.requires.lengths c.requires.crew numbers c.requires.numbers i command c.requires.i c.index-commands-i.is (λ e. c.if-from-i.true (c.from.ensures ∙ e)) in
+    none_here c.args.planes.now.resolution bots commands i bot command c.requires.i c.requires.lengths here c.index-commands-i.is c.requires.crew.rising c.args.groups.now.items follows
 
 pub returns-then-acts_alone-clause-groups : goal.returns-then-acts_alone-clause-groups
 returns-then-acts_alone-clause-groups c =
     let bots = c.args.bots.now in
     let i = c.args.i in
-    let b = get_or bots i blank in
+    let bot = get_or bots i blank in
     let lone = c.lone_group-group.ensures in
-    alone_here c.args.planes.now.resolution bots c.args.commands.now i b c.index-commands-i.result c.requires.i c.requires.lengths (get_or_default bots i blank b c.requires.i) c.index-commands-i.is c.requires.crew.rising
+    alone_here c.args.planes.now.resolution bots c.args.commands.now i bot c.index-commands-i.result c.requires.i c.requires.lengths (get_or_default bots i blank bot c.requires.i) c.index-commands-i.is c.requires.crew.rising
     c.args.groups.now.items c.push.new.self.items c.lone_group-group.result c.push.ensures.items (sym c.acts_alone.ensures ∙ c.if-acts_alone.true) lone.leader lone.members lone.boxes lone.space
 
 pub join-requires-clause-lengths : goal.join-requires-clause-lengths
@@ -53,13 +53,13 @@ join-requires-clause-members c =
     let commands = c.args.commands.now in
     let numbers = c.args.numbers.now in
     let i = c.args.i in
-    let n = get_or numbers i 0 in
-    let b = get_or bots i blank in
-    let k = c.index-commands-i.result in
-    let here = get_or_default bots i blank b c.requires.i in
-    let leads = leads_by_number bots commands c.requires.lengths c.requires.crew numbers c.requires.numbers i k c.requires.i c.index-commands-i.is (sym c.from.ensures ∙ c.if-from-i.false) in
-    let tell = tells_after bots commands c.requires.lengths c.requires.crew numbers c.requires.numbers i k c.requires.i c.index-commands-i.is in
-    let few = few_here c.args.planes.now.resolution bots commands i b k c.requires.i c.requires.lengths here c.index-commands-i.is c.requires.crew.rising numbers n tell leads c.requires.judged.few in
+    let number = get_or numbers i 0 in
+    let bot = get_or bots i blank in
+    let command = c.index-commands-i.result in
+    let here = get_or_default bots i blank bot c.requires.i in
+    let leads = leads_by_number bots commands c.requires.lengths c.requires.crew numbers c.requires.numbers i command c.requires.i c.index-commands-i.is (sym c.from.ensures ∙ c.if-from-i.false) in
+    let tell = tells_after bots commands c.requires.lengths c.requires.crew numbers c.requires.numbers i command c.requires.i c.index-commands-i.is in
+    let few = few_here c.args.planes.now.resolution bots commands i bot command c.requires.i c.requires.lengths here c.index-commands-i.is c.requires.crew.rising numbers number tell leads c.requires.judged.few in
     let one = ap length c.lone_group-group.ensures.members in
     omega (arith, one, few)
 
@@ -69,13 +69,13 @@ join-requires-clause-boxes c =
     let commands = c.args.commands.now in
     let numbers = c.args.numbers.now in
     let i = c.args.i in
-    let n = get_or numbers i 0 in
-    let b = get_or bots i blank in
-    let k = c.index-commands-i.result in
-    let here = get_or_default bots i blank b c.requires.i in
-    let leads = leads_by_number bots commands c.requires.lengths c.requires.crew numbers c.requires.numbers i k c.requires.i c.index-commands-i.is (sym c.from.ensures ∙ c.if-from-i.false) in
-    let tell = tells_after bots commands c.requires.lengths c.requires.crew numbers c.requires.numbers i k c.requires.i c.index-commands-i.is in
-    let few = few_here c.args.planes.now.resolution bots commands i b k c.requires.i c.requires.lengths here c.index-commands-i.is c.requires.crew.rising numbers n tell leads c.requires.judged.few in
+    let number = get_or numbers i 0 in
+    let bot = get_or bots i blank in
+    let command = c.index-commands-i.result in
+    let here = get_or_default bots i blank bot c.requires.i in
+    let leads = leads_by_number bots commands c.requires.lengths c.requires.crew numbers c.requires.numbers i command c.requires.i c.index-commands-i.is (sym c.from.ensures ∙ c.if-from-i.false) in
+    let tell = tells_after bots commands c.requires.lengths c.requires.crew numbers c.requires.numbers i command c.requires.i c.index-commands-i.is in
+    let few = few_here c.args.planes.now.resolution bots commands i bot command c.requires.i c.requires.lengths here c.index-commands-i.is c.requires.crew.rising numbers number tell leads c.requires.judged.few in
     omega (arith, c.lone_group-group.ensures.few, few)
 
 pub returns-clause-groups : goal.returns-clause-groups
@@ -84,13 +84,13 @@ returns-clause-groups c =
     let commands = c.args.commands.now in
     let numbers = c.args.numbers.now in
     let i = c.args.i in
-    let n = get_or numbers i 0 in
-    let b = get_or bots i blank in
-    let k = c.index-commands-i.result in
-    let here = get_or_default bots i blank b c.requires.i in
-    let leads = leads_by_number bots commands c.requires.lengths c.requires.crew numbers c.requires.numbers i k c.requires.i c.index-commands-i.is (sym c.from.ensures ∙ c.if-from-i.false) in
-    let tell = tells_after bots commands c.requires.lengths c.requires.crew numbers c.requires.numbers i k c.requires.i c.index-commands-i.is in
+    let number = get_or numbers i 0 in
+    let bot = get_or bots i blank in
+    let command = c.index-commands-i.result in
+    let here = get_or_default bots i blank bot c.requires.i in
+    let leads = leads_by_number bots commands c.requires.lengths c.requires.crew numbers c.requires.numbers i command c.requires.i c.index-commands-i.is (sym c.from.ensures ∙ c.if-from-i.false) in
+    let tell = tells_after bots commands c.requires.lengths c.requires.crew numbers c.requires.numbers i command c.requires.i c.index-commands-i.is in
     let lone = c.lone_group-group.ensures in
-    joined_here c.args.planes.now.resolution bots commands i b k c.requires.i c.requires.lengths here c.index-commands-i.is c.requires.crew.rising numbers n tell leads
+    joined_here c.args.planes.now.resolution bots commands i bot command c.requires.i c.requires.lengths here c.index-commands-i.is c.requires.crew.rising numbers number tell leads
     c.args.groups.now.items c.push-2.new.self.items c.lone_group-group.result c.join.new.group c.push-2.ensures.items lone.leader lone.members lone.boxes lone.space
     c.join.ensures.leader c.join.ensures.members c.join.ensures.boxes c.requires.within

@@ -14,14 +14,14 @@ pub returns-then-numbers-i : goal.returns-then-numbers-i
 returns-then-numbers-i c =
     let bots = c.args.bots.now in
     let i = c.args.i in
-    let b = get_or bots i blank in
-    sym (ap (λ xs. repeats (corner_list xs)) (without_it c.args.number bots c.args.commands.now c.args.numbers.now i b c.index-commands-i.result c.requires.i c.requires.lengths c.requires.numbers (get_or_default bots i blank b c.requires.i) c.index-commands-i.is (test_unequal _ _ c.if-numbers-i.true)))
+    let bot = get_or bots i blank in
+    sym (ap (λ xs. repeats (corner_list xs)) (without_it c.args.number bots c.args.commands.now c.args.numbers.now i bot c.index-commands-i.result c.requires.i c.requires.lengths c.requires.numbers (get_or_default bots i blank bot c.requires.i) c.index-commands-i.is (test_unequal _ _ c.if-numbers-i.true)))
 
 pub returns-in_default : goal.returns-in_default
 returns-in_default c =
     let bots = c.args.bots.now in
     let i = c.args.i in
-    let b = get_or bots i blank in
+    let bot = get_or bots i blank in
     let behind = with_number c.args.number (acts (drop (i + 1) bots) (drop (i + 1) c.args.commands.now)) (drop (i + 1) c.args.numbers.now) in
-    sym (ap (λ xs. repeats (corner_list xs)) (with_it c.args.number bots c.args.commands.now c.args.numbers.now i b c.index-commands-i.result c.requires.i c.requires.lengths c.requires.numbers (get_or_default bots i blank b c.requires.i) c.index-commands-i.is (test_equal _ _ c.if-numbers-i.false))
-    ∙ ap (λ corners. repeats (corners ++ corner_list behind)) (c.corner_of.ensures ∙ ap (at_corner (point b.pos)) c.in_default.is))
+    sym (ap (λ xs. repeats (corner_list xs)) (with_it c.args.number bots c.args.commands.now c.args.numbers.now i bot c.index-commands-i.result c.requires.i c.requires.lengths c.requires.numbers (get_or_default bots i blank bot c.requires.i) c.index-commands-i.is (test_equal _ _ c.if-numbers-i.false))
+    ∙ ap (λ corners. repeats (corners ++ corner_list behind)) (c.corner_of.ensures ∙ ap (at_corner (point bot.pos)) c.in_default.is))

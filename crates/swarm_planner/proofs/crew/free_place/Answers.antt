@@ -7,6 +7,6 @@ use Rattle.swarm_planner.proofs.crew.free_place.Goals as goal
 
 pub returns : goal.returns
 returns c =
-    let e = c.bots-bots.ensures.value ∙ c.crew.ensures.value in
+    let bots_is = c.bots-bots.ensures.value ∙ c.crew.ensures.value in
     let two = c.requires.two in
-    free_at c.bots-bots.result.now 1 _ (subst (λ (bs : List Bot). 2 ≤ length bs) (sym e) two) ∙ ap (λ (bs : List Bot). free_column 1 (places bs)) e
+    free_at c.bots-bots.result.now 1 _ (subst (λ (bs : List Bot). 2 ≤ length bs) (sym bots_is) two) ∙ ap (λ (bs : List Bot). free_column 1 (places bs)) bots_is

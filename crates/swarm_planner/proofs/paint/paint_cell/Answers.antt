@@ -8,9 +8,9 @@ use Rattle.vox_geom.specs.Point.{coord}
 
 pub returns-then-not-has_wanted : goal.returns-then-not-has_wanted
 returns-then-not-has_wanted c =
-    let p = c.args.tape.now in
-    let none : are_wanted p.matrix c.args.target.now (strip_row p.matrix.resolution (coord c.args.x (c.args.y + 1) c.args.z)) ≡ false = let h = c.has_wanted.ensures in let t = c.if-not-has_wanted.true in cc in
-    cell_already p c.args.target.now c.args.x c.args.y c.args.z c.requires.ready none
+    let tape = c.args.tape.now in
+    let none : are_wanted tape.matrix c.args.target.now (strip_row tape.matrix.resolution (coord c.args.x (c.args.y + 1) c.args.z)) ≡ false = let has_wanted_ensured = c.has_wanted.ensures in let not_has_wanted = c.if-not-has_wanted.true in cc in
+    cell_already tape c.args.target.now c.args.x c.args.y c.args.z c.requires.ready none
 
 pub returns : goal.returns
 returns c =

@@ -10,10 +10,10 @@ use Rattle.swarm_planner.proofs.plan.plan_from.Goals as goal
 
 pub open-requires-clause-some : goal.open-requires-clause-some
 open-requires-clause-some c =
-    let q = c.requires in
-    let w = wide_enough c.args.target.now c.args.nothing q.target c.recall-2.ensures.whole c.recall.ensures.whole q.same q.void q.differ in
-    let e = q.same in
-    omega (arith, w, e)
+    let required = c.requires in
+    let wide_enough_here = wide_enough c.args.target.now c.args.nothing required.target c.recall-2.ensures.whole c.recall.ensures.whole required.same required.void required.differ in
+    let same = required.same in
+    omega (arith, wide_enough_here, same)
 
 pub close-requires-clause-legal : goal.close-requires-clause-legal
 close-requires-clause-legal c = subst IsLegal (sym c.in_ok-erect.ensures.erected.matrix) c.requires.target
@@ -26,9 +26,9 @@ close-requires-clause-limit c =
 
 pub returns-clause-accepted : goal.returns-clause-accepted
 returns-clause-accepted c =
-    let t = c.erect.new.tape in
-    let k = c.in_ok-erect.ensures in
-    accepted_to c.close.result t.source c.args.nothing t.matrix c.args.target.now t.profile light_profile (k.source ∙ c.in_ok-tape.ensures.source) (λ q. ap (λ (m : Matrix). is_full m q) k.erected.matrix) k.erected.swarm.light c.close.ensures.accepted
+    let tape_after_erect = c.erect.new.tape in
+    let erect_ensured = c.in_ok-erect.ensures in
+    accepted_to c.close.result tape_after_erect.source c.args.nothing tape_after_erect.matrix c.args.target.now tape_after_erect.profile light_profile (erect_ensured.source ∙ c.in_ok-tape.ensures.source) (λ q. ap (λ (m : Matrix). is_full m q) erect_ensured.erected.matrix) erect_ensured.erected.swarm.light c.close.ensures.accepted
 
 pub returns-clause-few : goal.returns-clause-few
 returns-clause-few c = IfOk-weaker c.close.result _ _ (λ plan k. c.seeds_bound_the_bots.ensures c.args.nothing light_profile plan.commands c.recall.ensures.whole k) c.close.ensures.are_commands

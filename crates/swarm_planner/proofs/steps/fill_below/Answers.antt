@@ -24,37 +24,37 @@ within m n bots old em eb h = subst (λ (k : Matrix). AllByRecursion (λ b. IsIn
 
 pub fills-requires-clause-within : goal.fills-requires-clause-within
 fills-requires-clause-within c =
-    let p = c.args.tape.now in
-    within c.matrix.result.now p.matrix c.bots.result.now p.bots c.matrix.ensures.value (c.bots.ensures.value ∙ c.crew.ensures.value) (bots_within p c.requires.swarm c.requires.row c.requires.up)
+    let tape = c.args.tape.now in
+    within c.matrix.result.now tape.matrix c.bots.result.now tape.bots c.matrix.ensures.value (c.bots.ensures.value ∙ c.crew.ensures.value) (bots_within tape c.requires.swarm c.requires.row c.requires.up)
 
 pub fill_all-requires-clause-commands : goal.fill_all-requires-clause-commands
 fill_all-requires-clause-commands c =
-    let p = c.args.tape.now in
-    ap length (c.deref.ensures.value ∙ (c.in_ok-commands.ensures ∙ are p c.matrix.result.now c.args.target.now c.bots.result.now c.matrix.ensures.value (c.bots.ensures.value ∙ c.crew.ensures.value))) ∙ fills_length p.matrix c.args.target.now p.bots
+    let tape = c.args.tape.now in
+    ap length (c.deref.ensures.value ∙ (c.in_ok-commands.ensures ∙ are tape c.matrix.result.now c.args.target.now c.bots.result.now c.matrix.ensures.value (c.bots.ensures.value ∙ c.crew.ensures.value))) ∙ fills_length tape.matrix c.args.target.now tape.bots
 
 pub fill_all-requires-clause-fills : goal.fill_all-requires-clause-fills
 fill_all-requires-clause-fills c =
-    let p = c.args.tape.now in
-    only_fills p c.requires.swarm c.requires.row c.requires.up c.args.target.now c.deref.result.now
-    (c.deref.ensures.value ∙ (c.in_ok-commands.ensures ∙ are p c.matrix.result.now c.args.target.now c.bots.result.now c.matrix.ensures.value (c.bots.ensures.value ∙ c.crew.ensures.value)))
+    let tape = c.args.tape.now in
+    only_fills tape c.requires.swarm c.requires.row c.requires.up c.args.target.now c.deref.result.now
+    (c.deref.ensures.value ∙ (c.in_ok-commands.ensures ∙ are tape c.matrix.result.now c.args.target.now c.bots.result.now c.matrix.ensures.value (c.bots.ensures.value ∙ c.crew.ensures.value)))
 
 pub fill_all-requires-clause-free : goal.fill_all-requires-clause-free
 fill_all-requires-clause-free c =
-    let p = c.args.tape.now in
-    fills_are_free p c.requires.swarm c.requires.row c.requires.up c.args.target.now c.deref.result.now
-    (c.deref.ensures.value ∙ (c.in_ok-commands.ensures ∙ are p c.matrix.result.now c.args.target.now c.bots.result.now c.matrix.ensures.value (c.bots.ensures.value ∙ c.crew.ensures.value)))
+    let tape = c.args.tape.now in
+    fills_are_free tape c.requires.swarm c.requires.row c.requires.up c.args.target.now c.deref.result.now
+    (c.deref.ensures.value ∙ (c.in_ok-commands.ensures ∙ are tape c.matrix.result.now c.args.target.now c.bots.result.now c.matrix.ensures.value (c.bots.ensures.value ∙ c.crew.ensures.value)))
 
 pub fill_all-requires-clause-held : goal.fill_all-requires-clause-held
 fill_all-requires-clause-held c =
-    let p = c.args.tape.now in
-    held_under_high (record (state_of p) { matrix = with_fills p.matrix (acts p.bots c.deref.result.now) }) p.harmonics refl c.requires.swarm.high
+    let tape = c.args.tape.now in
+    held_under_high (record (state_of tape) { matrix = with_fills tape.matrix (acts tape.bots c.deref.result.now) }) tape.harmonics refl c.requires.swarm.high
 
 pub returns : goal.returns
 returns c =
-    let p = c.args.tape.now in
-    let k = c.deref.result.now in
-    let e = c.deref.ensures.value ∙ (c.in_ok-commands.ensures ∙ are p c.matrix.result.now c.args.target.now c.bots.result.now c.matrix.ensures.value (c.bots.ensures.value ∙ c.crew.ensures.value)) in
+    let tape = c.args.tape.now in
+    let commands = c.deref.result.now in
+    let deref_is = c.deref.ensures.value ∙ (c.in_ok-commands.ensures ∙ are tape c.matrix.result.now c.args.target.now c.bots.result.now c.matrix.ensures.value (c.bots.ensures.value ∙ c.crew.ensures.value)) in
     on_ok_weaker c.fill_all.result
-    (λ (s : AllStep p c.fill_all.new.self k (with_fills p.matrix (acts p.bots k)) p.harmonics p.bots).
-    has_filled p c.requires.swarm c.requires.row c.requires.up c.args.target.now c.deref.result.now e c.fill_all.new.self c.requires.same s)
+    (λ (s : AllStep tape c.fill_all.new.self commands (with_fills tape.matrix (acts tape.bots commands)) tape.harmonics tape.bots).
+    has_filled tape c.requires.swarm c.requires.row c.requires.up c.args.target.now c.deref.result.now deref_is c.fill_all.new.self c.requires.same s)
     c.fill_all.ensures.ok

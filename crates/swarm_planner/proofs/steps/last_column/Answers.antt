@@ -7,6 +7,6 @@ use Rattle.swarm_planner.proofs.steps.last_column.Goals as goal
 
 pub returns-clause-value : goal.returns-clause-value
 returns-clause-value c =
-    let e = c.bots-bots.ensures.value ∙ c.crew.ensures.value in
+    let bots_is = c.bots-bots.ensures.value ∙ c.crew.ensures.value in
     let some = c.requires.some in
-    last_at c.bots-bots.result.now _ (subst (λ (bs : List Bot). 1 ≤ length bs) (sym e) some) ∙ ap (λ (bs : List Bot). last_column (places bs)) e
+    last_at c.bots-bots.result.now _ (subst (λ (bs : List Bot). 1 ≤ length bs) (sym bots_is) some) ∙ ap (λ (bs : List Bot). last_column (places bs)) bots_is

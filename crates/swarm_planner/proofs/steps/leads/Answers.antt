@@ -13,7 +13,7 @@ nobody = record { bid = 0; pos = record { x = 0; y = 0; z = 0 }; seeds = 0 }
 
 head_near : (axis : Axis) (w l i : ℕ) (bots : List Bot) (c : Coord) → i < length bots → AreNear axis w l (drop i bots) c
     → IsNearOn axis (get_or bots i nobody).pos (held l c)
-head_near axis w l i bots c h n = let k = subst (λ (bs : List Bot). AreNear axis w l bs c) (drop_more bots i nobody h) n in k.0
+head_near axis w l i bots c h n = let near = subst (λ (bs : List Bot). AreNear axis w l bs c) (drop_more bots i nobody h) n in near.0
 
 pub lead-requires : goal.lead-requires
 lead-requires c =

@@ -6,32 +6,32 @@ use Rattle.swarm_planner.proofs.steps.move_row.Goals as goal
 
 pub leads-requires-clause-near : goal.leads-requires-clause-near
 leads-requires-clause-near c =
-    let p = c.args.tape.now in
-    let q = c.requires in
-    near_way p c.args.axis c.args.to c.resolution-r.result c.strip_width.result c.bots.result.now (c.resolution-r.ensures.value ∙ ap (λ m. m.resolution) c.matrix.ensures.value) c.strip_width.ensures (c.bots.ensures.value ∙ c.crew.ensures.value)
-    (row_near p q.swarm q.row q.void c.args.axis c.args.to q.leads q.line q.near q.up)
+    let tape = c.args.tape.now in
+    let required = c.requires in
+    near_way tape c.args.axis c.args.to c.resolution-r.result c.strip_width.result c.bots.result.now (c.resolution-r.ensures.value ∙ ap (λ m. m.resolution) c.matrix.ensures.value) c.strip_width.ensures (c.bots.ensures.value ∙ c.crew.ensures.value)
+    (row_near tape required.swarm required.row required.void c.args.axis c.args.to required.leads required.line required.near required.up)
 
 pub move_all-requires-clause-commands : goal.move_all-requires-clause-commands
 move_all-requires-clause-commands c =
-    let p = c.args.tape.now in
-    let q = c.requires in
-    row_length p q.swarm q.row q.void c.args.axis c.args.to q.leads q.line q.near q.up c.deref.result.now
-    (c.deref.ensures.value ∙ (c.in_ok-commands.ensures ∙ same_way p c.args.axis c.args.to c.resolution-r.result c.strip_width.result c.bots.result.now (c.resolution-r.ensures.value ∙ ap (λ m. m.resolution) c.matrix.ensures.value) c.strip_width.ensures (c.bots.ensures.value ∙ c.crew.ensures.value)))
+    let tape = c.args.tape.now in
+    let required = c.requires in
+    row_length tape required.swarm required.row required.void c.args.axis c.args.to required.leads required.line required.near required.up c.deref.result.now
+    (c.deref.ensures.value ∙ (c.in_ok-commands.ensures ∙ same_way tape c.args.axis c.args.to c.resolution-r.result c.strip_width.result c.bots.result.now (c.resolution-r.ensures.value ∙ ap (λ m. m.resolution) c.matrix.ensures.value) c.strip_width.ensures (c.bots.ensures.value ∙ c.crew.ensures.value)))
 
 pub move_all-requires-clause-moves : goal.move_all-requires-clause-moves
 move_all-requires-clause-moves c =
-    let p = c.args.tape.now in
-    let q = c.requires in
-    row_can p q.swarm q.row q.void c.args.axis c.args.to q.leads q.line q.near q.up c.deref.result.now
-    (c.deref.ensures.value ∙ (c.in_ok-commands.ensures ∙ same_way p c.args.axis c.args.to c.resolution-r.result c.strip_width.result c.bots.result.now (c.resolution-r.ensures.value ∙ ap (λ m. m.resolution) c.matrix.ensures.value) c.strip_width.ensures (c.bots.ensures.value ∙ c.crew.ensures.value)))
+    let tape = c.args.tape.now in
+    let required = c.requires in
+    row_can tape required.swarm required.row required.void c.args.axis c.args.to required.leads required.line required.near required.up c.deref.result.now
+    (c.deref.ensures.value ∙ (c.in_ok-commands.ensures ∙ same_way tape c.args.axis c.args.to c.resolution-r.result c.strip_width.result c.bots.result.now (c.resolution-r.ensures.value ∙ ap (λ m. m.resolution) c.matrix.ensures.value) c.strip_width.ensures (c.bots.ensures.value ∙ c.crew.ensures.value)))
 
 pub returns : goal.returns
 returns c =
-    let p = c.args.tape.now in
-    let q = c.requires in
-    let k = c.deref.result.now in
+    let tape = c.args.tape.now in
+    let required = c.requires in
+    let commands = c.deref.result.now in
     on_ok_weaker c.move_all.result
-    (λ (s : AllStep p c.move_all.new.self k p.matrix p.harmonics (bots_gone p.bots k)).
-    row_goes p q.swarm q.row q.void c.args.axis c.args.to q.leads q.line q.near q.up c.move_all.new.self k
-    (c.deref.ensures.value ∙ (c.in_ok-commands.ensures ∙ same_way p c.args.axis c.args.to c.resolution-r.result c.strip_width.result c.bots.result.now (c.resolution-r.ensures.value ∙ ap (λ m. m.resolution) c.matrix.ensures.value) c.strip_width.ensures (c.bots.ensures.value ∙ c.crew.ensures.value))) s)
+    (λ (s : AllStep tape c.move_all.new.self commands tape.matrix tape.harmonics (bots_gone tape.bots commands)).
+    row_goes tape required.swarm required.row required.void c.args.axis c.args.to required.leads required.line required.near required.up c.move_all.new.self commands
+    (c.deref.ensures.value ∙ (c.in_ok-commands.ensures ∙ same_way tape c.args.axis c.args.to c.resolution-r.result c.strip_width.result c.bots.result.now (c.resolution-r.ensures.value ∙ ap (λ m. m.resolution) c.matrix.ensures.value) c.strip_width.ensures (c.bots.ensures.value ∙ c.crew.ensures.value))) s)
     c.move_all.ensures.ok

@@ -13,9 +13,9 @@ loop-i-preserved c = record {
   turns = λ commands e alone.
       let bots = c.args.bots.now in
       let i = c.loop-i.i in
-      let b = get_or bots i blank in
+      let bot = get_or bots i blank in
       subst (λ (ts : List Turn). AreTurns (acts bots commands) (take (i + 1) (acts bots commands)) ts) (sym (c.push.ensures.items ∙ ap (λ (t : Turn). c.loop-i.turns.items ++ t ∷ []) c.alone.ensures))
-      (lone_turn_more bots commands c.loop-i.turns.items i b e c.loop-i-test.true (get_or_default bots i blank b c.loop-i-test.true) alone (c.loop-i.invariant.turns commands e alone));
+      (lone_turn_more bots commands c.loop-i.turns.items i bot e c.loop-i-test.true (get_or_default bots i blank bot c.loop-i-test.true) alone (c.loop-i.invariant.turns commands e alone));
   len = c.push.ensures.len ∙ ap (λ n. n + 1) c.loop-i.invariant.len;
 }
 
@@ -23,5 +23,5 @@ pub returns : goal.returns
 returns c = λ commands e lone.
     let all = acts c.args.bots.now commands in
     subst (λ (xs : List Act). AreTurns all xs c.loop-i.turns.items) (sym lone.leads)
-    (subst (λ (xs : List Act). AreTurns all xs c.loop-i.turns.items) (take_whole c.loop-i.i all (let n : length all ≡ length c.args.bots.now = acts_length c.args.bots.now commands e in let m = c.loop-i-test.false in omega arith))
+    (subst (λ (xs : List Act). AreTurns all xs c.loop-i.turns.items) (take_whole c.loop-i.i all (let same_length : length all ≡ length c.args.bots.now = acts_length c.args.bots.now commands e in let at_end = c.loop-i-test.false in omega arith))
     (c.loop-i.invariant.turns commands e lone.alone))

@@ -22,8 +22,8 @@ returns-clause-full g c =
 
 pub returns-clause-touches : goal.returns-clause-touches
 returns-clause-touches g c =
-    let t = c.set_region-others.ensures.touches in
-    let v : c.size.result ≡ size (span c.args.edited.region) = c.size.ensures.value in
-    let n : c.size.result ≡ count_by (λ d. is_within (span c.args.edited.region) (point d)) (all_of c.args.matrix.now) = c.size.ensures.counts c.args.matrix.now.resolution c.requires.within in
-    let s : count_by (λ d. is_within (span c.args.edited.region) (point d)) (all_of c.args.matrix.now) ≡ size_in c.args.matrix.now (span c.args.edited.region) = same_size c.args.matrix.now c.args.edited.region (span c.args.edited.region) (λ p. refl) in
+    let touches = c.set_region-others.ensures.touches in
+    let size_is : c.size.result ≡ size (span c.args.edited.region) = c.size.ensures.value in
+    let counts : c.size.result ≡ count_by (λ d. is_within (span c.args.edited.region) (point d)) (all_of c.args.matrix.now) = c.size.ensures.counts c.args.matrix.now.resolution c.requires.within in
+    let count_is : count_by (λ d. is_within (span c.args.edited.region) (point d)) (all_of c.args.matrix.now) ≡ size_in c.args.matrix.now (span c.args.edited.region) = same_size c.args.matrix.now c.args.edited.region (span c.args.edited.region) (λ p. refl) in
     omega arith

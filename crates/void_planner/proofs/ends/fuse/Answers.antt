@@ -13,16 +13,16 @@ fuse_all-requires-clause-commands c = sym (ap (λ (bs : List Bot). length bs) c.
 
 pub fuse_all-requires-clause-free : goal.fuse_all-requires-clause-free
 fuse_all-requires-clause-free c =
-    let p = c.args.tape.now in
-    fuse_free p (spot p.bots) c.ahead.result c.behind.result c.requires.bots c.requires.full c.requires.stand c.ahead.ensures c.behind.ensures
+    let tape = c.args.tape.now in
+    fuse_free tape (spot tape.bots) c.ahead.result c.behind.result c.requires.bots c.requires.full c.requires.stand c.ahead.ensures c.behind.ensures
 
 pub returns : goal.returns
 returns c =
-    let p = c.args.tape.now in
-    let k = FusionP c.ahead.result ∷ FusionS c.behind.result ∷ [] in
-    let a = first p (spot p.bots) c.ahead.result c.behind.result c.requires.bots c.requires.full c.requires.stand c.ahead.ensures c.behind.ensures in
-    let b = second p (spot p.bots) c.ahead.result c.behind.result c.requires.bots c.requires.full c.requires.stand c.ahead.ensures c.behind.ensures in
-    let h = successors_as p.bots (two (spot p.bots)) k a _ c.requires.bots (c.fuse_all.ensures.primary a b (contains_as p.bots (two (spot p.bots)) k a c.requires.bots (0, lit< tt, refl)) (contains_as p.bots (two (spot p.bots)) k b c.requires.bots (1, lit< tt, refl)) (fuse_pair p (spot p.bots) c.ahead.result c.behind.result c.requires.bots c.requires.full c.requires.stand c.ahead.ensures c.behind.ensures)) in
+    let tape = c.args.tape.now in
+    let commands_here = FusionP c.ahead.result ∷ FusionS c.behind.result ∷ [] in
+    let first_here = first tape (spot tape.bots) c.ahead.result c.behind.result c.requires.bots c.requires.full c.requires.stand c.ahead.ensures c.behind.ensures in
+    let second_here = second tape (spot tape.bots) c.ahead.result c.behind.result c.requires.bots c.requires.full c.requires.stand c.ahead.ensures c.behind.ensures in
+    let successors_as_here = successors_as tape.bots (two (spot tape.bots)) commands_here first_here _ c.requires.bots (c.fuse_all.ensures.primary first_here second_here (contains_as tape.bots (two (spot tape.bots)) commands_here first_here c.requires.bots (0, lit< tt, refl)) (contains_as tape.bots (two (spot tape.bots)) commands_here second_here c.requires.bots (1, lit< tt, refl)) (fuse_pair tape (spot tape.bots) c.ahead.result c.behind.result c.requires.bots c.requires.full c.requires.stand c.ahead.ensures c.behind.ensures)) in
     on_ok_weaker c.fuse_all.result
-    (λ (s : AllStep p c.fuse_all.new.self k p.matrix p.harmonics (bots_fused p.bots k)). becomes p c.fuse_all.new.self k (bots_fused p.bots k) (one (spot p.bots)) 0 refl (fuse_makes p (spot p.bots) c.ahead.result c.behind.result c.requires.bots c.requires.full c.requires.stand c.ahead.ensures c.behind.ensures h) c.requires.high c.requires.full s)
+    (λ (s : AllStep tape c.fuse_all.new.self commands_here tape.matrix tape.harmonics (bots_fused tape.bots commands_here)). becomes tape c.fuse_all.new.self commands_here (bots_fused tape.bots commands_here) (one (spot tape.bots)) 0 refl (fuse_makes tape (spot tape.bots) c.ahead.result c.behind.result c.requires.bots c.requires.full c.requires.stand c.ahead.ensures c.behind.ensures successors_as_here) c.requires.high c.requires.full s)
     c.fuse_all.ensures.ok

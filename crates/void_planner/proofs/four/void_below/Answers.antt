@@ -30,18 +30,18 @@ raised y h = omega arith
 
 pub paint_all-requires-clause-group : goal.paint_all-requires-clause-group
 paint_all-requires-clause-group c =
-    let p = c.args.tape.now in
-    let at = spot p.bots in
-    let q = c.requires.square in
-    let r = p.matrix.resolution in
-    let sx = q.stand.x in
-    let sy = q.stand.y in
-    let sz = q.stand.z in
-    let f = forth c.args.far r c.requires.far in
-    let b = back c.args.far r c.requires.far in
-    can_void p c.args.far at.x (at.y - 1) at.z _ _ _ _ _ _ _ _ q.full q.wide sx (omega arith) sz c.down.ensures c.down-2.ensures c.down-3.ensures c.down-4.ensures
-    (overs _ _ _ _ _ c.across.ensures f f) (overs _ _ _ _ _ c.across-2.ensures b f) (overs _ _ _ _ _ c.across-3.ensures b b) (overs _ _ _ _ _ c.across-4.ensures f b)
-    (q.bots_are ∙ ap (λ n. four (coord at.x n at.z) c.args.far c.args.far) (raised at.y c.requires.above))
+    let tape = c.args.tape.now in
+    let at = spot tape.bots in
+    let square = c.requires.square in
+    let resolution = tape.matrix.resolution in
+    let sx = square.stand.x in
+    let sy = square.stand.y in
+    let sz = square.stand.z in
+    let forth_here = forth c.args.far resolution c.requires.far in
+    let back_here = back c.args.far resolution c.requires.far in
+    can_void tape c.args.far at.x (at.y - 1) at.z _ _ _ _ _ _ _ _ square.full square.wide sx (omega arith) sz c.down.ensures c.down-2.ensures c.down-3.ensures c.down-4.ensures
+    (overs _ _ _ _ _ c.across.ensures forth_here forth_here) (overs _ _ _ _ _ c.across-2.ensures back_here forth_here) (overs _ _ _ _ _ c.across-3.ensures back_here back_here) (overs _ _ _ _ _ c.across-4.ensures forth_here back_here)
+    (square.bots_are ∙ ap (λ n. four (coord at.x n at.z) c.args.far c.args.far) (raised at.y c.requires.above))
 
 voided : (c : goal.After-paint_all) → ((region : Span) (full : Bool)
     → AreOneGroup (state_of c.args.tape.now) region full (acts c.args.tape.now.bots (GVoid c.down.result c.across.result ∷ GVoid c.down-2.result c.across-2.result ∷ GVoid c.down-3.result c.across-3.result ∷ GVoid c.down-4.result c.across-4.result ∷ []))
@@ -50,24 +50,24 @@ voided : (c : goal.After-paint_all) → ((region : Span) (full : Bool)
     → FourVoid c.args.tape.now c.paint_all.new.self c.args.far (tile c.args.far (coord (spot c.args.tape.now.bots).x ((spot c.args.tape.now.bots).y - 1) (spot c.args.tape.now.bots).z))
     (with_region c.args.tape.now.matrix (tile c.args.far (coord (spot c.args.tape.now.bots).x ((spot c.args.tape.now.bots).y - 1) (spot c.args.tape.now.bots).z)) false)
 voided c all =
-    let p = c.args.tape.now in
-    let at = spot p.bots in
-    let q = c.requires.square in
-    let r = p.matrix.resolution in
-    let sx = q.stand.x in
-    let sy = q.stand.y in
-    let sz = q.stand.z in
-    let f = forth c.args.far r c.requires.far in
-    let b = back c.args.far r c.requires.far in
+    let tape = c.args.tape.now in
+    let at = spot tape.bots in
+    let square = c.requires.square in
+    let resolution = tape.matrix.resolution in
+    let sx = square.stand.x in
+    let sy = square.stand.y in
+    let sz = square.stand.z in
+    let forth_here = forth c.args.far resolution c.requires.far in
+    let back_here = back c.args.far resolution c.requires.far in
     let up = raised at.y c.requires.above in
-    let bots = q.bots_are ∙ ap (λ n. four (coord at.x n at.z) c.args.far c.args.far) up in
-    let low : at.y - 1 < r = omega arith in
-    voided_together p c.args.far at.x (at.y - 1) at.z _ _ _ _ _ _ _ _ q.full q.wide sx low sz c.down.ensures c.down-2.ensures c.down-3.ensures c.down-4.ensures
-    (overs _ _ _ _ _ c.across.ensures f f) (overs _ _ _ _ _ c.across-2.ensures b f) (overs _ _ _ _ _ c.across-3.ensures b b) (overs _ _ _ _ _ c.across-4.ensures f b)
-    bots c.paint_all.new.self q.high (subst (λ n. CanStand p.matrix c.args.far c.args.far (coord at.x n at.z)) up q.stand)
+    let bots = square.bots_are ∙ ap (λ n. four (coord at.x n at.z) c.args.far c.args.far) up in
+    let low : at.y - 1 < resolution = omega arith in
+    voided_together tape c.args.far at.x (at.y - 1) at.z _ _ _ _ _ _ _ _ square.full square.wide sx low sz c.down.ensures c.down-2.ensures c.down-3.ensures c.down-4.ensures
+    (overs _ _ _ _ _ c.across.ensures forth_here forth_here) (overs _ _ _ _ _ c.across-2.ensures back_here forth_here) (overs _ _ _ _ _ c.across-3.ensures back_here back_here) (overs _ _ _ _ _ c.across-4.ensures forth_here back_here)
+    bots c.paint_all.new.self square.high (subst (λ n. CanStand tape.matrix c.args.far c.args.far (coord at.x n at.z)) up square.stand)
     (all (tile c.args.far (coord at.x (at.y - 1) at.z)) false
-    (voids_together p c.args.far at.x (at.y - 1) at.z _ _ _ _ _ _ _ _ q.full q.wide sx low sz c.down.ensures c.down-2.ensures c.down-3.ensures c.down-4.ensures
-    (overs _ _ _ _ _ c.across.ensures f f) (overs _ _ _ _ _ c.across-2.ensures b f) (overs _ _ _ _ _ c.across-3.ensures b b) (overs _ _ _ _ _ c.across-4.ensures f b)
+    (voids_together tape c.args.far at.x (at.y - 1) at.z _ _ _ _ _ _ _ _ square.full square.wide sx low sz c.down.ensures c.down-2.ensures c.down-3.ensures c.down-4.ensures
+    (overs _ _ _ _ _ c.across.ensures forth_here forth_here) (overs _ _ _ _ _ c.across-2.ensures back_here forth_here) (overs _ _ _ _ _ c.across-3.ensures back_here back_here) (overs _ _ _ _ _ c.across-4.ensures forth_here back_here)
     bots))
 
 pub returns : goal.returns

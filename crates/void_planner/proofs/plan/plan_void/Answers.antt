@@ -16,7 +16,7 @@ use Rattle.void_planner.proofs.Openings.{steps_fit, steps_home, void_all_over, v
 use Rattle.void_planner.proofs.plan.plan_void.Goals as goal
 
 not_both : (b : Bool) → b ≡ true → b ≡ false → ⊥
-not_both b e f = let g = sym e ∙ f in cc
+not_both b e f = let impossible = sym e ∙ f in cc
 
 -- ---- a Halt alone
 
@@ -70,10 +70,10 @@ close-requires-clause-limit c =
 
 pub returns-clause-accepted : goal.returns-clause-accepted
 returns-clause-accepted c =
-    let t = c.gather.new.tape in
-    let h = c.in_ok-gather.ensures in
-    let source = h.source ∙ (c.in_ok-void_all.ensures.clears.source ∙ (c.in_ok-spread.ensures.source ∙ (c.in_ok-tape.ensures.source ∙ c.in_ok-copy-2.ensures.value))) in
-    accepted_to c.close.result t.source c.args.source.now t.matrix (empty c.args.source.now.resolution) t.profile full_profile source (λ q. void_all_over t.matrix h.gathered.void q ∙ sym (empty_is_void c.args.source.now.resolution q)) h.gathered.full c.close.ensures.accepted
+    let tape_after_gather = c.gather.new.tape in
+    let gather_ensured = c.in_ok-gather.ensures in
+    let source = gather_ensured.source ∙ (c.in_ok-void_all.ensures.clears.source ∙ (c.in_ok-spread.ensures.source ∙ (c.in_ok-tape.ensures.source ∙ c.in_ok-copy-2.ensures.value))) in
+    accepted_to c.close.result tape_after_gather.source c.args.source.now tape_after_gather.matrix (empty c.args.source.now.resolution) tape_after_gather.profile full_profile source (λ q. void_all_over tape_after_gather.matrix gather_ensured.gathered.void q ∙ sym (empty_is_void c.args.source.now.resolution q)) gather_ensured.gathered.full c.close.ensures.accepted
 
 pub returns-clause-steps : goal.returns-clause-steps
 returns-clause-steps c =

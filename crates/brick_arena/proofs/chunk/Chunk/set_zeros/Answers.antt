@@ -7,8 +7,8 @@ use Rattle.brick_arena.proofs.chunk.Chunk.set_zeros.Goals as goal
 pub set_zeros-requires : goal.set_zeros-requires
 set_zeros-requires c =
     let words = c.self.inside.words in
-    let e : length c.args.self.now ≡ length words.words = ap length (sym c.self.view_is) ∙ known-length words.words in
-    omega (arith, e, c.requires, words.count)
+    let same_length : length c.args.self.now ≡ length words.words = ap length (sym c.self.view_is) ∙ known-length words.words in
+    omega (arith, same_length, c.requires, words.count)
 
 pub invariant_of-self : goal.invariant_of-self
 invariant_of-self c =

@@ -5,8 +5,8 @@ use Rattle.brick_arena.proofs.chunk.Chunk.word_behind.Goals as goal
 pub get_behind-requires : goal.get_behind-requires
 get_behind-requires g c =
     let ws = c.self.inside.words.words in
-    let e : length c.args.self.now ≡ length ws = ap length (sym c.self.view_is) ∙ known-length ws in
-    filled_at ws (c.args.index + c.args.behind) c.self.invariant.0 (omega (arith, e, c.requires))
+    let same_length : length c.args.self.now ≡ length ws = ap length (sym c.self.view_is) ∙ known-length ws in
+    filled_at ws (c.args.index + c.args.behind) c.self.invariant.0 (omega (arith, same_length, c.requires))
 
 pub returns-clause-value : goal.returns-clause-value
 returns-clause-value g c =

@@ -37,26 +37,26 @@ stayed = (stay_ref (0 ∷ []) tt (plain (λ _. R)), (stay_dropped (plain (λ _. 
 
 pub set_row_spec : {M : Type 1} → statement M
 set_row_spec 𝓤 𝓛 𝓜 𝓡 wired =
-    let c = f.clauses 𝓛 𝓜.mem 𝓡.returns in let W = walk_of 𝓛 f.ended stayed c in let 𝓣 = tables 𝓤 𝓛.H 𝓜 𝓡 𝓡.env in
-    proved 𝓛 f.ended stayed c 𝓜 𝓡 (Goes-ref 𝓛 1 0 tt (plain (λ _. R)), (Goes-dropped 𝓛 1 (plain (λ _. usize)) yes (λ κs x w. refl), (Goes-dropped 𝓛 1 (plain (λ _. u32)) yes (λ κs x w. refl), tt)))
+    let contract_here = f.clauses 𝓛 𝓜.mem 𝓡.returns in let walk = walk_of 𝓛 f.ended stayed contract_here in let all_tables = tables 𝓤 𝓛.H 𝓜 𝓡 𝓡.env in
+    proved 𝓛 f.ended stayed contract_here 𝓜 𝓡 (Goes-ref 𝓛 1 0 tt (plain (λ _. R)), (Goes-dropped 𝓛 1 (plain (λ _. usize)) yes (λ κs x w. refl), (Goes-dropped 𝓛 1 (plain (λ _. u32)) yes (λ κs x w. refl), tt)))
     f.Key.name code.function (code.unfolded 𝓤 𝓛.H 𝓜 𝓡 wired)
     (λ κs. (mut_vals, (uint_vals w64, (uint_vals w32, tt)))) (λ κs. (mut_Tells (named 0) κs.0 R, (uint_Tells w64, (uint_Tells w32, tt)))) (λ κs qs bounds a g are.
-    let b = a.0.ref_ptr.0 in let o = a.0.ref_ptr.1 in let h = a.0.now in let i : ℕ = a.1.0 in let w : ℕ = a.1.1.0 in
+    let block = a.0.ref_ptr.0 in let offset = a.0.ref_ptr.1 in let held = a.0.now in let i : ℕ = a.1.0 in let w : ℕ = a.1.1.0 in
     let fi : i < 2 ^ 64 = are.1.0.1 in let fw : w < 2 ^ 32 = are.1.1.0.1 in let typed = typed_line 8 w fw in
-    let y : W.Ghost = ((κs, qs, bounds, a, (mut_vals a.0, (uint_vals w64 i, (uint_vals w32 w, tt)))), tt) in
-    qed 𝓛 (((‵ (flft κs.0 qs.0) ⊛ ‵ ftrue) ⊛ ‵ (owns (MutRef (named 0) κs.0 R ∷ usize ∷ u32 ∷ []) a y.0.4)) ∷ raw (fact 𝓤 (i + 8 ≤ 32768)) ∷ []) ∵
+    let ghost : walk.Ghost = ((κs, qs, bounds, a, (mut_vals a.0, (uint_vals w64 i, (uint_vals w32 w, tt)))), tt) in
+    qed 𝓛 (((‵ (flft κs.0 qs.0) ⊛ ‵ ftrue) ⊛ ‵ (owns (MutRef (named 0) κs.0 R ∷ usize ∷ u32 ∷ []) a ghost.0.4)) ∷ raw (fact 𝓤 (i + 8 ≤ 32768)) ∷ []) ∵
     move ! (1 ∷ []) $ heard ! (i + 8 ≤ 32768) (λ li.
-    let lt : i + 8 ≤ length h.words = omega (arith, h.count) in let far : i * 4 < 2 ^ 64 = omega arith in
-    let new = record h { words = lined 8 w h.words i; count = length-lined 8 w h.words i lt ∙ h.count } in
+    let lt : i + 8 ≤ length held.words = omega (arith, held.count) in let far : i * 4 < 2 ^ 64 = omega arith in
+    let new = record held { words = lined 8 w held.words i; count = length-lined 8 w held.words i lt ∙ held.count } in
     split ! $ split ! $ move ! (2 ∷ []) $ fsplit ! $ keep ! (0 ∷ 2 ∷ []) $
     enter ! _ _ _ _ _ $ alloc_all ! (λ l. pass_all ! refl ((tt, tt), ((tt, record { fits = fi }), ((tt, record { fits = fw }), tt))) $
-    fsplit3 ! $ move ! (1 ∷ 2 ∷ 3 ∷ []) $ opens ! tt R b o (λ us.
-    move ! (1 ∷ []) $ peeks ! R _ (shows 𝓛 R) h us (λ is. fsplit ! $ move ! (1 ∷ []) $
-    in_a_block ! h.at (λ p. words_own p h.words) (id⊢ 𝓤 _) (λ b' o' e.
-    let word = lowers.val_is h us is ∙ ap (λ (p : Ptr). lowers.lowered (record h { at = p }) ∷ []) e in
-    let Cell = λ (ws : List Val). ‵ (cell_at full_share R.mir ws b o) in
+    fsplit3 ! $ move ! (1 ∷ 2 ∷ 3 ∷ []) $ opens ! tt R block offset (λ us.
+    move ! (1 ∷ []) $ peeks ! R _ (shows 𝓛 R) held us (λ is. fsplit ! $ move ! (1 ∷ []) $
+    in_a_block ! held.at (λ p. words_own p held.words) (id⊢ 𝓤 _) (λ b' o' e.
+    let word = lowers.val_is held us is ∙ ap (λ (p : Ptr). lowers.lowered (record held { at = p }) ∷ []) e in
+    let Cell = λ (ws : List Val). ‵ (cell_at full_share R.mir ws block offset) in
     rewrite ! 2 Cell word refl $
-    use1 𝓛 (‵ (froom (ty_array (ty_int w32) 8) b' (i * 4 + o')) ⊛ ‵ (Around 𝓛 b' 8 o' h.words i)) (line_out 𝓛 b' 8 o' h.words i lt) $ split ! $
+    use1 𝓛 (‵ (froom (ty_array (ty_int w32) 8) b' (i * 4 + o')) ⊛ ‵ (Around 𝓛 b' 8 o' held.words i)) (line_out 𝓛 b' 8 o' held.words i lt) $ split ! $
     -- [the room; the other places; what the fields own; the struct's cell; the open borrow, in three entries]
     first ! $ blocks ! $
     sets ! (of_opd ! (load ! (through ! refl (fld ! refl (stop !))) (look_in ! 3 (sub ! 0 refl (whole !))))) refl (tt, tt) $
@@ -65,12 +65,12 @@ set_row_spec 𝓤 𝓛 𝓜 𝓡 wired =
     sets ! (of_opd ! (get ! refl)) refl (tt, tt) $
     sets ! (rep ! 8 (get ! refl)) refl typed $
     assigns_last ! (of_opd ! (get ! refl)) (through ! refl (stop !)) (init ! 0 refl typed) $
-    exec ! 𝓣.C 𝓣.Λ (env code.Mir.locals l) (after 1 (code.function).body) (at_ret _ (W.post y)) $
+    exec ! all_tables.C all_tables.Λ (env code.Mir.locals l) (after 1 (code.function).body) (at_ret _ (walk.post ghost)) $
     sets ! (of_opd ! (unit_lit !)) refl (tt, tt) $
-    use2 𝓛 (‵ (word_places b' o' new.words)) (line_in 𝓛 b' 8 o' h.words i w lt) $
+    use2 𝓛 (‵ (word_places b' o' new.words)) (line_in 𝓛 b' 8 o' held.words i w lt) $
     rewrite ! 0 (λ (p : Ptr). ‵ (words_own p new.words)) (sym e) refl $ rewrite ! 2 Cell (sym word) refl $
-    move ! (1 ∷ []) $ fjoin ! $ move ! (1 ∷ []) $ closes ! tt R new us b o $
+    move ! (1 ∷ []) $ fjoin ! $ move ! (1 ∷ []) $ closes ! tt R new us block offset $
     returns ! (look_at ! 0 refl) $ free_all ! refl $ keep ! (0 ∷ 1 ∷ 2 ∷ []) $ feq_i ! (List Val) (vunit ∷ []) (vunit ∷ []) refl $ move ! (1 ∷ 2 ∷ 3 ∷ 0 ∷ []) $
-    suffices ! _ (ends_at 𝓛 f.ended stayed c y vunit tt (new, (tt, (tt, tt))) (tt, (tt, (tt, tt)))) $ says ! (lined-range 8 w h.words i lt, refl) $
-    nothing ! $ move ! (3 ∷ 0 ∷ []) $ join ! $ frame ! $ feq_i ! (List Val) (vptr b o ∷ []) (vptr b o ∷ []) refl $ fjoin3 ! $
+    suffices ! _ (ends_at 𝓛 f.ended stayed contract_here ghost vunit tt (new, (tt, (tt, tt))) (tt, (tt, (tt, tt)))) $ says ! (lined-range 8 w held.words i lt, refl) $
+    nothing ! $ move ! (3 ∷ 0 ∷ []) $ join ! $ frame ! $ feq_i ! (List Val) (vptr block offset ∷ []) (vptr block offset ∷ []) refl $ fjoin3 ! $
     nothing ! $ nothing ! $ fjoin ! $ nothing ! $ fjoin ! $ move ! (1 ∷ 0 ∷ []) $ fjoin ! $ done !))))))

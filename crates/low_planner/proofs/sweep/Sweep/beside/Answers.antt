@@ -19,9 +19,9 @@ returns-then-is_left-4 c = (let some = c.if-x-gt0.true in (beside_by c.args.c (c
 
 pub returns : goal.returns
 returns c =
-    let m = c.args.self.now.remaining in
+    let remaining = c.args.self.now.remaining in
     let at = c.args.c in
-    none_beside m at (sym c.if-is_left.ensures)
-    (λ (l : 0 < at.z). elim c.else-z-gt0.branch as (λ _. is_full m (coord at.x at.y (at.z - 1)) ≡ false) [ else-z-gt0-via-then-z-gt0+else-is_left-2 w ↦ sym w.if-is_left-2.ensures | else-z-gt0-via-else-z-gt0 w ↦ absurd (omega (arith, w.if-z-gt0.false)) ])
+    none_beside remaining at (sym c.if-is_left.ensures)
+    (λ (l : 0 < at.z). elim c.else-z-gt0.branch as (λ _. is_full remaining (coord at.x at.y (at.z - 1)) ≡ false) [ else-z-gt0-via-then-z-gt0+else-is_left-2 w ↦ sym w.if-is_left-2.ensures | else-z-gt0-via-else-z-gt0 w ↦ absurd (omega (arith, w.if-z-gt0.false)) ])
     (sym c.if-is_left-3.ensures)
-    (λ (l : 0 < at.x). elim c.else-x-gt0.branch as (λ _. is_full m (coord (at.x - 1) at.y at.z) ≡ false) [ else-x-gt0-via-then-x-gt0+else-is_left-4 w ↦ sym w.if-is_left-4.ensures | else-x-gt0-via-else-x-gt0 w ↦ absurd (omega (arith, w.if-x-gt0.false)) ])
+    (λ (l : 0 < at.x). elim c.else-x-gt0.branch as (λ _. is_full remaining (coord (at.x - 1) at.y at.z) ≡ false) [ else-x-gt0-via-then-x-gt0+else-is_left-4 w ↦ sym w.if-is_left-4.ensures | else-x-gt0-via-else-x-gt0 w ↦ absurd (omega (arith, w.if-x-gt0.false)) ])

@@ -11,24 +11,24 @@ returns-then-rests c =
 pub returns-then-c-end : goal.returns-then-c-end
 returns-then-c-end c =
     let inv = c.loop-c.invariant in
-    let m = c.args.target.now in
+    let target = c.args.target.now in
     let left = c.args.self.now.remaining in
-    let end : c.in-Some.c.z + 1 ≡ m.resolution = omega arith in
-    subst (λ (n : ℕ). IsSweptRow m left c.args.from n) end
-    (swept_on m left c.args.from c.loop-c.at c.in-Some.c inv.x inv.y inv.swept c.in-Some.ensures (sym c.rests.ensures ∙ c.if-rests.false))
+    let end : c.in-Some.c.z + 1 ≡ target.resolution = omega arith in
+    subst (λ (n : ℕ). IsSweptRow target left c.args.from n) end
+    (swept_on target left c.args.from c.loop-c.at c.in-Some.c inv.x inv.y inv.swept c.in-Some.ensures (sym c.rests.ensures ∙ c.if-rests.false))
 
 pub loop-c-preserved : goal.loop-c-preserved
 loop-c-preserved c =
     let inv = c.loop-c.invariant in
-    let n = c.in-Some.ensures in
-    let low : c.loop-c.at.z ≤ c.in-Some.c.z = n.z in
-    let high = n.within.z in
+    let some_ensured = c.in-Some.ensures in
+    let low : c.loop-c.at.z ≤ c.in-Some.c.z = some_ensured.z in
+    let high = some_ensured.within.z in
     record {
-      x = n.x ∙ inv.x;
-      y = n.y ∙ inv.y;
+      x = some_ensured.x ∙ inv.x;
+      y = some_ensured.y ∙ inv.y;
       z = (let l = inv.z in omega (arith, low, l));
       within = omega arith;
-      swept = swept_on c.args.target.now c.args.self.now.remaining c.args.from c.loop-c.at c.in-Some.c inv.x inv.y inv.swept n (sym c.rests.ensures ∙ c.if-rests.false);
+      swept = swept_on c.args.target.now c.args.self.now.remaining c.args.from c.loop-c.at c.in-Some.c inv.x inv.y inv.swept some_ensured (sym c.rests.ensures ∙ c.if-rests.false);
     }
 
 pub returns : goal.returns

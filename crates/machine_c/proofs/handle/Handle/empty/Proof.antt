@@ -45,24 +45,24 @@ module _ {M : Type 1} {𝓤 : Ura M} (𝓛 : Logic 𝓤) (at_mem : Memory → SP
       → ent 𝓤 ((walk_of 𝓛 F.ended stayed (F.clauses 𝓛 at_mem run)).pre z) (WpFn 𝓤 H 𝓣.C 𝓣.Λ code.function (z.0.4.0 ++ []) ((walk_of 𝓛 F.ended stayed (F.clauses 𝓛 at_mem run)).post z))
   walk z =
       let Post = (walk_of 𝓛 F.ended stayed (F.clauses 𝓛 at_mem run)).post z in
-      let a = z.0.3.0 in
+      let argument = z.0.3.0 in
       let To : RattleType = type_at (F.signature).result tt in
-      let made : To.Denot = record { at = null_ptr; alloc = a; machine = None } in
-      qed 𝓛 ((‵ ftrue ⊛ ‵ (fsep (global_row.own_val a z.0.4.0) ftrue)) ∷ raw (emp 𝓤) ∷ []) ∵ split ! $ drop ! $ fsplit ! $
-      handle_tells E.al ! a z.0.4.0 (λ hv ws fa. keep ! (0 ∷ []) $
-      let w = bare_word hv in
-      let Γ : List (Item 𝓤) = ‵ (handle E a hv) ∷ [] in
-      by ! (subst (λ (us : List Val). ent 𝓤 (types.Kit.⋆ 𝓛 Γ) (WpFn 𝓤 H 𝓣.C 𝓣.Λ code.function (us ++ []) Post)) (sym ws)
-      (qed 𝓛 Γ ∵ enter ! 𝓣.C 𝓣.Λ code.function (hv ∷ []) _ $ alloc_all ! (λ ls. pass_all ! refl (fa, tt) $
+      let made : To.Denot = record { at = null_ptr; alloc = argument; machine = None } in
+      qed 𝓛 ((‵ ftrue ⊛ ‵ (fsep (global_row.own_val argument z.0.4.0) ftrue)) ∷ raw (emp 𝓤) ∷ []) ∵ split ! $ drop ! $ fsplit ! $
+      handle_tells E.al ! argument z.0.4.0 (λ hv ws fa. keep ! (0 ∷ []) $
+      let bare = bare_word hv in
+      let owned_items : List (Item 𝓤) = ‵ (handle E argument hv) ∷ [] in
+      by ! (subst (λ (us : List Val). ent 𝓤 (types.Kit.⋆ 𝓛 owned_items) (WpFn 𝓤 H 𝓣.C 𝓣.Λ code.function (us ++ []) Post)) (sym ws)
+      (qed 𝓛 owned_items ∵ enter ! 𝓣.C 𝓣.Λ code.function (hv ∷ []) _ $ alloc_all ! (λ ls. pass_all ! refl (fa, tt) $
       sets ! (agg ! (and_then ! (lit ! tt) (and_then ! (get ! refl) (no_more !)))) refl (bare_typed hv fa) $ returns ! (look_at ! 0 refl) $ free_all ! refl $
-      bare_in ! a hv $
-      suffices ! _ (ends_at 𝓛 F.ended stayed (F.clauses 𝓛 at_mem run) z w made (tt, tt) (tt, tt)) $ says ! refl $
+      bare_in ! argument hv $
+      suffices ! _ (ends_at 𝓛 F.ended stayed (F.clauses 𝓛 at_mem run) z bare made (tt, tt) (tt, tt)) $ says ! refl $
       nothing ! $ nothing ! $ fjoin ! $ join ! $ nothing ! $ join ! $ done !))))
 
 pub empty_spec : {M : Type 1} → stated.statement M
 unfolding tables_of
 empty_spec 𝓤 𝓛 𝓜 𝓡 wired =
-    let 𝓣 : Tables 𝓤 𝓛.H = tables_of 𝓤 𝓛.H 𝓜 (tables 𝓤 𝓛.H 𝓜 𝓡 𝓡.env) in
-    entered 𝓤 𝓛.H (triple_of 𝓛 F.signature (F.spec 𝓛 𝓜.mem 𝓡.returns)) 𝓣.C 𝓣.Λ #self code.function (code.unfolded 𝓤 𝓛.H 𝓜 𝓡 wired)
-    (walk_Meets 𝓛 F.ended stayed (Goes-dropped 𝓛 0 From yes (λ κs x f. refl), tt) (F.clauses 𝓛 𝓜.mem 𝓡.returns) (WpFn 𝓤 𝓛.H 𝓣.C 𝓣.Λ code.function) (WpFn-mono 𝓤 𝓛.H 𝓛.laws 𝓣 code.function)
-    (walk 𝓛 𝓜.mem 𝓡.returns 𝓣))
+    let all_tables : Tables 𝓤 𝓛.H = tables_of 𝓤 𝓛.H 𝓜 (tables 𝓤 𝓛.H 𝓜 𝓡 𝓡.env) in
+    entered 𝓤 𝓛.H (triple_of 𝓛 F.signature (F.spec 𝓛 𝓜.mem 𝓡.returns)) all_tables.C all_tables.Λ #self code.function (code.unfolded 𝓤 𝓛.H 𝓜 𝓡 wired)
+    (walk_Meets 𝓛 F.ended stayed (Goes-dropped 𝓛 0 From yes (λ κs x f. refl), tt) (F.clauses 𝓛 𝓜.mem 𝓡.returns) (WpFn 𝓤 𝓛.H all_tables.C all_tables.Λ code.function) (WpFn-mono 𝓤 𝓛.H 𝓛.laws all_tables code.function)
+    (walk 𝓛 𝓜.mem 𝓡.returns all_tables))

@@ -43,41 +43,41 @@ use Rattle.machine_c.proofs.parts.Parts.of.Code as code
 
 pub of_spec : {M : Type 1} → statement M
 of_spec 𝓤 𝓛 𝓜 𝓡 wired X Z LX LZ g d dd dx allocator glue glued =
-    let E : Bx = record { row = X; laws = LX; al = record { row = Z; laws = LZ; g = g; d = d; drops = dd } } in
-    let H = 𝓛.H in let 𝓣 = tables 𝓤 H 𝓜 𝓡 𝓡.env in
-    let T : Ended = ended X Z g d dd dx in let c = clauses X Z g d dd dx 𝓛 𝓜.mem 𝓡.returns in
-    let To : RattleType = parts.the_row (R E) (P E) g in
-    let stays : Stays T.signature.params T.kept = (stay_dropped (plain (λ _. B E)) no, tt) in
+    let the_box : Bx = record { row = X; laws = LX; al = record { row = Z; laws = LZ; g = g; d = d; drops = dd } } in
+    let H = 𝓛.H in let all_tables = tables 𝓤 H 𝓜 𝓡 𝓡.env in
+    let end_of_walk : Ended = ended X Z g d dd dx in let the_clauses = clauses X Z g d dd dx 𝓛 𝓜.mem 𝓡.returns in
+    let To : RattleType = parts.the_row (R the_box) (P the_box) g in
+    let stays : Stays end_of_walk.signature.params end_of_walk.kept = (stay_dropped (plain (λ _. B the_box)) no, tt) in
     let passed : Args = bounded (a_type ∷ a_type ∷ []) (X, (Z, tt)) (dcons d (dcons dd (dcons dx dnil))) in
     let fn : Fn = inst_fn passed code.function in
-    let k = triple_of 𝓛 (callee.signature X Z g d dd dx) (callee.spec X Z g d dd dx 𝓛 𝓜.mem 𝓡.returns) in
-    proved_at 𝓛 T stays c 𝓜 𝓡 (Goes-blank 𝓛 2 (plain (λ _. B E)) no (λ κs x f. tt), tt) (#self passed) fn (code.unfolded 𝓤 H 𝓜 𝓡 wired (X, (Z, tt)) d dd dx) (λ z are.
-    let κs = z.0.0 in let qs = z.0.1 in let v = z.0.3.0 in let a = v.alloc in
-    let Post : Val → SProp 𝓤 = (walk_of 𝓛 T stays c).post z in let Run : List Val → SProp 𝓤 = λ ws. WpFn 𝓤 H 𝓣.C 𝓣.Λ fn ws Post in
+    let triple_of_here = triple_of 𝓛 (callee.signature X Z g d dd dx) (callee.spec X Z g d dd dx 𝓛 𝓜.mem 𝓡.returns) in
+    proved_at 𝓛 end_of_walk stays the_clauses 𝓜 𝓡 (Goes-blank 𝓛 2 (plain (λ _. B the_box)) no (λ κs x f. tt), tt) (#self passed) fn (code.unfolded 𝓤 H 𝓜 𝓡 wired (X, (Z, tt)) d dd dx) (λ z are.
+    let κs = z.0.0 in let qs = z.0.1 in let argument = z.0.3.0 in let its_alloc = argument.alloc in
+    let Post : Val → SProp 𝓤 = (walk_of 𝓛 end_of_walk stays the_clauses).post z in let Run : List Val → SProp 𝓤 = λ ws. WpFn 𝓤 H all_tables.C all_tables.Λ fn ws Post in
     let toks : Item 𝓤 = ‵ (flft κs.0 qs.0) ⊛ ‵ (flft κs.1.0 qs.1.0) ⊛ ‵ ftrue in
     let lives : Item 𝓤 = raw (fact 𝓤 (κs.0 ⊑ X.lives)) ⊛ raw (fact 𝓤 (κs.1.0 ⊑ Z.lives)) ⊛ ‵ ftrue in
-    qed 𝓛 ((toks ⊛ ‵ (fsep ((B E).own_val v z.0.4.0) ftrue)) ∷ lives ∷ []) ∵ split ! $ move ! (1 ∷ []) $ fsplit ! $
-    box_out E ! v z.0.4.0 (λ b o hv at ws fits. box_in E ! v b o v.value at refl $
-    let w : Val = word E hv b o in
-    let y : k.Ghost = ((κs, qs, tt, (v, tt), (w ∷ [], tt)), tt) in
-    fjoin ! $ move ! (1 ∷ 0 ∷ []) $ join ! $ join ! $ use1 𝓛 (raw (k.pre y)) (id⊢ 𝓤 _) $
-    suffices ! (Run (w ∷ [])) (subst (λ (us : List Val). ent 𝓤 (Run (w ∷ [])) (Run us)) (sym (λ i. ws i ++ [])) (id⊢ 𝓤 (Run (w ∷ [])))) $
-    enter ! 𝓣.C 𝓣.Λ fn (w ∷ []) Post $ alloc_all ! (λ ls. pass_all ! refl (box_typed E hv b o fits, tt) $ sets ! (of_opd ! (get ! refl)) refl (box_typed E hv b o fits) $
-    calls_at ! (fm 𝓛 𝓜 𝓡) k (met 𝓤 𝓛 𝓜 𝓡 (code.calls-std_alloc::boxed::Box::into_raw_with_allocator 𝓡.env wired) X Z LX LZ g d dd dx allocator glue glued) y (and_then ! (get ! refl) (no_more !)) (λ u.
+    qed 𝓛 ((toks ⊛ ‵ (fsep ((B the_box).own_val argument z.0.4.0) ftrue)) ∷ lives ∷ []) ∵ split ! $ move ! (1 ∷ []) $ fsplit ! $
+    box_out the_box ! argument z.0.4.0 (λ b o hv at ws fits. box_in the_box ! argument b o argument.value at refl $
+    let word_value : Val = word the_box hv b o in
+    let ghost : triple_of_here.Ghost = ((κs, qs, tt, (argument, tt), (word_value ∷ [], tt)), tt) in
+    fjoin ! $ move ! (1 ∷ 0 ∷ []) $ join ! $ join ! $ use1 𝓛 (raw (triple_of_here.pre ghost)) (id⊢ 𝓤 _) $
+    suffices ! (Run (word_value ∷ [])) (subst (λ (us : List Val). ent 𝓤 (Run (word_value ∷ [])) (Run us)) (sym (λ i. ws i ++ [])) (id⊢ 𝓤 (Run (word_value ∷ [])))) $
+    enter ! all_tables.C all_tables.Λ fn (word_value ∷ []) Post $ alloc_all ! (λ ls. pass_all ! refl (box_typed the_box hv b o fits, tt) $ sets ! (of_opd ! (get ! refl)) refl (box_typed the_box hv b o fits) $
+    calls_at ! (fm 𝓛 𝓜 𝓡) triple_of_here (met 𝓤 𝓛 𝓜 𝓡 (code.calls-std_alloc::boxed::Box::into_raw_with_allocator 𝓡.env wired) X Z LX LZ g d dd dx allocator glue glued) ghost (and_then ! (get ! refl) (no_more !)) (λ u.
     -- the pair of the pointer and the allocator, and what was the box's
-    use1 𝓛 (later (some (λ (r : Ptr × Z.Denot). (toks ⊛ ‵ ((Tuple (RawPtr ∷ P E ∷ [])).own_val r (u ∷ []))) ⊛ some (λ (_ : (Unit {0} × (Unit {0} × Unit {0})) × Unit {0}). ‵ (fsep (fsep ftrue (fsep ftrue ftrue)) ftrue) ⊛ (raw (fact 𝓤 (r.1 ≡ a)) ⊛ ‵ (box_owns (token E.al a) (R E) r.0 v.value)))))) (id⊢ 𝓤 _) $
-    await ! tt $ pick ! (λ r. split ! $ move ! (1 ∷ []) $ pick ! (λ _. split3 ! $ drop ! $ heard ! (r.1 ≡ a) (λ same.
-    in_a_block ! r.0 (λ p. box_owns (token E.al a) (R E) p v.value) (fst∗ 𝓤 (never 𝓤) (sem 𝓛 (token E.al a (bare (τ E)) null_ptr))) (λ b' o' at'.
+    use1 𝓛 (later (some (λ (r : Ptr × Z.Denot). (toks ⊛ ‵ ((Tuple (RawPtr ∷ P the_box ∷ [])).own_val r (u ∷ []))) ⊛ some (λ (_ : (Unit {0} × (Unit {0} × Unit {0})) × Unit {0}). ‵ (fsep (fsep ftrue (fsep ftrue ftrue)) ftrue) ⊛ (raw (fact 𝓤 (r.1 ≡ its_alloc)) ⊛ ‵ (box_owns (token the_box.al its_alloc) (R the_box) r.0 argument.value)))))) (id⊢ 𝓤 _) $
+    await ! tt $ pick ! (λ r. split ! $ move ! (1 ∷ []) $ pick ! (λ _. split3 ! $ drop ! $ heard ! (r.1 ≡ its_alloc) (λ same.
+    in_a_block ! r.0 (λ p. box_owns (token the_box.al its_alloc) (R the_box) p argument.value) (fst∗ 𝓤 (never 𝓤) (sem 𝓛 (token the_box.al its_alloc (bare (τ the_box)) null_ptr))) (λ b' o' at'.
     move ! (1 ∷ []) $ split ! $ move ! (1 ∷ []) $ fpick ! (λ vss. fsplit ! $ feq_l ! (λ eu. fsplit ! $ feq_l ! (λ ep. fsplit ! $
-    rewrite ! 0 (λ (s : Z.Denot). ‵ (Z.own_val s vss.1.0)) same refl $ handle_tells E.al ! a vss.1.0 (λ hw eh fits'.
-    let w' : Val = word E hw b' o' in let good = box_typed E hw b' o' fits' in
-    let as_box : D E = record { ptr = block_ptr b' o'; alloc = a; value = v.value } in
-    let made : To.Denot = record { ptr = block_ptr b' o'; alloc = a; value = v.value } in
+    rewrite ! 0 (λ (s : Z.Denot). ‵ (Z.own_val s vss.1.0)) same refl $ handle_tells the_box.al ! its_alloc vss.1.0 (λ hw eh fits'.
+    let w' : Val = word the_box hw b' o' in let good = box_typed the_box hw b' o' fits' in
+    let as_box : D the_box = record { ptr = block_ptr b' o'; alloc = its_alloc; value = argument.value } in
+    let made : To.Denot = record { ptr = block_ptr b' o'; alloc = its_alloc; value = argument.value } in
     lands_as ! (ap only (eu ∙ (λ j. vstruct (of_list ((ep ∙ ap (λ (p : Ptr). ptr_val p ∷ []) at') j ++ (eh j ++ []))) ∷ []))) refl good $
     sets ! (of_opd ! (get_in ! (fld ! refl (stop !)) (sub ! 0 refl (whole !)))) refl (tt, tt) $
     sets ! (of_opd ! (get_in ! (fld ! refl (stop !)) (sub ! 1 refl (whole !)))) refl fits' $
     sets ! (of_opd ! (get ! refl)) refl fits' $ sets ! (agg ! (and_then ! (get ! refl) (and_then ! (get ! refl) (no_more !)))) refl good $
     returns ! (look_at ! 0 refl) $ free_all ! refl $
-    move ! (3 ∷ []) $ fsplit ! $ box_in E ! as_box b' o' v.value refl refl $ use1 𝓛 (‵ (To.own_val made (w' ∷ []))) (id⊢ 𝓤 _) $ move ! (1 ∷ []) $ drop ! $
-    suffices ! _ (ends_at 𝓛 T stays c z w' made ((tt, (tt, tt)), tt) (tt, tt)) $ says ! refl $
+    move ! (3 ∷ []) $ fsplit ! $ box_in the_box ! as_box b' o' argument.value refl refl $ use1 𝓛 (‵ (To.own_val made (w' ∷ []))) (id⊢ 𝓤 _) $ move ! (1 ∷ []) $ drop ! $
+    suffices ! _ (ends_at 𝓛 end_of_walk stays the_clauses z w' made ((tt, (tt, tt)), tt) (tt, tt)) $ says ! refl $
     nothing ! $ nothing ! $ fjoin ! $ join ! $ move ! (1 ∷ 0 ∷ []) $ join ! $ done !))))))))))))

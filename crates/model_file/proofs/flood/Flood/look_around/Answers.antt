@@ -14,11 +14,11 @@ use Rattle.model_file.proofs.flood.Flood.look_around.Goals as goal
 both : (g : Over) (c : goal.In_ok-take_around g)
     → TakesOut (IsBeside (record { first = c.args.first; bits = c.args.bits })) c.args.self.now c.take_around.new.self
 both g c =
-    let s : Stretch = record { first = c.args.first; bits = c.args.bits } in
+    let stretch : Stretch = record { first = c.args.first; bits = c.args.bits } in
     let mid : Flood = record { remaining = c.take_row-more.new.self; found = c.args.self.now.found } in
     let few : c.min-count.result ≤ 64 = omega (arith, c.min-count.ensures) in
-    takes_then (IsBeside s) c.args.self.now mid c.take_around.new.self
-    (takes_none (IsBeside s) c.args.self.now mid c.take_row-more.ensures.resolution
+    takes_then (IsBeside stretch) c.args.self.now mid c.take_around.new.self
+    (takes_none (IsBeside stretch) c.args.self.now mid c.take_row-more.ensures.resolution
     (row_same c.args.self.now mid c.args.first c.min-count.result (moved c.args.bits) c.take_row-more.result c.take_row-more.ensures.resolution few c.take_row-more.ensures.was c.take_row-more.ensures.left c.if-more-eq0.true) refl)
     c.in_ok-take_around.ensures.takes
 
@@ -29,18 +29,18 @@ pub returns-then-more-eq0-clause-starts : goal.returns-then-more-eq0-clause-star
 returns-then-more-eq0-clause-starts g c = λ h. found_starts (IsBeside (record { first = c.args.first; bits = c.args.bits })) c.args.self.now c.take_around.new.self h (both g c)
 
 pub returns-then-more-eq0-clause-weighs : goal.returns-then-more-eq0-clause-weighs
-returns-then-more-eq0-clause-weighs g c = let t = both g c in t.weighs
+returns-then-more-eq0-clause-weighs g c = let both_here = both g c in both_here.weighs
 
 pub returns-in-Ok-clause-reaches : goal.returns-in-Ok-clause-reaches
 returns-in-Ok-clause-reaches g c =
-    let p : Stretch = record { first = c.args.first; bits = c.args.bits } in
+    let stretch : Stretch = record { first = c.args.first; bits = c.args.bits } in
     let new : Flood = record { remaining = c.take_row-more.new.self; found = c.push.new.self } in
     let few : c.min-count.result ≤ 64 = omega (arith, c.min-count.ensures) in
     let within = c.requires.within in
     let most = c.requires.most in
     let fits = c.ranges.bits in
-    let start : IsStart MOST_R p = record { within = record { x = omega (arith, within.x); y = omega (arith, within.y); z = omega (arith, within.z) }; each = c.requires.each } in
-    λ m s fl same held. flood_wider c.args.self.now new p c.min-count.result c.take_row-more.result c.take_row-more.ensures.resolution few c.take_row-more.ensures.was c.take_row-more.ensures.left c.take_row-more.ensures.below c.in-Ok.ensures.items m s start most fits.fits fl same held
+    let start : IsStart MOST_R stretch = record { within = record { x = omega (arith, within.x); y = omega (arith, within.y); z = omega (arith, within.z) }; each = c.requires.each } in
+    λ m s fl same held. flood_wider c.args.self.now new stretch c.min-count.result c.take_row-more.result c.take_row-more.ensures.resolution few c.take_row-more.ensures.was c.take_row-more.ensures.left c.take_row-more.ensures.below c.in-Ok.ensures.items m s start most fits.fits fl same held
 
 pub returns-in-Ok-clause-weighs : goal.returns-in-Ok-clause-weighs
 returns-in-Ok-clause-weighs g c =

@@ -8,10 +8,10 @@ use Rattle.model_file.proofs.flood.Flood.spread.Goals as goal
 pub loop-stretch-preserved : goal.loop-stretch-preserved
 loop-stretch-preserved g c =
     let rest = All-pop (IsStart c.loop-stretch.self.remaining.resolution) c.loop-stretch.self.found.items c.pop.new.self.items c.pop.result c.pop.ensures.items c.loop-stretch.invariant.starts in
-    let r = c.in_ok-look_around.ensures.resolution in
+    let resolution = c.in_ok-look_around.ensures.resolution in
     record {
-      most = rw r c.loop-stretch.invariant.most;
-      starts = subst (λ (n : ℕ). All (IsStart n) c.look_around.new.self.found.items) (sym r) (c.in_ok-look_around.ensures.starts rest.0);
+      most = rw resolution c.loop-stretch.invariant.most;
+      starts = subst (λ (n : ℕ). All (IsStart n) c.look_around.new.self.found.items) (sym resolution) (c.in_ok-look_around.ensures.starts rest.0);
       reaches = λ m h. c.in_ok-look_around.ensures.reaches m c.loop-stretch.self (c.loop-stretch.invariant.reaches m h) refl c.in-Some.ensures.items;
     }
 

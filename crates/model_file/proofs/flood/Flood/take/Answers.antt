@@ -15,12 +15,12 @@ pub returns-in-Ok-clause-takes : goal.returns-in-Ok-clause-takes
 returns-in-Ok-clause-takes g c =
     let new : Flood = record { remaining = c.take_row-taken.new.self; found = c.push.new.self } in
     let few : c.min-count.result ≤ 64 = omega (arith, c.min-count.ensures) in
-    let r = c.resolution-r.ensures.value in
-    let x = c.if-r-first.false in
-    let y = c.if-r-first-2.false in
-    let z = c.if-r-first-3.false in
+    let resolution_value = c.resolution-r.ensures.value in
+    let r_is_not_first = c.if-r-first.false in
+    let r_is_not_first_here = c.if-r-first-2.false in
+    let r_is_not_first_too = c.if-r-first-3.false in
     takes_row c.args.self.now new c.args.first c.min-count.result c.args.bits c.take_row-taken.result c.take_row-taken.ensures.resolution few c.take_row-taken.ensures.was c.take_row-taken.ensures.left
-    (record { x = subst (λ (n : ℕ). c.args.first.x < n) r x; y = subst (λ (n : ℕ). c.args.first.y < n) r y; z = subst (λ (n : ℕ). c.args.first.z < n) r z })
+    (record { x = subst (λ (n : ℕ). c.args.first.x < n) resolution_value r_is_not_first; y = subst (λ (n : ℕ). c.args.first.y < n) resolution_value r_is_not_first_here; z = subst (λ (n : ℕ). c.args.first.z < n) resolution_value r_is_not_first_too })
     c.requires c.take_row-taken.ensures.below c.if-taken-eq0.false c.take_row-taken.type_inv c.in-Ok.ensures.items
 
 pub returns-in-Ok-clause-gone : goal.returns-in-Ok-clause-gone

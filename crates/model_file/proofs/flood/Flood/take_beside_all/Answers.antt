@@ -23,4 +23,4 @@ loop-y-preserved g c =
 pub returns : goal.returns
 returns g c =
     looks_wider c.args.planes.now (λ d. d.y < c.loop-y.y) (λ _. Unit {0}) c.args.self.now c.loop-y.self
-    (λ d i h. let y = i.y in omega (arith, c.loop-y-test.false, c.resolution-y-end.ensures.value)) c.loop-y.invariant
+    (λ d i h. let along_y = i.y in omega (arith, c.loop-y-test.false, c.resolution-y-end.ensures.value)) c.loop-y.invariant

@@ -23,4 +23,4 @@ loop-x-preserved g c =
 pub returns : goal.returns
 returns g c =
     looks_wider c.args.planes.now (λ d. (d.y ≡ c.args.y) × (d.x < c.loop-x.x)) (λ d. d.y ≡ c.args.y) c.args.self.now c.loop-x.self
-    (λ d i h. (h, (let x = i.x in omega (arith, c.loop-x-test.false, c.resolution-x-end.ensures.value)))) c.loop-x.invariant
+    (λ d i h. (h, (let along_x = i.x in omega (arith, c.loop-x-test.false, c.resolution-x-end.ensures.value)))) c.loop-x.invariant

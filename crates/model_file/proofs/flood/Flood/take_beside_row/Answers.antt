@@ -28,4 +28,4 @@ returns g c =
   where
     all : (d : Coord) → IsInSpace c.args.planes.now.resolution d → (d.x ≡ c.args.x) × (d.y ≡ c.args.y)
         → (d.x ≡ c.args.x) × (d.y ≡ c.args.y) × (d.z < 64 * c.loop-k.k)
-    all d i h = (h.0, h.1, (let z = i.z in let e = div_ceil_times c.args.planes.now.resolution 64 (omega arith) in omega (arith, c.loop-k-test.false, c.div_ceil-words.ensures, c.resolution.ensures.value)))
+    all d i h = (h.0, h.1, (let along_z = i.z in let ceiling_times = div_ceil_times c.args.planes.now.resolution 64 (omega arith) in omega (arith, c.loop-k-test.false, c.div_ceil-words.ensures, c.resolution.ensures.value)))

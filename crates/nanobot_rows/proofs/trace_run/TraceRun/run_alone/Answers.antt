@@ -4,13 +4,13 @@ use Rattle.nanobot_rows.proofs.trace_run.TraceRun.run_alone.Goals as goal
 
 pub returns-then-not-went : goal.returns-then-not-went
 returns-then-not-went g c =
-    let l = c.loop-at in
-    further c.args.self.now l.self c.next_alone.new.self c.args.piece.now l.at c.from-at.result c.in_ok-went.went c.args.steps.now l.steps c.next_alone.new.steps
-    l.invariant.within c.from-at.ensures l.invariant.takes c.in_ok-went.ensures
+    let loop_at = c.loop-at in
+    further c.args.self.now loop_at.self c.next_alone.new.self c.args.piece.now loop_at.at c.from-at.result c.in_ok-went.went c.args.steps.now loop_at.steps c.next_alone.new.steps
+    loop_at.invariant.within c.from-at.ensures loop_at.invariant.takes c.in_ok-went.ensures
 
 pub loop-at-preserved : goal.loop-at-preserved
 loop-at-preserved g c =
-    let l = c.loop-at in
-    let t = further c.args.self.now l.self c.next_alone.new.self c.args.piece.now l.at c.from-at.result c.in_ok-went.went c.args.steps.now l.steps c.next_alone.new.steps
-    l.invariant.within c.from-at.ensures l.invariant.takes c.in_ok-went.ensures in
-    record { within = t.within; takes = t.takes; alone = c.in_ok-went.ensures.still (not_is_false c.in_ok-went.went.alone c.if-not-went.false) }
+    let loop_at = c.loop-at in
+    let next_further = further c.args.self.now loop_at.self c.next_alone.new.self c.args.piece.now loop_at.at c.from-at.result c.in_ok-went.went c.args.steps.now loop_at.steps c.next_alone.new.steps
+    loop_at.invariant.within c.from-at.ensures loop_at.invariant.takes c.in_ok-went.ensures in
+    record { within = next_further.within; takes = next_further.takes; alone = c.in_ok-went.ensures.still (not_is_false c.in_ok-went.went.alone c.if-not-went.false) }

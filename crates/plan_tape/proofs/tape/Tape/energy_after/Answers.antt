@@ -8,7 +8,7 @@ use Rattle.plan_tape.proofs.tape.Tape.energy_after.Goals as goal
 
 pub returns-clause-value : goal.returns-clause-value
 returns-clause-value c =
-    let r = c.self.inside in
-    let value : c.charge.result ≡ (r.system.energy +ℤ pos (c.args.count * unsigned_abs (upkeep_of c.resolution-resolution.result r.system.harmonics 1))) +ℤ c.args.cost = search rules in
+    let inside = c.self.inside in
+    let value : c.charge.result ≡ (inside.system.energy +ℤ pos (c.args.count * unsigned_abs (upkeep_of c.resolution-resolution.result inside.system.harmonics 1))) +ℤ c.args.cost = search rules in
     let back : to_z w64 (of_z w64 c.charge.result) ≡ c.charge.result = search rules in
-    back ∙ charged_is (the_view r) c.args.self.now c.args.count c.resolution-resolution.result c.args.cost c.charge.result c.self.view_is c.requires.alone (c.resolution-resolution.ensures.value ∙ ap (λ (m : Matrix). m.resolution) c.matrix.ensures.value) value
+    back ∙ charged_is (the_view inside) c.args.self.now c.args.count c.resolution-resolution.result c.args.cost c.charge.result c.self.view_is c.requires.alone (c.resolution-resolution.ensures.value ∙ ap (λ (m : Matrix). m.resolution) c.matrix.ensures.value) value

@@ -9,24 +9,24 @@ use Rattle.plan_tape.proofs.tape.Tape.fuse_all.Goals as goal
 
 pub act_all-requires-clause-calm : goal.act_all-requires-clause-calm
 act_all-requires-clause-calm c =
-    let p = c.args.self.now in
-    record { free = c.requires.free; calm = fusions_flip_not p.bots c.args.fusions.now c.requires.fuses }
+    let self = c.args.self.now in
+    record { free = c.requires.free; calm = fusions_flip_not self.bots c.args.fusions.now c.requires.fuses }
 
 pub act_all-requires-clause-held : goal.act_all-requires-clause-held
 act_all-requires-clause-held c =
-    let p = c.args.self.now in
-    let k = c.args.fusions.now in
-    subst (λ (m : Matrix). IsHeld p.harmonics m) (sym (c.bots_act.ensures.still (state_of p) k c.recall_ready.ensures.ready (fusions_leave p.bots k c.requires.fuses))) c.recall_ready.ensures.held
+    let self = c.args.self.now in
+    let fusions = c.args.fusions.now in
+    subst (λ (m : Matrix). IsHeld self.harmonics m) (sym (c.bots_act.ensures.still (state_of self) fusions c.recall_ready.ensures.ready (fusions_leave self.bots fusions c.requires.fuses))) c.recall_ready.ensures.held
 
 pub returns-clause-ok : goal.returns-clause-ok
 returns-clause-ok c =
-    let p = c.args.self.now in
-    let k = c.args.fusions.now in
+    let self = c.args.self.now in
+    let fusions = c.args.fusions.now in
     on_ok_weaker c.act_all.result
-    (λ (s : CalmStep p c.act_all.new.self k). step_as p c.act_all.new.self k _ (p.matrix) p.harmonics _ (bots_fused p.bots k) (c.bots_act.ensures.still (state_of p) k c.recall_ready.ensures.ready (fusions_leave p.bots k c.requires.fuses)) (fusions_merge p k c.recall_ready.ensures.ready c.requires.commands c.requires.fuses) s)
+    (λ (s : CalmStep self c.act_all.new.self fusions). step_as self c.act_all.new.self fusions _ (self.matrix) self.harmonics _ (bots_fused self.bots fusions) (c.bots_act.ensures.still (state_of self) fusions c.recall_ready.ensures.ready (fusions_leave self.bots fusions c.requires.fuses)) (fusions_merge self fusions c.recall_ready.ensures.ready c.requires.commands c.requires.fuses) s)
     c.act_all.ensures.ok
 
 pub returns-clause-primary : goal.returns-clause-primary
 returns-clause-primary c = λ first second h k t.
-    let p = c.args.self.now in
-    c.bots_act.ensures.primary (state_of p) c.args.fusions.now first second c.recall_ready.ensures.ready c.requires.commands h k t
+    let self = c.args.self.now in
+    c.bots_act.ensures.primary (state_of self) c.args.fusions.now first second c.recall_ready.ensures.ready c.requires.commands h k t

@@ -18,12 +18,12 @@ legs : (c : goal.After-self-1) → (moves : List Command) × AreLegs (spot c.arg
     × (c.push_leg-3.new.commands.items ≡ c.self.inside.commands.items ++ moves)
 legs c =
     let old = c.self.inside.commands.items in
-    let x = c.push_leg.ensures.leg in
-    let y = c.push_leg-2.ensures.leg in
-    let z = c.push_leg-3.ensures.leg in (
-      x.0 ++ y.0 ++ z.0,
-      subst (λ (p : Coord). AreLegs p c.args.to (x.0 ++ y.0 ++ z.0)) c.spot-from.ensures.value (record { x = x.0; y = y.0; z = z.0; joined = refl; along_x = x.1; along_y = y.1; along_z = z.1 }),
-      z.2 ∙ (ap (λ xs. xs ++ z.0) (y.2 ∙ ap (λ xs. xs ++ y.0) (x.2 ∙ ap (λ xs. xs ++ x.0) c.take_room.ensures.items)) ∙ (ap (λ xs. xs ++ z.0) (append_assoc old x.0 y.0) ∙ append_assoc old (x.0 ++ y.0) z.0)),
+    let leg = c.push_leg.ensures.leg in
+    let leg_of_push_leg = c.push_leg-2.ensures.leg in
+    let push_leg_leg = c.push_leg-3.ensures.leg in (
+      leg.0 ++ leg_of_push_leg.0 ++ push_leg_leg.0,
+      subst (λ (p : Coord). AreLegs p c.args.to (leg.0 ++ leg_of_push_leg.0 ++ push_leg_leg.0)) c.spot-from.ensures.value (record { x = leg.0; y = leg_of_push_leg.0; z = push_leg_leg.0; joined = refl; along_x = leg.1; along_y = leg_of_push_leg.1; along_z = push_leg_leg.1 }),
+      push_leg_leg.2 ∙ (ap (λ xs. xs ++ push_leg_leg.0) (leg_of_push_leg.2 ∙ ap (λ xs. xs ++ leg_of_push_leg.0) (leg.2 ∙ ap (λ xs. xs ++ leg.0) c.take_room.ensures.items)) ∙ (ap (λ xs. xs ++ push_leg_leg.0) (append_assoc old leg.0 leg_of_push_leg.0) ∙ append_assoc old (leg.0 ++ leg_of_push_leg.0) push_leg_leg.0)),
     )
 
 charge : (c : goal.After-self-1)
@@ -37,16 +37,16 @@ charge c =
 comes : (c : goal.After-self-1)
     → Comes c.args.self.now (progress_of c.self.inside.source c.push_leg-3.new.commands.items c.set_energy.new.self (c.self.inside.steps + c.moves_to-count.result)) c.args.to
 comes c =
-    let r = c.self.inside in
+    let inside = c.self.inside in
     let old = c.args.self.now in
-    let l = legs c in
+    let the_legs = legs c in
     let energy = to_z w64 (of_z w64 c.energy_after-energy.result) in
     let count = c.moves_to-count.ensures.value ∙ ap (λ p. moves_to p c.args.to) c.spot-from.ensures.value in
-    let moved : c.move_to.new.self ≡ record r.system { bots = bots_at r.system.bots c.args.to } =
-    moved_one (λ (bots : List Bot). c.move_to.new.self ≡ record r.system { bots = bots }) r.system.bots c.bots.result.now c.args.to _ (subst (λ (o : TapeState). length o.bots ≡ 1) (sym c.self.view_is) c.requires.alone) (c.bots.ensures.value ∙ c.crew.ensures.value) c.move_to.ensures.moved in
-    let now : c.set_energy.new.self ≡ record r.system { bots = bots_at r.system.bots c.args.to; energy = energy } = c.set_energy.ensures ∙ (λ i. record (moved i) { energy = energy }) in
-    subst (λ (s : State). Comes old (progress_of r.source c.push_leg-3.new.commands.items s (r.steps + c.moves_to-count.result)) c.args.to) (sym now)
-    (go_makes (the_view r) old c.self.view_is c.self.invariant c.args.to c.push_leg-3.new.commands.items l.0 (bots_at r.system.bots c.args.to) energy c.moves_to-count.result c.requires.alone c.requires.allowed c.requires.within c.requires.ways c.requires.limit l.1 l.2 refl count (charge c))
+    let moved : c.move_to.new.self ≡ record inside.system { bots = bots_at inside.system.bots c.args.to } =
+    moved_one (λ (bots : List Bot). c.move_to.new.self ≡ record inside.system { bots = bots }) inside.system.bots c.bots.result.now c.args.to _ (subst (λ (o : TapeState). length o.bots ≡ 1) (sym c.self.view_is) c.requires.alone) (c.bots.ensures.value ∙ c.crew.ensures.value) c.move_to.ensures.moved in
+    let now : c.set_energy.new.self ≡ record inside.system { bots = bots_at inside.system.bots c.args.to; energy = energy } = c.set_energy.ensures ∙ (λ i. record (moved i) { energy = energy }) in
+    subst (λ (s : State). Comes old (progress_of inside.source c.push_leg-3.new.commands.items s (inside.steps + c.moves_to-count.result)) c.args.to) (sym now)
+    (go_makes (the_view inside) old c.self.view_is c.self.invariant c.args.to c.push_leg-3.new.commands.items the_legs.0 (bots_at inside.system.bots c.args.to) energy c.moves_to-count.result c.requires.alone c.requires.allowed c.requires.within c.requires.ways c.requires.limit the_legs.1 the_legs.2 refl count (charge c))
 
 pub invariant_of-self-2 : goal.invariant_of-self-2
 invariant_of-self-2 c = (comes c).reached

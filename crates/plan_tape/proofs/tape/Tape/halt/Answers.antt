@@ -13,11 +13,11 @@ charge c = charged_as c.args.self.now 1 (pos 0) c.energy_after-energy.result _ (
 makes : (c : goal.After-self-1)
     → Makes c.args.self.now (progress_of c.self.inside.source c.write.new.commands.items c.halt.new.self (c.self.inside.steps + 1)) Halt c.args.self.now.matrix c.args.self.now.harmonics [] (pos 0)
 makes c =
-    let r = c.self.inside in
+    let inside = c.self.inside in
     let energy = to_z w64 (of_z w64 c.energy_after-energy.result) in
-    let now : c.halt.new.self ≡ record r.system { bots = []; energy = energy } = c.halt.ensures ∙ (λ i. record (c.set_energy.ensures i) { bots = [] }) in
-    subst (λ (s : State). Makes c.args.self.now (progress_of r.source c.write.new.commands.items s (r.steps + 1)) Halt c.args.self.now.matrix c.args.self.now.harmonics [] (pos 0)) (sym now)
-    (halt_makes (the_view r) c.args.self.now c.self.view_is c.self.invariant c.write.new.commands.items energy [] c.requires.alone c.requires.allowed c.requires.home c.requires.low c.requires.limit c.in_ok-write.ensures.ok refl (charge c))
+    let now : c.halt.new.self ≡ record inside.system { bots = []; energy = energy } = c.halt.ensures ∙ (λ i. record (c.set_energy.ensures i) { bots = [] }) in
+    subst (λ (s : State). Makes c.args.self.now (progress_of inside.source c.write.new.commands.items s (inside.steps + 1)) Halt c.args.self.now.matrix c.args.self.now.harmonics [] (pos 0)) (sym now)
+    (halt_makes (the_view inside) c.args.self.now c.self.view_is c.self.invariant c.write.new.commands.items energy [] c.requires.alone c.requires.allowed c.requires.home c.requires.low c.requires.limit c.in_ok-write.ensures.ok refl (charge c))
 
 pub invariant_of-self-2 : goal.invariant_of-self-2
 invariant_of-self-2 c = (makes c).reached

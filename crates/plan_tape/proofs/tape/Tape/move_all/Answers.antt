@@ -9,19 +9,19 @@ use Rattle.plan_tape.proofs.tape.Tape.move_all.Goals as goal
 
 pub act_all-requires-clause-calm : goal.act_all-requires-clause-calm
 act_all-requires-clause-calm c =
-    let p = c.args.self.now in
-    record { free = free_by p (acts p.bots c.args.commands.now) c.requires.moves.each c.requires.moves.apart; calm = flip_by p (acts p.bots c.args.commands.now) c.requires.moves.each }
+    let self = c.args.self.now in
+    record { free = free_by self (acts self.bots c.args.commands.now) c.requires.moves.each c.requires.moves.apart; calm = flip_by self (acts self.bots c.args.commands.now) c.requires.moves.each }
 
 pub act_all-requires-clause-held : goal.act_all-requires-clause-held
 act_all-requires-clause-held c =
-    let p = c.args.self.now in
-    let k = c.args.commands.now in
-    subst (λ (m : Matrix). IsHeld p.harmonics m) (sym (c.bots_act.ensures.still (state_of p) k c.recall_ready.ensures.ready (leave_by p (acts p.bots k) c.requires.moves.each))) c.recall_ready.ensures.held
+    let self = c.args.self.now in
+    let commands = c.args.commands.now in
+    subst (λ (m : Matrix). IsHeld self.harmonics m) (sym (c.bots_act.ensures.still (state_of self) commands c.recall_ready.ensures.ready (leave_by self (acts self.bots commands) c.requires.moves.each))) c.recall_ready.ensures.held
 
 pub returns-clause-ok : goal.returns-clause-ok
 returns-clause-ok c =
-    let p = c.args.self.now in
-    let k = c.args.commands.now in
+    let self = c.args.self.now in
+    let commands = c.args.commands.now in
     on_ok_weaker c.act_all.result
-    (λ (s : CalmStep p c.act_all.new.self k). step_as p c.act_all.new.self k _ (p.matrix) p.harmonics _ (bots_gone p.bots k) (c.bots_act.ensures.still (state_of p) k c.recall_ready.ensures.ready (leave_by p (acts p.bots k) c.requires.moves.each)) (c.bots_act.ensures.gone (state_of p) k c.recall_ready.ensures.ready c.requires.commands (stay_by p (acts p.bots k) c.requires.moves.each)) s)
+    (λ (s : CalmStep self c.act_all.new.self commands). step_as self c.act_all.new.self commands _ (self.matrix) self.harmonics _ (bots_gone self.bots commands) (c.bots_act.ensures.still (state_of self) commands c.recall_ready.ensures.ready (leave_by self (acts self.bots commands) c.requires.moves.each)) (c.bots_act.ensures.gone (state_of self) commands c.recall_ready.ensures.ready c.requires.commands (stay_by self (acts self.bots commands) c.requires.moves.each)) s)
     c.act_all.ensures.ok

@@ -8,22 +8,22 @@ use Rattle.plan_tape.proofs.tape.Tape.paint_all.Goals as goal
 
 pub step-requires-clause-unbroken : goal.step-requires-clause-unbroken
 step-requires-clause-unbroken c =
-    let p = c.args.self.now in
-    let g = c.requires.group in
-    c.one_group_breaks_no_rule.ensures (state_of p) c.args.commands.now (p.steps + 1) g.region g.full c.recall_ready.ensures.ready c.requires.commands g.group
+    let self = c.args.self.now in
+    let group = c.requires.group in
+    c.one_group_breaks_no_rule.ensures (state_of self) c.args.commands.now (self.steps + 1) group.region group.full c.recall_ready.ensures.ready c.requires.commands group.group
 
 pub step-requires-clause-held : goal.step-requires-clause-held
 step-requires-clause-held c =
-    let p = c.args.self.now in
-    let g = c.requires.group in
-    held_under_high (after (state_of p) c.args.commands.now) p.harmonics (c.one_group_acts.ensures.harmonics (state_of p) c.args.commands.now g.region g.full g.group) c.requires.high
+    let self = c.args.self.now in
+    let group = c.requires.group in
+    held_under_high (after (state_of self) c.args.commands.now) self.harmonics (c.one_group_acts.ensures.harmonics (state_of self) c.args.commands.now group.region group.full group.group) c.requires.high
 
 pub returns-clause-ok : goal.returns-clause-ok
 returns-clause-ok c =
-    let p = c.args.self.now in
+    let self = c.args.self.now in
     on_ok_weaker c.step.result
-    (λ (e : c.step.new.self ≡ tape_stepped p c.args.commands.now) region full group. stepped_is p c.step.new.self c.args.commands.now (with_region p.matrix region full) p.harmonics p.bots e
-    (c.one_group_acts.ensures.matrix (state_of p) c.args.commands.now region full group)
-    (c.one_group_acts.ensures.harmonics (state_of p) c.args.commands.now region full group)
-    (c.one_group_acts.ensures.bots (state_of p) c.args.commands.now region full c.recall_ready.ensures.ready c.requires.commands group))
+    (λ (e : c.step.new.self ≡ tape_stepped self c.args.commands.now) region full group. stepped_is self c.step.new.self c.args.commands.now (with_region self.matrix region full) self.harmonics self.bots e
+    (c.one_group_acts.ensures.matrix (state_of self) c.args.commands.now region full group)
+    (c.one_group_acts.ensures.harmonics (state_of self) c.args.commands.now region full group)
+    (c.one_group_acts.ensures.bots (state_of self) c.args.commands.now region full c.recall_ready.ensures.ready c.requires.commands group))
     c.step.ensures.ok

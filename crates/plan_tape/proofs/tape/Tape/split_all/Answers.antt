@@ -9,19 +9,19 @@ use Rattle.plan_tape.proofs.tape.Tape.split_all.Goals as goal
 
 pub act_all-requires-clause-calm : goal.act_all-requires-clause-calm
 act_all-requires-clause-calm c =
-    let p = c.args.self.now in
-    record { free = c.requires.free; calm = splits_flip_not p.bots c.args.splits.now c.requires.splits }
+    let self = c.args.self.now in
+    record { free = c.requires.free; calm = splits_flip_not self.bots c.args.splits.now c.requires.splits }
 
 pub act_all-requires-clause-held : goal.act_all-requires-clause-held
 act_all-requires-clause-held c =
-    let p = c.args.self.now in
-    let k = c.args.splits.now in
-    subst (λ (m : Matrix). IsHeld p.harmonics m) (sym (c.bots_act.ensures.still (state_of p) k c.recall_ready.ensures.ready (splits_leave p.bots k c.requires.splits))) c.recall_ready.ensures.held
+    let self = c.args.self.now in
+    let splits = c.args.splits.now in
+    subst (λ (m : Matrix). IsHeld self.harmonics m) (sym (c.bots_act.ensures.still (state_of self) splits c.recall_ready.ensures.ready (splits_leave self.bots splits c.requires.splits))) c.recall_ready.ensures.held
 
 pub returns-clause-ok : goal.returns-clause-ok
 returns-clause-ok c =
-    let p = c.args.self.now in
-    let k = c.args.splits.now in
+    let self = c.args.self.now in
+    let splits = c.args.splits.now in
     on_ok_weaker c.act_all.result
-    (λ (s : CalmStep p c.act_all.new.self k). step_as p c.act_all.new.self k _ (p.matrix) p.harmonics _ (bots_split p.bots k) (c.bots_act.ensures.still (state_of p) k c.recall_ready.ensures.ready (splits_leave p.bots k c.requires.splits)) (splits_part p.bots k c.requires.splits) s)
+    (λ (s : CalmStep self c.act_all.new.self splits). step_as self c.act_all.new.self splits _ (self.matrix) self.harmonics _ (bots_split self.bots splits) (c.bots_act.ensures.still (state_of self) splits c.recall_ready.ensures.ready (splits_leave self.bots splits c.requires.splits)) (splits_part self.bots splits c.requires.splits) s)
     c.act_all.ensures.ok

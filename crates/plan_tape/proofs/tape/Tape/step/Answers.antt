@@ -8,8 +8,8 @@ use Rattle.plan_tape.proofs.tape.Tape.step.Goals as goal
 
 pub advance-requires-clause-payable : goal.advance-requires-clause-payable
 advance-requires-clause-payable c =
-    let r = c.self.invariant in
-    payable c.self.inside.system.energy c.self.inside.steps r.bounded (subst (λ (p : TapeState). p.steps < 1073741824) (sym c.self.view_is) c.requires.limit)
+    let invariant = c.self.invariant in
+    payable c.self.inside.system.energy c.self.inside.steps invariant.bounded (subst (λ (p : TapeState). p.steps < 1073741824) (sym c.self.view_is) c.requires.limit)
 
 pub advance-requires-clause-judged : goal.advance-requires-clause-judged
 advance-requires-clause-judged c = (c.self.inside.steps + 1, subst (λ (p : TapeState). broken (state_of p) c.args.commands.now (p.steps + 1) ≡ None) (sym c.self.view_is) c.requires.unbroken)

@@ -33,12 +33,12 @@ makes : (c : goal.After-self-1)
     (Void c.args.d)
     (with_voxel c.args.self.now.matrix (beside c.args.self.now c.args.d) false) c.args.self.now.harmonics c.args.self.now.bots (cond (is_full c.args.self.now.matrix (beside c.args.self.now c.args.d)) (negsuc 11) (pos 3))
 makes c =
-    let r = c.self.inside in
+    let inside = c.self.inside in
     let energy = to_z w64 (of_z w64 c.energy_after-energy.result) in
-    let matrix = with_voxel r.system.matrix (beside c.args.self.now c.args.d) false in
-    let now : c.set_voxel.new.self ≡ record r.system { matrix = matrix; energy = energy } = c.set_voxel.ensures.value ∙ (λ i. record (c.set_energy.ensures i) { matrix = with_voxel (c.set_energy.ensures i).matrix (at c i) false }) in
-    subst (λ (s : State). Makes c.args.self.now (progress_of r.source c.write.new.commands.items s (r.steps + 1)) (Void c.args.d) (with_voxel c.args.self.now.matrix (beside c.args.self.now c.args.d) false) c.args.self.now.harmonics c.args.self.now.bots (cond (is_full c.args.self.now.matrix (beside c.args.self.now c.args.d)) (negsuc 11) (pos 3))) (sym now)
-    (void_makes (the_view r) c.args.self.now c.self.view_is c.self.invariant c.write.new.commands.items energy c.args.d matrix c.requires.alone c.requires.allowed c.requires.reachable c.requires.held c.requires.limit c.in_ok-write.ensures.ok refl (subst (λ (s : State). IsWhole s.matrix) now c.set_voxel.ensures.whole) (charge c))
+    let matrix = with_voxel inside.system.matrix (beside c.args.self.now c.args.d) false in
+    let now : c.set_voxel.new.self ≡ record inside.system { matrix = matrix; energy = energy } = c.set_voxel.ensures.value ∙ (λ i. record (c.set_energy.ensures i) { matrix = with_voxel (c.set_energy.ensures i).matrix (at c i) false }) in
+    subst (λ (s : State). Makes c.args.self.now (progress_of inside.source c.write.new.commands.items s (inside.steps + 1)) (Void c.args.d) (with_voxel c.args.self.now.matrix (beside c.args.self.now c.args.d) false) c.args.self.now.harmonics c.args.self.now.bots (cond (is_full c.args.self.now.matrix (beside c.args.self.now c.args.d)) (negsuc 11) (pos 3))) (sym now)
+    (void_makes (the_view inside) c.args.self.now c.self.view_is c.self.invariant c.write.new.commands.items energy c.args.d matrix c.requires.alone c.requires.allowed c.requires.reachable c.requires.held c.requires.limit c.in_ok-write.ensures.ok refl (subst (λ (s : State). IsWhole s.matrix) now c.set_voxel.ensures.whole) (charge c))
 
 pub invariant_of-self-2 : goal.invariant_of-self-2
 invariant_of-self-2 c = (makes c).reached

@@ -56,9 +56,9 @@ returns-in-Ok-clause-touches g c =
 
 pub returns-in_err-ready-clause-touches_refused : goal.returns-in_err-ready-clause-touches_refused
 returns-in_err-ready-clause-touches_refused g c =
-    let p = c.args.self.now.session.point in
+    let point = c.args.self.now.session.point in
     let is : c.from_residual.result ≡ Err c.in_err-ready.field-0.0 = search rules in
-    subst (λ (r : Result (Option StepOk) DebugFault). IfRefused r (λ b. IsRefusedWithin 102 c.args.self.now.commands p b c.args.steps.now c.args.steps.now)) (sym is) (untouched_at (Option StepOk) 102 c.args.self.now.commands p c.in_err-ready.field-0.0 c.args.steps.now)
+    subst (λ (r : Result (Option StepOk) DebugFault). IfRefused r (λ b. IsRefusedWithin 102 c.args.self.now.commands point b c.args.steps.now c.args.steps.now)) (sym is) (untouched_at (Option StepOk) 102 c.args.self.now.commands point c.in_err-ready.field-0.0 c.args.steps.now)
 
 pub returns-in-Some-clause-touches_refused : goal.returns-in-Some-clause-touches_refused
 returns-in-Some-clause-touches_refused g c =

@@ -20,20 +20,20 @@ list_groups-requires-clause-judged g c = judged c.args.step.now.bots.now c.args.
 
 pub returns-in-Some-judge_pairs-clause-broken : goal.returns-in-Some-judge_pairs-clause-broken
 returns-in-Some-judge_pairs-clause-broken g c =
-    let m = c.args.step.now.planes.now in
+    let planes = c.args.step.now.planes.now in
     let all : List Act = acts_of_step c.args.step.now in
     by_pair c.args.step.now c.judge_bots.result c.judge_pairs.result (Some c.in-Some-judge_pairs.broken) c.requires.step.lengths c.judge_bots.ensures.value c.in_default.is
-    (c.judge_pairs.ensures m all (leaders all) (subst (λ (gs : List Group). AreGroups m.resolution all (leaders all) gs) (sym c.as_slice.ensures.value) c.list_groups.ensures)) c.in-Some-judge_pairs.is
+    (c.judge_pairs.ensures planes all (leaders all) (subst (λ (gs : List Group). AreGroups planes.resolution all (leaders all) gs) (sym c.as_slice.ensures.value) c.list_groups.ensures)) c.in-Some-judge_pairs.is
 
 pub returns-in-Some-judge_pairs-clause-touches : goal.returns-in-Some-judge_pairs-clause-touches
 returns-in-Some-judge_pairs-clause-touches g c = touched c.args.step.now.planes.now c.args.step.now.bots.now c.args.step.now.commands.now c.args.steps.now c.judge_bots.new.steps c.requires.step.lengths c.requires.step.crew.rising c.judge_bots.ensures.touches
 
 pub returns-clause-unbroken : goal.returns-clause-unbroken
 returns-clause-unbroken g c =
-    let m = c.args.step.now.planes.now in
+    let planes = c.args.step.now.planes.now in
     let all : List Act = acts_of_step c.args.step.now in
     by_pair c.args.step.now c.judge_bots.result c.judge_pairs.result None c.requires.step.lengths c.judge_bots.ensures.value c.in_default.is
-    (c.judge_pairs.ensures m all (leaders all) (subst (λ (gs : List Group). AreGroups m.resolution all (leaders all) gs) (sym c.as_slice.ensures.value) c.list_groups.ensures)) c.in_default-judge_pairs.is
+    (c.judge_pairs.ensures planes all (leaders all) (subst (λ (gs : List Group). AreGroups planes.resolution all (leaders all) gs) (sym c.as_slice.ensures.value) c.list_groups.ensures)) c.in_default-judge_pairs.is
 
 pub returns-clause-touches : goal.returns-clause-touches
 returns-clause-touches g c = touched c.args.step.now.planes.now c.args.step.now.bots.now c.args.step.now.commands.now c.args.steps.now c.judge_bots.new.steps c.requires.step.lengths c.requires.step.crew.rising c.judge_bots.ensures.touches

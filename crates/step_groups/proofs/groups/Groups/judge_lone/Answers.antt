@@ -51,10 +51,10 @@ list_groups-requires-clause-judged g c = judged c.args.step.now.bots.now c.args.
 
 pub returns-clause-value : goal.returns-clause-value
 returns-clause-value g c = λ energy.
-    let m = c.args.step.now.planes.now in
+    let planes = c.args.step.now.planes.now in
     let all : List Act = acts_of_step c.args.step.now in
     sym (by_pair c.args.step.now None c.judge_pairs.result c.judge_pairs.result c.requires.step.lengths c.in-Ok.ensures.value refl
-    (c.judge_pairs.ensures m all (leaders all) (subst (λ (gs : List Group). AreGroups m.resolution all (leaders all) gs) (sym c.as_slice.ensures.value) c.list_groups.ensures)) refl energy)
+    (c.judge_pairs.ensures planes all (leaders all) (subst (λ (gs : List Group). AreGroups planes.resolution all (leaders all) gs) (sym c.as_slice.ensures.value) c.list_groups.ensures)) refl energy)
 
 pub returns-clause-lone : goal.returns-clause-lone
 returns-clause-lone g c = all_lone c.args.step.now.planes.now c.args.step.now.bots.now c.args.step.now.commands.now c.requires.step.lengths c.requires.step.crew.rising c.requires.lone

@@ -29,19 +29,19 @@ edit_voxel-requires-clause-at g c = subst (λ r. IsInSpace r c.target-at.result)
 
 pub returns-clause-value : goal.returns-clause-value
 returns-clause-value g c = λ partner.
-    let s : State = c.args.self.now in
-    let may : MayTake s.matrix.resolution s.bots c.args.bot 0 (edit_of c.args.full c.args.d) = c.requires.may 0 in
-    let named = names_in_space s.matrix.resolution c.args.bot c.args.d c.args.full may.stays in
+    let state : State = c.args.self.now in
+    let may : MayTake state.matrix.resolution state.bots c.args.bot 0 (edit_of c.args.full c.args.d) = c.requires.may 0 in
+    let named = names_in_space state.matrix.resolution c.args.bot c.args.d c.args.full may.stays in
     let at = c.target-at.ensures.value ∙ ap (λ (d : Diff). coordinate (plus (point c.args.bot.pos) d)) c.diff.ensures.value in
     let was = c.full_at-was_full.ensures.value ∙ ap (λ (t : State). is_full t.matrix c.target-at.result) c.self.view_is in
     c.edit_voxel.ensures.value
-    ∙ edited_turn s c.args.bot partner c.args.d c.args.full c.target-at.result (s.energy +ℤ edit_cost c.args.full c.full_at-was_full.result) named at (ap (λ t. s.energy +ℤ edit_cost c.args.full t) was)
+    ∙ edited_turn state c.args.bot partner c.args.d c.args.full c.target-at.result (state.energy +ℤ edit_cost c.args.full c.full_at-was_full.result) named at (ap (λ t. state.energy +ℤ edit_cost c.args.full t) was)
 
 pub returns-clause-touches : goal.returns-clause-touches
 returns-clause-touches g c =
     let may : MayTake c.self.inside.matrix.resolution c.self.inside.crew c.args.bot 0 (edit_of c.args.full c.args.d) = subst (λ (t : State). MayTake t.matrix.resolution t.bots c.args.bot 0 (edit_of c.args.full c.args.d)) (sym c.self.view_is) (c.requires.may 0) in
     let named = names_in_space c.self.inside.matrix.resolution c.args.bot c.args.d c.args.full may.stays in
-    let n = one_met c.self.inside.matrix c.args.bot c.args.d c.args.full named in
-    let t = c.full_at-was_full.ensures.touches in
+    let one_met_here = one_met c.self.inside.matrix c.args.bot c.args.d c.args.full named in
+    let touches = c.full_at-was_full.ensures.touches in
     let le : c.full_at-was_full.new.steps ≤ c.args.steps.now + met_count c.self.inside.matrix c.args.bot (edit_of c.args.full c.args.d) = omega arith in
     subst (λ (s : State). c.full_at-was_full.new.steps ≤ c.args.steps.now + met_count s.matrix c.args.bot (edit_of c.args.full c.args.d)) c.self.view_is le

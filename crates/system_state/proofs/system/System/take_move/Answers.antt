@@ -18,32 +18,32 @@ use Rattle.system_state.proofs.system.System.take_move.Goals as goal
 
 pub target-to-requires-clause-from : goal.target-to-requires-clause-from
 target-to-requires-clause-from c =
-    let s : State = c.args.self.now in
-    let may : MayTake s.matrix.resolution s.bots c.args.bot 0 (SMove c.args.d) = c.requires.may 0 in
+    let state : State = c.args.self.now in
+    let may : MayTake state.matrix.resolution state.bots c.args.bot 0 (SMove c.args.d) = c.requires.may 0 in
     let same : c.resolution.result ≡ c.args.self.now.matrix.resolution = c.resolution.ensures.value ∙ ap (λ (t : State). t.matrix.resolution) c.self.view_is in
     subst (λ r. IsInSpace r c.args.bot.pos) (sym same) may.within
 
 pub target-to-requires-clause-within : goal.target-to-requires-clause-within
 target-to-requires-clause-within c =
-    let s : State = c.args.self.now in
-    let may : MayTake s.matrix.resolution s.bots c.args.bot 0 (SMove c.args.d) = c.requires.may 0 in
+    let state : State = c.args.self.now in
+    let may : MayTake state.matrix.resolution state.bots c.args.bot 0 (SMove c.args.d) = c.requires.may 0 in
     let same : c.resolution.result ≡ c.args.self.now.matrix.resolution = c.resolution.ensures.value ∙ ap (λ (t : State). t.matrix.resolution) c.self.view_is in
     subst (λ r. IsTrue (in_space r (plus (point c.args.bot.pos) c.diff.result))) (sym same)
-    (subst (λ (d : Diff). IsTrue (in_space s.matrix.resolution (plus (point c.args.bot.pos) d))) (sym c.diff.ensures.value)
-    (first_of_two (in_space s.matrix.resolution (plus (point c.args.bot.pos) c.args.d)) _ may.stays))
+    (subst (λ (d : Diff). IsTrue (in_space state.matrix.resolution (plus (point c.args.bot.pos) d))) (sym c.diff.ensures.value)
+    (first_of_two (in_space state.matrix.resolution (plus (point c.args.bot.pos) c.args.d)) _ may.stays))
 
 pub move_to-requires-clause-active : goal.move_to-requires-clause-active
 move_to-requires-clause-active c =
-    let s : State = c.args.self.now in
-    let may : MayTake s.matrix.resolution s.bots c.args.bot 0 (SMove c.args.d) = c.requires.may 0 in
+    let state : State = c.args.self.now in
+    let may : MayTake state.matrix.resolution state.bots c.args.bot 0 (SMove c.args.d) = c.requires.may 0 in
     subst (λ (o : Option Bot). IsSome o) (sym may.active) refl
 
 pub move_to-requires-clause-free : goal.move_to-requires-clause-free
 move_to-requires-clause-free c =
-    let s : State = c.args.self.now in
-    let may : MayTake s.matrix.resolution s.bots c.args.bot 0 (SMove c.args.d) = c.requires.may 0 in
+    let state : State = c.args.self.now in
+    let may : MayTake state.matrix.resolution state.bots c.args.bot 0 (SMove c.args.d) = c.requires.may 0 in
     let there = c.target-to.ensures.value ∙ ap (λ (d : Diff). coordinate (plus (point c.args.bot.pos) d)) c.diff.ensures.value in
-    subst (λ (to : Coord). IsFreeFor s.bots c.args.bot to) (sym there) may.needs
+    subst (λ (to : Coord). IsFreeFor state.bots c.args.bot to) (sym there) may.needs
 
 pub move_to-requires-clause-within : goal.move_to-requires-clause-within
 move_to-requires-clause-within c =
@@ -52,9 +52,9 @@ move_to-requires-clause-within c =
 
 pub pay-requires-clause-payable : goal.pay-requires-clause-payable
 pay-requires-clause-payable c =
-    let s : State = c.args.self.now in
-    let may : MayTake s.matrix.resolution s.bots c.args.bot 0 (SMove c.args.d) = c.requires.may 0 in
-    subst (λ (t : State). IsWithin 9000000000000000000 t.energy) (sym (gone s c.move_to.new.self c.args.bot c.target-to.result may.active c.move_to.ensures.moved)) c.requires.payable
+    let state : State = c.args.self.now in
+    let may : MayTake state.matrix.resolution state.bots c.args.bot 0 (SMove c.args.d) = c.requires.may 0 in
+    subst (λ (t : State). IsWithin 9000000000000000000 t.energy) (sym (gone state c.move_to.new.self c.args.bot c.target-to.result may.active c.move_to.ensures.moved)) c.requires.payable
 
 pub pay-requires-clause-small : goal.pay-requires-clause-small
 pay-requires-clause-small c =
@@ -63,17 +63,17 @@ pay-requires-clause-small c =
 
 pub returns-clause-value : goal.returns-clause-value
 returns-clause-value c = λ partner.
-    let s : State = c.args.self.now in
-    let may : MayTake s.matrix.resolution s.bots c.args.bot 0 (SMove c.args.d) = c.requires.may 0 in
+    let state : State = c.args.self.now in
+    let may : MayTake state.matrix.resolution state.bots c.args.bot 0 (SMove c.args.d) = c.requires.may 0 in
     let same : to_z w64 (of_z w64 c.cost_of_move.result) ≡ c.cost_of_move.result = search rules in
-    let whole : IsWhole s.matrix = subst (λ (t : State). IsWhole t.matrix) c.self.view_is c.resolution.ensures.whole in
-    let bots = bots_moved s.bots c.args.bot partner c.args.d c.diff.result c.target-to.result c.diff.ensures.value c.target-to.ensures.sum in
+    let whole : IsWhole state.matrix = subst (λ (t : State). IsWhole t.matrix) c.self.view_is c.resolution.ensures.whole in
+    let bots = bots_moved state.bots c.args.bot partner c.args.d c.diff.result c.target-to.result c.diff.ensures.value c.target-to.ensures.sum in
     c.pay.ensures.value
-    ∙ (ap (λ (t : State). record t { energy = t.energy +ℤ to_z w64 (of_z w64 c.cost_of_move.result) }) (gone s c.move_to.new.self c.args.bot c.target-to.result may.active c.move_to.ensures.moved)
-    ∙ moved_straight s (replaced s.bots (c.args.bot.bid ∷ []) (moved c.args.bot (point c.target-to.result) ∷ [])) (s.energy +ℤ to_z w64 (of_z w64 c.cost_of_move.result)) c.args.bot partner c.args.d whole.voxels bots (ap (λ z. s.energy +ℤ z) (same ∙ c.cost_of_move.ensures.value)))
+    ∙ (ap (λ (t : State). record t { energy = t.energy +ℤ to_z w64 (of_z w64 c.cost_of_move.result) }) (gone state c.move_to.new.self c.args.bot c.target-to.result may.active c.move_to.ensures.moved)
+    ∙ moved_straight state (replaced state.bots (c.args.bot.bid ∷ []) (moved c.args.bot (point c.target-to.result) ∷ [])) (state.energy +ℤ to_z w64 (of_z w64 c.cost_of_move.result)) c.args.bot partner c.args.d whole.voxels bots (ap (λ z. state.energy +ℤ z) (same ∙ c.cost_of_move.ensures.value)))
 
 pub returns-clause-within : goal.returns-clause-within
 returns-clause-within c = λ k h.
-    let s : State = c.args.self.now in
-    let may : MayTake s.matrix.resolution s.bots c.args.bot 0 (SMove c.args.d) = c.requires.may 0 in
-    c.pay.ensures.within k (subst (λ (t : State). IsWithin k t.energy) (sym (gone s c.move_to.new.self c.args.bot c.target-to.result may.active c.move_to.ensures.moved)) h)
+    let state : State = c.args.self.now in
+    let may : MayTake state.matrix.resolution state.bots c.args.bot 0 (SMove c.args.d) = c.requires.may 0 in
+    c.pay.ensures.within k (subst (λ (t : State). IsWithin k t.energy) (sym (gone state c.move_to.new.self c.args.bot c.target-to.result may.active c.move_to.ensures.moved)) h)

@@ -19,7 +19,7 @@ pub loop-turn-init : goal.loop-turn-init
 loop-turn-init g c = record {
   taken = λ order perm are. c.pay_upkeep.ensures.value ∙ c.groups_take_turns.ensures.first c.args.self.now c.args.commands.now c.requires.judged.0 c.recall.ensures.ready c.requires.judged.1;
   within = c.pay_upkeep.ensures.within;
-  touches = λ order perm are. let z : sum [] ≡ 0 = refl in omega arith;
+  touches = λ order perm are. let sum_zero : sum [] ≡ 0 = refl in omega arith;
 }
 
 pub bounds-commands-from : goal.bounds-commands-from
@@ -65,7 +65,7 @@ loop-turn-preserved g c =
     record {
       taken = λ order perm are. taken_more c.args.self.now c.args.commands.now c.requires.judged.0 c.recall.ensures.ready c.requires.judged.1 c.recall_all.ensures order perm c.args.turns.now are c.loop-turn.turn-index lt (no_turn) law c.loop-turn.self (c.loop-turn.invariant.taken order perm are) c.recall-in-loop-turn.ensures.ready c.group_is_replaced.ensures c.index-commands-from.result command c.take_turn.new.self
           (subst (λ (ts : List Turn). IfSome (bot_of c.loop-turn.self.bots (get_or ts c.loop-turn.turn-index (no_turn)).leader) (λ bot. c.take_turn.new.self ≡ after_turn c.loop-turn.self bot (get_or ts c.loop-turn.turn-index (no_turn)).partner c.index-commands-from.result)) items c.take_turn.ensures.value);
-      within = subst (λ k. IsWithin k c.take_turn.new.self.energy) (let e : 4611686020427387904 + 357492 * c.loop-turn.turn-index + 357492 ≡ 4611686020427387904 + 357492 * (c.loop-turn.turn-index + 1) = omega arith in e) (c.take_turn.ensures.within (4611686020427387904 + 357492 * c.loop-turn.turn-index) c.loop-turn.invariant.within);
+      within = subst (λ k. IsWithin k c.take_turn.new.self.energy) (let sum_is : 4611686020427387904 + 357492 * c.loop-turn.turn-index + 357492 ≡ 4611686020427387904 + 357492 * (c.loop-turn.turn-index + 1) = omega arith in sum_is) (c.take_turn.ensures.within (4611686020427387904 + 357492 * c.loop-turn.turn-index) c.loop-turn.invariant.within);
       touches = λ order perm are. touched_more c.args.self.now c.args.commands.now c.requires.judged.0 c.recall.ensures.ready c.requires.judged.1 c.recall_all.ensures order perm c.args.turns.now are c.loop-turn.turn-index lt (no_turn) law c.loop-turn.self (c.loop-turn.invariant.taken order perm are) c.recall-in-loop-turn.ensures.ready c.index-commands-from.result command c.loop-turn.steps c.take_turn.new.steps c.args.steps.now
           (subst (λ (ts : List Turn). IfSome (bot_of c.loop-turn.self.bots (get_or ts c.loop-turn.turn-index (no_turn)).leader) (λ bot. c.take_turn.new.steps ≤ c.loop-turn.steps + met_count c.loop-turn.self.matrix bot c.index-commands-from.result)) items c.take_turn.ensures.touches)
           (c.loop-turn.invariant.touches order perm are);

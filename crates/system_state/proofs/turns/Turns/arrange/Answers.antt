@@ -34,5 +34,5 @@ loop-leader-preserved c = record {
 pub returns-clause-groups : goal.returns-clause-groups
 returns-clause-groups c =
     arranged_are c.args.self.now c.loop-leader.arranged.items c.args.order.now c.requires
-    (c.loop-leader.invariant.leaders ∙ take_whole c.loop-leader.leader-index c.args.order.now (let e = c.loop-leader-test.false in omega arith))
+    (c.loop-leader.invariant.leaders ∙ take_whole c.loop-leader.leader-index c.args.order.now (let at_end = c.loop-leader-test.false in omega arith))
     c.loop-leader.invariant.known

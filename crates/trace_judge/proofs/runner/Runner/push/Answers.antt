@@ -17,13 +17,13 @@ returns-in-Refused-clause-progress g c =
 
 pub returns-in-Refused-clause-touches : goal.returns-in-Refused-clause-touches
 returns-in-Refused-clause-touches g c =
-    let p = c.args.self.now.progress in
-    untouched_within p.state (p.pending ++ c.args.command ∷ []) (p.steps + 1) (searched_by (mark_by c.next_mark-mark.result) p.state.matrix) c.args.steps.now c.args.steps.now refl
+    let progress_given = c.args.self.now.progress in
+    untouched_within progress_given.state (progress_given.pending ++ c.args.command ∷ []) (progress_given.steps + 1) (searched_by (mark_by c.next_mark-mark.result) progress_given.state.matrix) c.args.steps.now c.args.steps.now refl
 
 pub returns-in-Waits-clause-touches : goal.returns-in-Waits-clause-touches
 returns-in-Waits-clause-touches g c =
-    let p = c.args.self.now.progress in
-    untouched_within p.state (p.pending ++ c.args.command ∷ []) (p.steps + 1) (searched_by (mark_by c.self.inside.mark) p.state.matrix) c.args.steps.now c.take.new.steps (c.in-Waits.ensures.untouched refl)
+    let progress_given = c.args.self.now.progress in
+    untouched_within progress_given.state (progress_given.pending ++ c.args.command ∷ []) (progress_given.steps + 1) (searched_by (mark_by c.self.inside.mark) progress_given.state.matrix) c.args.steps.now c.take.new.steps (c.in-Waits.ensures.untouched refl)
 
 pub returns-in-Made-clause-progress : goal.returns-in-Made-clause-progress
 returns-in-Made-clause-progress g c =

@@ -50,7 +50,7 @@ size : (g : Over) (c : goal.After-self-1 g) → length (left g c) ≡ length c.f
 size g c =
     ap length (items_are g c)
     ∙ (c.drop_stacked.auto.left
-    ∙ (ap length c.deref_mut.ensures.value ∙ (c.self.invariant.0.whole ∙ sym (let h = layers g c in h.whole))))
+    ∙ (ap length c.deref_mut.ensures.value ∙ (c.self.invariant.0.whole ∙ sym (let layers_here = layers g c in layers_here.whole))))
 
 kept : (g : Over) (c : goal.After-self-1 g) → IsLayered c.self.inside.resolution (left g c)
 kept g c =

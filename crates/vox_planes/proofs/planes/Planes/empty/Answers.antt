@@ -10,18 +10,18 @@ zeros ws r n side words e f g h = e ∙ ap (λ k. replicate k 0) (f ∙ (λ i. g
 
 pub invariant_of-result : goal.invariant_of-result
 invariant_of-result c =
-    let e = zeros c.in_ok-words.words.items c.args.r _ c.from.result c.layer_words-layer.result (c.in_ok-words.ensures.items_if_clones_equal (λ y h. h)) refl c.from.ensures c.layer_words-layer.ensures in (
-      subst (λ (ws : List ℕ). IsLayered c.args.r ws) (sym e) (IsLayered-zeros c.args.r c.requires.some c.requires.most),
+    let zeros_here = zeros c.in_ok-words.words.items c.args.r _ c.from.result c.layer_words-layer.result (c.in_ok-words.ensures.items_if_clones_equal (λ y h. h)) refl c.from.ensures c.layer_words-layer.ensures in (
+      subst (λ (ws : List ℕ). IsLayered c.args.r ws) (sym zeros_here) (IsLayered-zeros c.args.r c.requires.some c.requires.most),
       c.layer_words-layer.ensures,
-      subst (λ (ws : List ℕ). AreZeroFrom ws 0) (sym e) (zero_zeros (c.args.r * layer_words c.args.r)),
+      subst (λ (ws : List ℕ). AreZeroFrom ws 0) (sym zeros_here) (zero_zeros (c.args.r * layer_words c.args.r)),
     )
 
 pub returns-clause-value : goal.returns-clause-value
 returns-clause-value c =
-    let e = zeros c.in_ok-words.words.items c.args.r _ c.from.result c.layer_words-layer.result (c.in_ok-words.ensures.items_if_clones_equal (λ y h. h)) refl c.from.ensures c.layer_words-layer.ensures in
-    ap (λ (ws : List ℕ). layered c.args.r ws) e ∙ layered-zeros c.args.r
+    let zeros_here = zeros c.in_ok-words.words.items c.args.r _ c.from.result c.layer_words-layer.result (c.in_ok-words.ensures.items_if_clones_equal (λ y h. h)) refl c.from.ensures c.layer_words-layer.ensures in
+    ap (λ (ws : List ℕ). layered c.args.r ws) zeros_here ∙ layered-zeros c.args.r
 
 pub returns-clause-whole : goal.returns-clause-whole
 returns-clause-whole c =
-    let e = zeros c.in_ok-words.words.items c.args.r _ c.from.result c.layer_words-layer.result (c.in_ok-words.ensures.items_if_clones_equal (λ y h. h)) refl c.from.ensures c.layer_words-layer.ensures in
-    layered_whole _ _ (subst (λ (ws : List ℕ). IsLayered c.args.r ws) (sym e) (IsLayered-zeros c.args.r c.requires.some c.requires.most))
+    let zeros_here = zeros c.in_ok-words.words.items c.args.r _ c.from.result c.layer_words-layer.result (c.in_ok-words.ensures.items_if_clones_equal (λ y h. h)) refl c.from.ensures c.layer_words-layer.ensures in
+    layered_whole _ _ (subst (λ (ws : List ℕ). IsLayered c.args.r ws) (sym zeros_here) (IsLayered-zeros c.args.r c.requires.some c.requires.most))

@@ -47,10 +47,10 @@ returns-then-index-ne0-clause-other g c = λ _ heap.
 
 pub returns-clause-heap : goal.returns-clause-heap
 returns-clause-heap g c = λ _.
-    let r = c.self.inside.resolution in
+    let resolution = c.self.inside.resolution in
     let ws = c.self.inside.words.items in
-    let all : r * layer_words r ≤ c.loop-i.i = omega (arith, c.loop-i-test.false, c.len-i-end.ensures, c.self.invariant.0.whole) in
-    subst IsHeap c.self.view_is (is_heap-held r ws c.self.inside.layer c.loop-i.i c.self.invariant.1 all c.loop-i.invariant.held)
+    let all : resolution * layer_words resolution ≤ c.loop-i.i = omega (arith, c.loop-i-test.false, c.len-i-end.ensures, c.self.invariant.0.whole) in
+    subst IsHeap c.self.view_is (is_heap-held resolution ws c.self.inside.layer c.loop-i.i c.self.invariant.1 all c.loop-i.invariant.held)
 
 pub returns-then-index-ne0-clause-touches : goal.returns-then-index-ne0-clause-touches
 returns-then-index-ne0-clause-touches g c =

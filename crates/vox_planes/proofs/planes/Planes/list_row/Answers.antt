@@ -9,10 +9,10 @@ use Rattle.vox_planes.proofs.planes.Planes.list_row.Goals as goal
 
 pub loop-z-preserved : goal.loop-z-preserved
 loop-z-preserved g c =
-    let r : c.self.inside.resolution ≡ c.args.self.now.resolution = ap (λ (m : Matrix). m.resolution) c.self.view_is in
+    let same_resolution : c.self.inside.resolution ≡ c.args.self.now.resolution = ap (λ (m : Matrix). m.resolution) c.self.view_is in
     let index : ℕ = c.bit_index.result - c.from.result + c.from-in-loop-z.result in
     let next = word_listed c.self.inside.resolution c.self.inside.words.items c.deref.result.now c.args.self.now c.args.first c.loop-z.z c.min-stop.result c.args.last index c.bits_from-bits.result c.args.full
-    c.self.view_is c.deref.ensures.value (subst (λ (n : ℕ). IsInSpace n c.args.first) (sym r) c.requires.within) (omega (arith, r, c.requires.end))
+    c.self.view_is c.deref.ensures.value (subst (λ (n : ℕ). IsInSpace n c.args.first) (sym same_resolution) c.requires.within) (omega (arith, same_resolution, c.requires.end))
     c.loop-z.invariant.low (omega (arith, c.loop-z-test.true, c.min-stop.ensures)) (omega (arith, c.min-stop.ensures))
     (omega (arith, c.bit_index.ensures.value, c.from.ensures, c.from-in-loop-z.ensures)) (omega (arith, c.min-stop.ensures, c.loop-z-test.true)) c.bits_from-bits.ensures in
     record {

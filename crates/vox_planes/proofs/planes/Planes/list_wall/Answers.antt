@@ -36,7 +36,7 @@ loop-y-preserved g c =
 
 pub returns-2-clause-items : goal.returns-2-clause-items
 returns-2-clause-items g c =
-    let end : c.loop-y.y ≡ c.args.b.now.high.y = (let e = ap (λ (d : Coord). d.y) c.high-high.ensures.value in omega arith) in
+    let end : c.loop-y.y ≡ c.args.b.now.high.y = (let same_y = ap (λ (d : Coord). d.y) c.high-high.ensures.value in omega arith) in
     ap (λ zs. c.list_row.new.list.items ++ zs)
     (sym (filter-next_wall c.args.self.now.resolution c.args.b.now (is_state c.args.self.now c.args.full) c.low-low.ensures.ordered c.requires.within c.args.x)
     ∙ ap (λ y. filter (passes_in c.args.b.now (is_state c.args.self.now c.args.full)) (coordinates_from c.args.self.now.resolution (place c.args.self.now.resolution (row_start c.args.b.now c.args.x (y + 1))))) (sym end))

@@ -8,14 +8,14 @@ use Rattle.vox_planes.proofs.planes.Planes.set_layer.Goals as goal
 
 pub loop-x-init : goal.loop-x-init
 loop-x-init g c =
-    let k = c.args.b.now in
-    let e = ap (λ (d : Coord). d.x) c.low-low.ensures.value in
+    let corners = c.args.b.now in
+    let same_x = ap (λ (d : Coord). d.x) c.low-low.ensures.value in
     record {
-      painted = painted_none c.args.self.now _ c.args.full c.recall.ensures.whole (λ d. ap (λ x. is_in_layer k c.args.y x d) e ∙ layer_none k c.args.y d);
+      painted = painted_none c.args.self.now _ c.args.full c.recall.ensures.whole (λ d. ap (λ x. is_in_layer corners c.args.y x d) same_x ∙ layer_none corners c.args.y d);
       resolution = refl;
       whole = c.recall.ensures.whole;
-      most = rw e (omega arith);
-      touches = rw e (omega arith);
+      most = rw same_x (omega arith);
+      touches = rw same_x (omega arith);
     }
 
 pub loop-x-preserved : goal.loop-x-preserved

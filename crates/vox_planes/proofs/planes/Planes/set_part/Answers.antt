@@ -27,13 +27,13 @@ size c =
 
 within : (c : goal.After-self-2-1) → c.args.from + c.part-count.result ≤ volume c.self.inside.resolution
 within c =
-    let v : volume c.self.inside.resolution ≡ volume c.args.self.now.resolution = ap (λ (m : Matrix). volume m.resolution) c.self.view_is in
-    omega (arith, v, c.requires.within, c.part-count.ensures.most)
+    let same_volume : volume c.self.inside.resolution ≡ volume c.args.self.now.resolution = ap (λ (m : Matrix). volume m.resolution) c.self.view_is in
+    omega (arith, same_volume, c.requires.within, c.part-count.ensures.most)
 
 row : (c : goal.After-self-2-1)
     → (coordinate_at c.self.inside.resolution c.args.from).z + c.part-count.result ≤ c.self.inside.resolution
 row c =
-    let z : c.of_place-c.result.z ≡ (coordinate_at c.self.inside.resolution c.args.from).z = ap (λ (d : Coord). d.z) c.of_place-c.ensures.value in
+    let same_z : c.of_place-c.result.z ≡ (coordinate_at c.self.inside.resolution c.args.from).z = ap (λ (d : Coord). d.z) c.of_place-c.ensures.value in
     let inside = c.of_place-c.ensures.within in
     omega (arith, inside.z, c.part-count.ensures.row, c.from.ensures)
 

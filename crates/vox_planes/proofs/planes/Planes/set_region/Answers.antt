@@ -8,14 +8,14 @@ use Rattle.vox_planes.proofs.planes.Planes.set_region.Goals as goal
 
 pub loop-y-init : goal.loop-y-init
 loop-y-init g c =
-    let k = c.args.b.now in
-    let e = ap (λ (d : Coord). d.y) c.low-low.ensures.value in
+    let corners = c.args.b.now in
+    let same_y = ap (λ (d : Coord). d.y) c.low-low.ensures.value in
     record {
-      painted = painted_none c.args.self.now _ c.args.full c.recall.ensures.whole (λ d. ap (λ y. is_in_layers k y d) e ∙ layers_none k d);
+      painted = painted_none c.args.self.now _ c.args.full c.recall.ensures.whole (λ d. ap (λ y. is_in_layers corners y d) same_y ∙ layers_none corners d);
       resolution = refl;
       whole = c.recall.ensures.whole;
-      most = rw e (omega (arith, size-layers k c.low-low.ensures.ordered));
-      touches = rw e (omega (arith, size-layers k c.low-low.ensures.ordered));
+      most = rw same_y (omega (arith, size-layers corners c.low-low.ensures.ordered));
+      touches = rw same_y (omega (arith, size-layers corners c.low-low.ensures.ordered));
     }
 
 pub loop-y-preserved : goal.loop-y-preserved

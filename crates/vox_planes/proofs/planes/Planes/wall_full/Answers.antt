@@ -40,7 +40,7 @@ loop-y-preserved g c = record {
 
 pub returns-else-is_some-clause-value : goal.returns-else-is_some-clause-value
 returns-else-is_some-clause-value g c =
-    let end : c.loop-y.y ≡ c.args.b.now.high.y = (let e = ap (λ (d : Coord). d.y) c.high-high.ensures.value in omega arith) in
+    let end : c.loop-y.y ≡ c.args.b.now.high.y = (let same_y = ap (λ (d : Coord). d.y) c.high-high.ensures.value in omega arith) in
     sym (find-next_wall c.args.self.now.resolution c.args.b.now (is_full c.args.self.now) c.low-low.ensures.ordered c.requires.within c.args.x)
     ∙ (ap (λ y. find (passes_in c.args.b.now (is_full c.args.self.now)) (coordinates_from c.args.self.now.resolution (place c.args.self.now.resolution (row_start c.args.b.now c.args.x (y + 1))))) (sym end)
     ∙ (sym (none_or c.row_next-found.result _ (sym c.is_some.ensures ∙ c.if-is_some.false))

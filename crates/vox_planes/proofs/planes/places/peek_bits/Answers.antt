@@ -12,9 +12,9 @@ loop-done-init g c = record {
 
 pub overflow_add-found : goal.overflow_add-found
 overflow_add-found g c =
-    let h = c.loop-done.invariant.so_far in
+    let so_far = c.loop-done.invariant.so_far in
     let few : c.loop-done.done + c.part-some.result ≤ 64 = omega (arith, c.part-some.ensures.most, c.requires.few) in
-    let fits : c.loop-done.found + c.peek_part.result * 2 ^ c.loop-done.done % 2 ^ 64 < 2 ^ 64 = joined_fits c.loop-done.found c.peek_part.result c.loop-done.done c.part-some.result h.below c.peek_part.ensures.below few in
+    let fits : c.loop-done.found + c.peek_part.result * 2 ^ c.loop-done.done % 2 ^ 64 < 2 ^ 64 = joined_fits c.loop-done.found c.peek_part.result c.loop-done.done c.part-some.result so_far.below c.peek_part.ensures.below few in
     omega arith
 
 pub loop-done-preserved : goal.loop-done-preserved

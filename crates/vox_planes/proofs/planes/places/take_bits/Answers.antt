@@ -5,10 +5,10 @@ use Rattle.vox_planes.proofs.planes.places.take_bits.Goals as goal
 
 pub overflow_add-taken : goal.overflow_add-taken
 overflow_add-taken g c =
-    let h = c.loop-done.invariant.so_far in
-    let w = h.was in
+    let so_far = c.loop-done.invariant.so_far in
+    let was = so_far.was in
     let few : c.loop-done.done + c.part-some.result ≤ 64 = omega (arith, c.part-some.ensures.most, c.requires.few) in
-    let fits : c.loop-done.taken + c.take_part.result * 2 ^ c.loop-done.done % 2 ^ 64 < 2 ^ 64 = joined_fits c.loop-done.taken c.take_part.result c.loop-done.done c.part-some.result w.below c.take_part.ensures.below few in
+    let fits : c.loop-done.taken + c.take_part.result * 2 ^ c.loop-done.done % 2 ^ 64 < 2 ^ 64 = joined_fits c.loop-done.taken c.take_part.result c.loop-done.done c.part-some.result was.below c.take_part.ensures.below few in
     omega arith
 
 pub loop-done-preserved : goal.loop-done-preserved

@@ -8,8 +8,8 @@ returns-then-found-end-clause-found g c =
 
 pub returns-else-found-end-clause-none : goal.returns-else-found-end-clause-none
 returns-else-found-end-clause-none g c =
-    let n = next_in_word c.args.words.now c.args.from c.loop-at.at (get_or c.args.words.now (c.loop-at.at / 64) 0) c.mark.result c.args.value refl c.mark.type_inv c.mark.ensures (omega (arith, c.if-bits-ne0.true)) c.loop-at.invariant.low c.loop-at.invariant.free in
-    free_less c.args.words.now c.args.from _ c.args.end c.args.value c.if-found-end.false n.before
+    let next_in_word_here = next_in_word c.args.words.now c.args.from c.loop-at.at (get_or c.args.words.now (c.loop-at.at / 64) 0) c.mark.result c.args.value refl c.mark.type_inv c.mark.ensures (omega (arith, c.if-bits-ne0.true)) c.loop-at.invariant.low c.loop-at.invariant.free in
+    free_less c.args.words.now c.args.from _ c.args.end c.args.value c.if-found-end.false next_in_word_here.before
 
 pub loop-at-preserved : goal.loop-at-preserved
 loop-at-preserved g c = record {
