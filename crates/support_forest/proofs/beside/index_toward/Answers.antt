@@ -3,19 +3,19 @@ use Rattle.support_forest.proofs.Nearby.{some_so, index_left, index_right, index
 use Rattle.support_forest.proofs.beside.index_toward.Goals as goal
 
 pub returns-in-1 : goal.returns-in-1
-returns-in-1 c = let e : c.args.d ≡ 1 = (let k = c.in-1.is in omega arith) in some_so c.lower.result _ _ (λ i h. index_left c.args.c c.args.d c.args.index i e c.requires.index h.0 h.1) c.lower.ensures
+returns-in-1 c = let d_is : c.args.d ≡ 1 = (let case_is = c.in-1.is in omega arith) in some_so c.lower.result _ _ (λ i h. index_left c.args.c c.args.d c.args.index i d_is c.requires.index h.0 h.1) c.lower.ensures
 
 pub returns-in-2 : goal.returns-in-2
-returns-in-2 c = let e : c.args.d ≡ 2 = (let k = c.in-2.is in omega arith) in some_so c.upper.result _ _ (λ i h. index_right c.args.c c.args.d c.args.index i e c.requires.index h.0 h.1) c.upper.ensures
+returns-in-2 c = let d_is : c.args.d ≡ 2 = (let case_is = c.in-2.is in omega arith) in some_so c.upper.result _ _ (λ i h. index_right c.args.c c.args.d c.args.index i d_is c.requires.index h.0 h.1) c.upper.ensures
 
 pub returns-in-3 : goal.returns-in-3
-returns-in-3 c = let e : c.args.d ≡ 3 = (let k = c.in-3.is in omega arith) in some_so c.lower-in-3.result _ _ (λ i h. index_under c.args.c c.args.d c.args.index i e c.requires.index h.0 h.1) c.lower-in-3.ensures
+returns-in-3 c = let d_is : c.args.d ≡ 3 = (let case_is = c.in-3.is in omega arith) in some_so c.lower-in-3.result _ _ (λ i h. index_under c.args.c c.args.d c.args.index i d_is c.requires.index h.0 h.1) c.lower-in-3.ensures
 
 pub returns-in-4 : goal.returns-in-4
-returns-in-4 c = let e : c.args.d ≡ 4 = (let k = c.in-4.is in omega arith) in some_so c.upper-in-4.result _ _ (λ i h. index_over c.args.c c.args.d c.args.index i e c.requires.index h.0 h.1) c.upper-in-4.ensures
+returns-in-4 c = let d_is : c.args.d ≡ 4 = (let case_is = c.in-4.is in omega arith) in some_so c.upper-in-4.result _ _ (λ i h. index_over c.args.c c.args.d c.args.index i d_is c.requires.index h.0 h.1) c.upper-in-4.ensures
 
 pub returns-in-5 : goal.returns-in-5
-returns-in-5 c = let e : c.args.d ≡ 5 = (let k = c.in-5.is in omega arith) in some_so c.lower-in-5.result _ _ (λ i h. index_near c.args.c c.args.d c.args.index i e c.requires.index h.0 h.1) c.lower-in-5.ensures
+returns-in-5 c = let d_is : c.args.d ≡ 5 = (let case_is = c.in-5.is in omega arith) in some_so c.lower-in-5.result _ _ (λ i h. index_near c.args.c c.args.d c.args.index i d_is c.requires.index h.0 h.1) c.lower-in-5.ensures
 
 pub returns-in_default : goal.returns-in_default
-returns-in_default c = let e : c.args.d ≡ 6 = (let k = c.in_default in let r = c.requires.direction in grind arith) in some_so c.upper-in_default.result _ _ (λ i h. index_far c.args.c c.args.d c.args.index i e c.requires.index h.0 h.1) c.upper-in_default.ensures
+returns-in_default c = let d_is : c.args.d ≡ 6 = (let in_default = c.in_default in let direction = c.requires.direction in grind arith) in some_so c.upper-in_default.result _ _ (λ i h. index_far c.args.c c.args.d c.args.index i d_is c.requires.index h.0 h.1) c.upper-in_default.ensures
