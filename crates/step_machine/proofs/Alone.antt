@@ -34,8 +34,8 @@ alone_after : (command : Command) → LeavesOne command → (old new : Situation
     → Stepped old new (command ∷ []) (answer_of true new.state fault) began ended → IsSolo new
 alone_after command leaves old new fault began ended one s =
     let goes = accepted_step old.state new.state (command ∷ []) (old.steps + 1) s.goes in
-    let o = only_bot old.state.bots one in
-    let bots : length (after old.state (command ∷ [])).bots ≡ 1 = ap (λ (bots : List Bot). length (bots_after (acts bots (command ∷ [])))) o.1 ∙ leaves o.0 in
+    let only = only_bot old.state.bots one in
+    let bots : length (after old.state (command ∷ [])).bots ≡ 1 = ap (λ (bots : List Bot). length (bots_after (acts bots (command ∷ [])))) only.1 ∙ leaves only.0 in
     record {
       stands = s.stands.1;
       one = ap (λ (t : State). length t.bots) goes.is ∙ bots;

@@ -53,7 +53,7 @@ module _ (s : State) (commands : List Command) (steps : ℕ) (spent : Bool) (v :
     spent = ((λ x. cc), (λ x. cc));
     stays_spent = λ x. x;
     touches = tt;
-    touches_broken = within_one s commands (steps + 1) (began + searched_for b.rule s.matrix) ended (λ n w. let t = judged_touches s commands (steps + 1) b began ended n f touches ends w in omega (arith, t));
+    touches_broken = within_one s commands (steps + 1) (began + searched_for b.rule s.matrix) ended (λ n w. let touches_bound = judged_touches s commands (steps + 1) b began ended n f touches ends w in omega (arith, touches_bound));
   })
 
   module _ (judged : ℕ) (keeps : broken s commands (steps + 1) ≡ None) (start : judged ≤ began + 3 * volatile_total s.matrix (acts s.bots commands)) where

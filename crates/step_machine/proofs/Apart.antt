@@ -20,7 +20,7 @@ pairs_of (x ∷ xs) h (suc i) zero d l k e = omega arith
 pairs_of (x ∷ xs) h (suc i) (suc j) d l k e = pairs_of xs h.1 i j d (omega arith) (omega arith) e
 
 pub holds : {X : Type 0} (x : X) (xs : List X) → In x xs → Contains xs x
-holds x xs h = let p = in_place x x xs h in (p.0, p.1, p.2)
+holds x xs h = let place_found = in_place x x xs h in (place_found.0, place_found.1, place_found.2)
 
 pub apart_filter : {X : Type 0} (p : X → Bool) (xs : List X) → Apart xs → Apart (filter p xs)
 apart_filter p [] h = tt
@@ -45,18 +45,18 @@ apart_flat f [] h a d = tt
 apart_flat {X} {Y} f (x ∷ xs) h a d = apart_append (f x) (flat_map f xs) (a x (inl refl)) (apart_flat f xs h.1 (λ z i. a z (inr i)) (λ z w y i j k l n. d z w y (inr i) (inr j) k l n)) apart
   where
     apart : (y : Y) → In y (f x) → In y (flat_map f xs) → ⊥
-    apart y i j = let r = flat_in f y xs j in d x r.0 y (inl refl) (inr r.1) i r.2 (λ (e : x ≡ r.0). h.0 (subst (λ (z : X). In z xs) (sym e) r.1))
+    apart y i j = let origin = flat_in f y xs j in d x origin.0 y (inl refl) (inr origin.1) i origin.2 (λ (e : x ≡ origin.0). h.0 (subst (λ (z : X). In z xs) (sym e) origin.1))
 
 -- ---- all coordinates differ
 
 from_here : (r n a : ℕ) (c : Coord) → In c (map (coordinate_at r) (numbers_from a n)) → a ≤ place r c
 from_here r zero a c h = absurd h
-from_here r (suc n) a c (inl e) = let p = ap (place r) e ∙ place-coordinate_at r a in omega arith
+from_here r (suc n) a c (inl e) = let place_is = ap (place r) e ∙ place-coordinate_at r a in omega arith
 from_here r (suc n) a c (inr h) = let at_most_place : a + 1 ≤ place r c = from_here r n (a + 1) c h in omega arith
 
 apart_from : (r n a : ℕ) → Apart (map (coordinate_at r) (numbers_from a n))
 apart_from r zero a = tt
-apart_from r (suc n) a = ((λ i. let at_most_place : a + 1 ≤ place r (coordinate_at r a) = from_here r n (a + 1) (coordinate_at r a) i in let e = place-coordinate_at r a in omega arith), apart_from r n (a + 1))
+apart_from r (suc n) a = ((λ i. let at_most_place : a + 1 ≤ place r (coordinate_at r a) = from_here r n (a + 1) (coordinate_at r a) i in let same_place = place-coordinate_at r a in omega arith), apart_from r n (a + 1))
 
 pub apart_coordinates : (r : ℕ) → Apart (coordinates r)
 apart_coordinates r = apart_from r (r * r * r) 0

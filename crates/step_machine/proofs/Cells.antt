@@ -33,9 +33,9 @@ size_is m r full a k s o h e = sym (region_count r k o h) ∙ (λ i. count_by (�
 -- not many are changed
 few : (m : Matrix) (full : Bool) (a : Act) → length (cells_of m full a) ≤ edit_count m full a
 few m full a =
-    let n = length-filter (λ c. is_state m full c && is_edited full a c) (all_of m) in
+    let filtered_length = length-filter (λ c. is_state m full c && is_edited full a c) (all_of m) in
     let le = count_le (λ c. is_state m full c && is_edited full a c) (is_edited full a) (λ c h. second_of_two (is_state m full c) (is_edited full a c) h) (all_of m) in
-    omega (arith, n, le)
+    omega (arith, filtered_length, le)
 
 -- what a list of the region's voxels did
 pub record AreListed (m : Matrix) (full : Bool) (a : Act) (old new : List Coord) (spare spare_left before after : ℕ) : Type 0 where
@@ -63,7 +63,7 @@ void (x ∷ xs) h = absurd (h x (inl refl))
 -- nothing is changed where nothing is edited
 pub no_cells : (m : Matrix) (full : Bool) (a : Act) → ((c : Coord) → false ≡ is_edited full a c)
     → cells_of m full a ≡ []
-no_cells m full a e = void (cells_of m full a) (λ c i. let h = filter_in (λ d. is_state m full d && is_edited full a d) c (all_of m) i in not_both (second_of_two (is_state m full c) (is_edited full a c) h.1) (sym (e c)))
+no_cells m full a e = void (cells_of m full a) (λ c i. let passed = filter_in (λ d. is_state m full d && is_edited full a d) c (all_of m) i in not_both (second_of_two (is_state m full c) (is_edited full a c) passed.1) (sym (e c)))
 
 pub listed_none : (m : Matrix) (full : Bool) (a : Act) (old : List Coord) (spare before : ℕ)
     → ((c : Coord) → false ≡ is_edited full a c) → AreListed m full a old old spare spare before before

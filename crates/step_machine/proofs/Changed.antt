@@ -92,9 +92,9 @@ module _ (s : State) (all : List Act) (good : IsGood s all) where
   leader_edits : (full : Bool) (c : Coord) → is_changed full all c ≡ true
       → (l : Act) × In l (leaders all) × (is_edited full l c ≡ true)
   leader_edits full c h =
-      let a = any_in (λ x. is_edited full x c) all h in
-      let l = led all good.apart a.0 a.1 in
-      (l.0, l.1, same_edit full l.0 a.0 c (λ e. good.apart.bids l.0 a.0 (leader_is l.0 l.1) a.1 e) (together_is l.0 a.0 l.2) a.2)
+      let witness = any_in (λ x. is_edited full x c) all h in
+      let led_by = led all good.apart witness.0 witness.1 in
+      (led_by.0, led_by.1, same_edit full led_by.0 witness.0 c (λ e. good.apart.bids led_by.0 witness.0 (leader_is led_by.0 led_by.1) witness.1 e) (together_is led_by.0 witness.0 led_by.2) witness.2)
 
   apart_leaders : Apart (leaders all)
   apart_leaders = by (leaders all) (differ_filter (λ (a : Act). a.bot.bid) (is_leader all) all (differ_acts all good.rising))
@@ -111,26 +111,26 @@ module _ (s : State) (all : List Act) (good : IsGood s all) where
   cell_is : (full : Bool) (a : Act) (c : Coord) → In c (cells_of s.matrix full a)
       → IsInSpace s.matrix.resolution c × (is_state s.matrix full c ≡ true) × (is_edited full a c ≡ true)
   cell_is full a c i =
-      let f = filter_in (λ x. is_state s.matrix full x && is_edited full a x) c (all_of s.matrix) i in
-      (coordinates_within s.matrix.resolution c f.0, first_of_two (is_state s.matrix full c) (is_edited full a c) f.1, second_of_two (is_state s.matrix full c) (is_edited full a c) f.1)
+      let passed = filter_in (λ x. is_state s.matrix full x && is_edited full a x) c (all_of s.matrix) i in
+      (coordinates_within s.matrix.resolution c passed.0, first_of_two (is_state s.matrix full c) (is_edited full a c) passed.1, second_of_two (is_state s.matrix full c) (is_edited full a c) passed.1)
 
   pub cells_apart : (full : Bool) → Apart (cells_of_all s.matrix full (leaders all))
   cells_apart full = apart_flat (cells_of s.matrix full) (leaders all) apart_leaders
       (λ l i. apart_filter (λ c. is_state s.matrix full c && is_edited full l c) (all_of s.matrix) (apart_coordinates s.matrix.resolution))
-      (λ l d c i j p q ne. let w = cell_is full l c p in never_both full full l d c i j w.0 w.2 (cell_is full d c q).2 ne)
+      (λ l d c i j p q ne. let cell_facts = cell_is full l c p in never_both full full l d c i j cell_facts.0 cell_facts.2 (cell_is full d c q).2 ne)
 
   pub cell_of : (full : Bool) (c : Coord) → In c (cells_of_all s.matrix full (leaders all))
       → IsInSpace s.matrix.resolution c × (is_state s.matrix full c ≡ true) × (is_changed full all c ≡ true)
   cell_of full c i =
-      let r = flat_in (cells_of s.matrix full) c (leaders all) i in
-      let w = cell_is full r.0 c r.2 in
-      (w.0, w.1, in_any (λ a. is_edited full a c) r.0 all (leader_is r.0 r.1) w.2)
+      let origin = flat_in (cells_of s.matrix full) c (leaders all) i in
+      let cell_facts = cell_is full origin.0 c origin.2 in
+      (cell_facts.0, cell_facts.1, in_any (λ a. is_edited full a c) origin.0 all (leader_is origin.0 origin.1) cell_facts.2)
 
   pub of_cell : (full : Bool) (c : Coord) → IsInSpace s.matrix.resolution c → is_state s.matrix full c ≡ true
       → is_changed full all c ≡ true → In c (cells_of_all s.matrix full (leaders all))
   of_cell full c w e h =
-      let l = leader_edits full c h in
-      in_flat (cells_of s.matrix full) l.0 c (leaders all) l.1 (in_filter (λ x. is_state s.matrix full x && is_edited full l.0 x) c (all_of s.matrix) (in_coordinates s.matrix.resolution c w) (both e l.2))
+      let editing_leader = leader_edits full c h in
+      in_flat (cells_of s.matrix full) editing_leader.0 c (leaders all) editing_leader.1 (in_filter (λ x. is_state s.matrix full x && is_edited full editing_leader.0 x) c (all_of s.matrix) (in_coordinates s.matrix.resolution c w) (both e editing_leader.2))
 
   -- nothing is both voided and filled
   pub one_way : (c : Coord) → IsInSpace s.matrix.resolution c → is_changed true all c ≡ true

@@ -81,8 +81,8 @@ module _ (m : Matrix) (b : Bot) (d : Diff) (at : Coord) (named : point at ≡ pl
 
   one_counted : (full : Bool)
       → 1 ≤ edit_count m true (act b (edit_of full d)) + edit_count m false (act b (edit_of full d))
-  one_counted true = let e = counted_there in omega (arith, e)
-  one_counted false = let e = counted_there in omega (arith, e)
+  one_counted true = let one_there = counted_there in omega (arith, one_there)
+  one_counted false = let one_there = counted_there in omega (arith, one_there)
 
 -- what a voxel is removed from that is filled, or else voided, and what it is added to: it changes where it was otherwise
 
@@ -109,19 +109,19 @@ module _ (s : State) (d : Diff) (at : Coord) (full : Bool) (commands : List Comm
   pub removed_are : (was : Bool) (cell now : List Coord) → was ≡ is_full s.matrix at → cell ≡ at ∷ []
       → now ≡ cond (not full && was) cell [] → now ≡ edits_of s commands true
   removed_are was cell now e f g =
-      let o = only_bot s.bots one in
-      g ∙ ((λ i. cond (not full && e i) (f i) []) ∙ (sym (removed s.matrix o.0 d at (named o.0 o.1) stays full) ∙ (sym (one_edit s o.0 (edit_of full d) true o.1) ∙ ap (λ ks. edits_of s ks true) (sym command))))
+      let only = only_bot s.bots one in
+      g ∙ ((λ i. cond (not full && e i) (f i) []) ∙ (sym (removed s.matrix only.0 d at (named only.0 only.1) stays full) ∙ (sym (one_edit s only.0 (edit_of full d) true only.1) ∙ ap (λ ks. edits_of s ks true) (sym command))))
 
   pub added_are : (was : Bool) (cell now : List Coord) → was ≡ is_full s.matrix at → cell ≡ at ∷ []
       → now ≡ cond (full && not was) cell [] → now ≡ edits_of s commands false
   added_are was cell now e f g =
-      let o = only_bot s.bots one in
-      g ∙ ((λ i. cond (full && not (e i)) (f i) []) ∙ (sym (added s.matrix o.0 d at (named o.0 o.1) stays full) ∙ (sym (one_edit s o.0 (edit_of full d) false o.1) ∙ ap (λ ks. edits_of s ks false) (sym command))))
+      let only = only_bot s.bots one in
+      g ∙ ((λ i. cond (full && not (e i)) (f i) []) ∙ (sym (added s.matrix only.0 d at (named only.0 only.1) stays full) ∙ (sym (one_edit s only.0 (edit_of full d) false only.1) ∙ ap (λ ks. edits_of s ks false) (sym command))))
 
   pub harmonics_stay : s.harmonics ≡ (after s commands).harmonics
   harmonics_stay =
-      let o = only_bot s.bots one in
-      by full ∙ (ap (λ (bots : List Bot). harmonics_after s.harmonics (acts bots (edit_of full d ∷ []))) (sym o.1) ∙ ap (λ ks. (after s ks).harmonics) (sym command))
+      let only = only_bot s.bots one in
+      by full ∙ (ap (λ (bots : List Bot). harmonics_after s.harmonics (acts bots (edit_of full d ∷ []))) (sym only.1) ∙ ap (λ ks. (after s ks).harmonics) (sym command))
     where
       by : (f : Bool)
           → s.harmonics ≡ harmonics_after s.harmonics (acts ((only_bot s.bots one).0 ∷ []) (edit_of f d ∷ []))
@@ -132,15 +132,15 @@ module _ (s : State) (d : Diff) (at : Coord) (full : Bool) (commands : List Comm
   pub one_volatile : (step : ℕ) → IsReady s → broken s commands step ≡ None
       → 1 ≤ volatile_total s.matrix (acts s.bots commands)
   one_volatile step ready keeps =
-      let o = only_bot s.bots one in
-      let v = edits_are_volatile s commands step ready keeps in
-      let leads : leaders (acts s.bots commands) ≡ act o.0 (edit_of full d) ∷ [] = (λ i. leaders (acts (o.1 i) (command i))) ∙ single_leaders o.0 (edit_of full d) in
-      let t : edits_total s.matrix true (leaders (acts s.bots commands)) ≡ edits_total s.matrix true (act o.0 (edit_of full d) ∷ []) = ap (edits_total s.matrix true) leads in
-      let same_edits_total : edits_total s.matrix false (leaders (acts s.bots commands)) ≡ edits_total s.matrix false (act o.0 (edit_of full d) ∷ []) = ap (edits_total s.matrix false) leads in
-      let x = sum_by-cons (edit_count s.matrix true) (act o.0 (edit_of full d)) [] in
-      let y = sum_by-cons (edit_count s.matrix false) (act o.0 (edit_of full d)) [] in
-      let n = one_counted s.matrix o.0 d at (named o.0 o.1) stays full in
-      omega (arith, v, t, same_edits_total, x, y, n)
+      let only = only_bot s.bots one in
+      let volatile_edits = edits_are_volatile s commands step ready keeps in
+      let leads : leaders (acts s.bots commands) ≡ act only.0 (edit_of full d) ∷ [] = (λ i. leaders (acts (only.1 i) (command i))) ∙ single_leaders only.0 (edit_of full d) in
+      let edits_total_is : edits_total s.matrix true (leaders (acts s.bots commands)) ≡ edits_total s.matrix true (act only.0 (edit_of full d) ∷ []) = ap (edits_total s.matrix true) leads in
+      let same_edits_total : edits_total s.matrix false (leaders (acts s.bots commands)) ≡ edits_total s.matrix false (act only.0 (edit_of full d) ∷ []) = ap (edits_total s.matrix false) leads in
+      let sum_is = sum_by-cons (edit_count s.matrix true) (act only.0 (edit_of full d)) [] in
+      let first_of_sum = sum_by-cons (edit_count s.matrix false) (act only.0 (edit_of full d)) [] in
+      let one_counted_here = one_counted s.matrix only.0 d at (named only.0 only.1) stays full in
+      omega (arith, volatile_edits, edits_total_is, same_edits_total, sum_is, first_of_sum, one_counted_here)
 
   module _ (step : ℕ) (ready : IsReady s) (keeps : broken s commands step ≡ None) (old : Matrix) (was : Bool) (tied : old ≡ s.matrix) (whole : length old.voxels ≡ volume old.resolution) (found : was ≡ is_full s.matrix at) where
     lost_as : (now : List Coord) → now ≡ cond (not full && was) (at ∷ []) [] → now ≡ edits_of s commands true
@@ -151,7 +151,7 @@ module _ (s : State) (d : Diff) (at : Coord) (full : Bool) (commands : List Comm
 
     paid_for : (before listed : ℕ) → listed ≤ before + 10
         → listed ≤ before + 96 * volatile_total s.matrix (acts s.bots commands)
-    paid_for before listed l = let v = one_volatile step ready keeps in omega (arith, v, l)
+    paid_for before listed l = let volatile_one = one_volatile step ready keeps in omega (arith, volatile_one, l)
 
     -- the voxel may become full, or else void, where it is otherwise
     pub may_change : beq was full ≡ false → MatchBool full (MayAdd old (at ∷ [])) (MayRemove old (at ∷ []))
@@ -192,7 +192,7 @@ module _ (s : State) (d : Diff) (at : Coord) (full : Bool) (commands : List Comm
           let matrix = forest.matrix in
           let whole_too = subst (λ (n : Matrix). length n.voxels ≡ volume n.resolution) (sym kept) whole in
           is_refitted s commands step ready keeps matrix matrix forest [] [] before listed listed after (kept ∙ tied) (lost_as [] part.0) (won_as [] part.1) (paid_for before listed once)
-          (lost_none matrix whole_too) (cheap_none matrix matrix listed) (won_none matrix whole_too) (λ first last f l. let c = cheap_none matrix matrix listed first last f l in omega (arith, c, end)) stands
+          (lost_none matrix whole_too) (cheap_none matrix matrix listed) (won_none matrix whole_too) (λ first last f l. let cheap_none_here = cheap_none matrix matrix listed first last f l in omega (arith, cheap_none_here, end)) stands
 
   -- the forest is that of the step's state, and each voxel in it is held up where it has to be
   pub settled_by : (step : ℕ) → broken s commands step ≡ None → (forest : Standing) (before after : ℕ)

@@ -90,9 +90,9 @@ module _ (s : State) (commands : List Command) (step : ℕ) (ready : IsReady s) 
     where
       inside : (c : Coord) → IsTrue (is_within (span k) (point c)) → IsInSpace s.matrix.resolution c
       inside c p =
-          let q = is_of k c h.voids.ordered p in
+          let lies_within = is_of k c h.voids.ordered p in
           let within = h.voids.within in
-          record { x = omega (arith, q.x_high, within.x); y = omega (arith, q.y_high, within.y); z = omega (arith, q.z_high, within.z) }
+          record { x = omega (arith, lies_within.x_high, within.x); y = omega (arith, lies_within.y_high, within.y); z = omega (arith, lies_within.z_high, within.z) }
 
       there : (c : Coord) → IsTrue (is_full s.matrix c) → IsTrue (is_within (span k) (point c))
           → In c (edits_of s commands true)
@@ -102,20 +102,20 @@ module _ (s : State) (commands : List Command) (step : ℕ) (ready : IsReady s) 
 
       edited : (c : Coord) → In c (edits_of s commands true) → is_edited true h.leader c ≡ true
       edited c i =
-          let j = filter_in (λ x. is_state s.matrix true x && is_edited true h.leader x) c (all_of s.matrix) (subst (λ (xs : List Coord). In c xs) (edits_are true) i) in
-          second_of_two (is_state s.matrix true c) (is_edited true h.leader c) j.1
+          let passed = filter_in (λ x. is_state s.matrix true x && is_edited true h.leader x) c (all_of s.matrix) (subst (λ (xs : List Coord). In c xs) (edits_are true) i) in
+          second_of_two (is_state s.matrix true c) (is_edited true h.leader c) passed.1
 
   small : size (span k) ≤ volatile_total s.matrix (acts s.bots commands)
   small =
-      let v = edits_are_volatile s commands step ready keeps in
+      let volatile_edits = edits_are_volatile s commands step ready keeps in
       let edits_total_is : edits_total s.matrix true (leaders (acts s.bots commands)) ≡ edit_count s.matrix true h.leader + 0 = ap (edits_total s.matrix true) h.only ∙ sum_by-cons (edit_count s.matrix true) h.leader [] in
-      omega (arith, v, edits_total_is, h.voids.count)
+      omega (arith, volatile_edits, edits_total_is, h.voids.count)
 
   pub region_refitted : (old : Matrix) (forest : Standing) (before after : ℕ) → old ≡ s.matrix
       → IsVoided old forest.matrix (span k) → IsVoidedCheaply old forest.matrix (span k) before after
       → forest.spent ≡ false → IsRefitted s commands forest before after
   region_refitted old forest before after e v t stands =
-      let n = small in
+      let too_small = small in
       let lost = lost_is forest.matrix (subst (λ (m : Matrix). IsVoided m forest.matrix (span k)) e v) in
       is_refitted s commands step ready keeps old forest.matrix forest (edits_of s commands true) [] before (before + 96 * size (span k)) after after e refl (sym filled_none) (omega arith)
       (subst (λ (m : Matrix). AreRemoved m forest.matrix (edits_of s commands true)) (sym e) lost)

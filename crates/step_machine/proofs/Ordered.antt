@@ -16,7 +16,7 @@ OrderLaw = (s : State) (commands : List Command) (step : ℕ) (order : List ℕ)
 serial_is : (law : OrderLaw) (s t : State) (commands : List Command) (step : ℕ) (order : List ℕ) → IsReady s
     → IsPermutation (leader_bids (acts s.bots commands)) order → Next s commands step (Goes t)
     → serial s commands order ≡ Some t
-serial_is law s t commands step order ready permuted next = let a = accepted_step s t commands step next in law s commands step order ready a.keeps permuted ∙ ap Some (sym a.is)
+serial_is law s t commands step order ready permuted next = let accepted = accepted_step s t commands step next in law s commands step order ready accepted.keeps permuted ∙ ap Some (sym accepted.is)
 
 -- where a step was made
 pub made_in_order : {A E : Type 0} (law : OrderLaw) (s t : State) (commands : List Command) (step : ℕ) (order : List ℕ)

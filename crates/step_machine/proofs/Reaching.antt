@@ -59,13 +59,13 @@ path_of m (suc n) c h = by (one_of_two (reached m n c) (is_held m n c) h) (path_
   where
     by : (reached m n c ≡ true) ⊎ (is_held m n c ≡ true) → ((d : Coord) → reached m n d ≡ true → PathOf m d n)
         → PathOf m c (suc n)
-    by (inl e) before = let p = before c e in (p.0, p.1, (let l = p.2 in omega arith))
+    by (inl e) before = let before_here = before c e in (before_here.0, before_here.1, (let l = before_here.2 in omega arith))
     by (inr e) before =
-        let d = any_in (holds m n c) (all_of m) (second_of_two (is_full m c) (list_any (holds m n c) (all_of m)) e) in
-        let p = before d.0 (second_of_two (are_adjacent c d.0) (reached m n d.0) d.2) in
+        let witness = any_in (holds m n c) (all_of m) (second_of_two (is_full m c) (list_any (holds m n c) (all_of m)) e) in
+        let before_here = before witness.0 (second_of_two (are_adjacent c witness.0) (reached m n witness.0) witness.2) in
         let full : is_full m c ≡ true = first_of_two (is_full m c) (list_any (holds m n c) (all_of m)) e in
-        let near : are_adjacent c d.0 ≡ true = first_of_two (are_adjacent c d.0) (reached m n d.0) d.2 in
-        (d.0 ∷ p.0, both (both full near) p.1, (let l = p.2 in omega arith))
+        let near : are_adjacent c witness.0 ≡ true = first_of_two (are_adjacent c witness.0) (reached m n witness.0) witness.2 in
+        (witness.0 ∷ before_here.0, both (both full near) before_here.1, (let l = before_here.2 in omega arith))
 
 reached_by : (m : Matrix) (n : ℕ) (a : Coord) (path : List Coord) → IsTrue (is_path m (a ∷ path)) → length path ≤ n
     → reached m n a ≡ true
@@ -101,10 +101,10 @@ from_itself m c more p = both (same_point_itself c) p
 level_least : (m : Matrix) (n : ℕ) (c : Coord) → reached m (suc n) c ≡ true → reached m n c ≡ false
     → Level m c (Some (suc n))
 level_least m n c h f =
-    let p = path_of m (suc n) c h in
-    let least : n < length p.0 = too_short m n c p.0 f p.1 in
-    let most : length p.0 ≤ suc n = p.2 in
-    ((c ∷ p.0, from_itself m c p.0 p.1, omega arith), longer m n c f)
+    let path = path_of m (suc n) c h in
+    let least : n < length path.0 = too_short m n c path.0 f path.1 in
+    let most : length path.0 ≤ suc n = path.2 in
+    ((c ∷ path.0, from_itself m c path.0 path.1, omega arith), longer m n c f)
 
 level_some : (m : Matrix) (n : ℕ) (c : Coord) → reached m n c ≡ true → (level : ℕ) × Level m c (Some level)
 level_some m zero c h = (0, ((c ∷ [], from_itself m c [] h, refl), some))
@@ -150,9 +150,9 @@ stays_from m n e c h = by (true_or_false (reached m n c))
 more_reached : (m : Matrix) (n : ℕ) → list_any (is_new m n) (all_of m) ≡ true
     → count_by (reached m n) (all_of m) + 1 ≤ count_by (reached m (suc n)) (all_of m)
 more_reached m n e =
-    let d = any_in (is_new m n) (all_of m) e in
-    count_more m.resolution (reached m n) (reached m (suc n)) (λ c h. or_by_first (reached m n c) (is_held m n c) h) d.0 (coordinates_within m.resolution d.0 d.1)
-    (not_is_true (reached m n d.0) (second_of_two (reached m (suc n) d.0) (not (reached m n d.0)) d.2)) (first_of_two (reached m (suc n) d.0) (not (reached m n d.0)) d.2)
+    let witness = any_in (is_new m n) (all_of m) e in
+    count_more m.resolution (reached m n) (reached m (suc n)) (λ c h. or_by_first (reached m n c) (is_held m n c) h) witness.0 (coordinates_within m.resolution witness.0 witness.1)
+    (not_is_true (reached m n witness.0) (second_of_two (reached m (suc n) witness.0) (not (reached m n witness.0)) witness.2)) (first_of_two (reached m (suc n) witness.0) (not (reached m n witness.0)) witness.2)
 
 settles : (m : Matrix) (rounds n : ℕ) → length (all_of m) ≤ count_by (reached m n) (all_of m) + rounds
     → (k : ℕ) × Stays m k
@@ -175,15 +175,15 @@ settles m (suc rounds) n l = by (true_or_false (list_any (is_new m n) (all_of m)
 -- ---- levels
 
 pub level_of : (m : Matrix) (c : Coord) → (level : Option ℕ) × Level m c level
-level_of m c = let s = settles m (length (all_of m)) 0 (omega arith) in by s.0 s.1 (true_or_false (reached m s.0 c))
+level_of m c = let settles_here = settles m (length (all_of m)) 0 (omega arith) in by settles_here.0 settles_here.1 (true_or_false (reached m settles_here.0 c))
   where
     by : (n : ℕ) → Stays m n → (reached m n c ≡ true) ⊎ (reached m n c ≡ false) → (level : Option ℕ) × Level m c level
-    by n stays (inl e) = let l = level_some m n c e in (Some l.0, l.1)
+    by n stays (inl e) = let has_level = level_some m n c e in (Some has_level.0, has_level.1)
     by n stays (inr e) = (None, no_level m n c stays e)
 
 pub levels_of : (m : Matrix) (cs : List Coord) → (levels : List (Option ℕ)) × LevelsOf m cs levels
 levels_of m [] = ([], tt)
-levels_of m (c ∷ cs) = let l = level_of m c in let more = levels_of m cs in (l.0 ∷ more.0, (l.1, more.1))
+levels_of m (c ∷ cs) = let the_level = level_of m c in let more = levels_of m cs in (the_level.0 ∷ more.0, (the_level.1, more.1))
 
 -- ---- what is not grounded
 
@@ -195,7 +195,7 @@ abbrev IsHeldUp : Matrix → Coord → Type 0
 IsHeldUp m c = IsTrue (is_full m c) → Grounded m c
 
 held_or_not : (m : Matrix) (c : Coord) → IsHeldUp m c ⊎ (IsHeldUp m c → ⊥)
-held_or_not m c = let l = level_of m c in by (true_or_false (is_full m c)) (grounded_or_not m c l.0 l.1)
+held_or_not m c = let the_level = level_of m c in by (true_or_false (is_full m c)) (grounded_or_not m c the_level.0 the_level.1)
   where
     by : (is_full m c ≡ true) ⊎ (is_full m c ≡ false) → Grounded m c ⊎ (Grounded m c → ⊥)
         → IsHeldUp m c ⊎ (IsHeldUp m c → ⊥)

@@ -51,13 +51,13 @@ pub counted : (bots : List Bot) (commands : List Command) (a : Act) → In a (ac
 counted [] commands a i h = absurd i
 counted (b ∷ bots) [] a i h = absurd i
 counted (b ∷ bots) (k ∷ commands) a (inl e) h =
-    let n = sum_by-cons (λ c. cond {A = ℕ} (is_edit c) 1 0) k commands in
-    let o : cond {A = ℕ} (is_edit k) 1 0 ≡ 1 = ap (λ t. cond {A = ℕ} t 1 0) (ap (λ (x : Act). is_edit x.command) (sym e) ∙ h) in
-    omega (arith, n, o)
+    let sum_is = sum_by-cons (λ c. cond {A = ℕ} (is_edit c) 1 0) k commands in
+    let edit_count_is : cond {A = ℕ} (is_edit k) 1 0 ≡ 1 = ap (λ t. cond {A = ℕ} t 1 0) (ap (λ (x : Act). is_edit x.command) (sym e) ∙ h) in
+    omega (arith, sum_is, edit_count_is)
 counted (b ∷ bots) (k ∷ commands) a (inr i) h =
-    let n = sum_by-cons (λ c. cond {A = ℕ} (is_edit c) 1 0) k commands in
-    let l = counted bots commands a i h in
-    omega (arith, n, l)
+    let sum_is = sum_by-cons (λ c. cond {A = ℕ} (is_edit c) 1 0) k commands in
+    let counted_here = counted bots commands a i h in
+    omega (arith, sum_is, counted_here)
 
 -- ---- the commands of a step that breaks no rule
 
@@ -69,7 +69,7 @@ module _ (s : State) (commands : List Command) (step : ℕ) (ready : IsReady s) 
   pub room_for_all : length s.bots ≤ 40 → AreCommands commands
       → edits_total s.matrix true (leaders (acts s.bots commands))
       + edits_total s.matrix false (leaders (acts s.bots commands)) ≤ 148955
-  room_for_all few are = changes_most s (acts s.bots commands) good (let l = acts_few s.bots commands in omega (arith, l)) (commands_are s.bots commands are)
+  room_for_all few are = changes_most s (acts s.bots commands) good (let acts_bound = acts_few s.bots commands in omega (arith, acts_bound)) (commands_are s.bots commands are)
 
   pub may_lose : (old : Matrix) (front : List Coord) → old ≡ s.matrix → front ≡ edits_of s commands true
       → MayRemove old front
@@ -108,8 +108,8 @@ module _ (s : State) (commands : List Command) (step : ℕ) (ready : IsReady s) 
   edits_some full [] e h = absurd (omega arith)
   edits_some full (c ∷ cells) e h =
       let member : In c (edits_of s commands full) = subst (λ (xs : List Coord). In c xs) e (inl refl) in
-      let w = any_in (λ a. is_edited full a c) (acts s.bots commands) (cell_of s (acts s.bots commands) good full c member).2 in
-      counted s.bots commands w.0 w.1 (edit_by full w.0.bot w.0.command c w.2)
+      let witness = any_in (λ a. is_edited full a c) (acts s.bots commands) (cell_of s (acts s.bots commands) good full c member).2 in
+      counted s.bots commands witness.0 witness.1 (edit_by full witness.0.bot witness.0.command c witness.2)
 
 -- ---- nothing was lost, or gained
 

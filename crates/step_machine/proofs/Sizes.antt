@@ -65,13 +65,13 @@ region_most : (s : Span) → extent s.from.x s.to.x ≤ 31 → extent s.from.y s
     → 8 * size s ≤ 29791 * 2 ^ dimension s
 region_most s x y z =
     let le = mul-le-mul (mul-le-mul (axis_most s.from.x s.to.x x) (axis_most s.from.y s.to.y y)) (axis_most s.from.z s.to.z z) in
-    let e = eights (extent s.from.x s.to.x) (extent s.from.y s.to.y) (extent s.from.z s.to.z) in
-    let p = powers (same_number s.from.x s.to.x) (same_number s.from.y s.to.y) (same_number s.from.z s.to.z) in
-    omega (arith, le, e, p)
+    let eights_here = eights (extent s.from.x s.to.x) (extent s.from.y s.to.y) (extent s.from.z s.to.z) in
+    let powers_here = powers (same_number s.from.x s.to.x) (same_number s.from.y s.to.y) (same_number s.from.z s.to.z) in
+    omega (arith, le, eights_here, powers_here)
 
 far_most : (p : Point) (f : Diff) → IsFar f
     → 8 * size (between p (plus p f)) ≤ 29791 * 2 ^ dimension (between p (plus p f))
-far_most p f h = let b = far_bounds f h in region_most (between p (plus p f)) (extent_far p.x f.dx b.0) (extent_far p.y f.dy b.1) (extent_far p.z f.dz b.2)
+far_most p f h = let bounds = far_bounds f h in region_most (between p (plus p f)) (extent_far p.x f.dx bounds.0) (extent_far p.y f.dy bounds.1) (extent_far p.z f.dz bounds.2)
 
 just_one : (p : Point) → size (just p) ≡ 1
 just_one p = λ i. extent_itself p.x i * extent_itself p.y i * extent_itself p.z i
@@ -80,13 +80,13 @@ just_one p = λ i. extent_itself p.x i * extent_itself p.y i * extent_itself p.z
 
 pub count_none : (xs : List Coord) → count_by (λ c. false) xs ≡ 0
 count_none [] = refl
-count_none (x ∷ xs) = let same_count : count_by (λ c. false) (x ∷ xs) ≡ 0 + count_by (λ c. false) xs = sum_by-cons (λ c. 0) x xs in let n = count_none xs in omega arith
+count_none (x ∷ xs) = let same_count : count_by (λ c. false) (x ∷ xs) ≡ 0 + count_by (λ c. false) xs = sum_by-cons (λ c. 0) x xs in let none_counted = count_none xs in omega arith
 
 count_one : (m : Matrix) (s : Span) → count_by (λ c. is_within s (point c) || false) (all_of m) ≤ size s
 count_one m s =
     let same_count : count_by (λ c. is_within s (point c) || false) (all_of m) ≡ count_by (λ c. is_within s (point c)) (all_of m) = λ i. count_by (λ c. or_false (is_within s (point c)) i) (all_of m) in
-    let l = region_count_most m.resolution s in
-    omega (arith, same_count, l)
+    let region_bound = region_count_most m.resolution s in
+    omega (arith, same_count, region_bound)
 
 -- how many coordinates an act voids or fills
 abbrev edits_of : Matrix → Act → ℕ
@@ -97,7 +97,7 @@ abbrev Fits : Act → ℕ → Type 0
 Fits a n = (list_any (λ s. not (n == 2 ^ dimension s)) (group_regions (position a) a.command) ≡ false) × (1 ≤ n)
 
 none_most : (m : Matrix) (n : ℕ) → 8 * (count_by (λ c. false) (all_of m) + count_by (λ c. false) (all_of m)) ≤ 29791 * n
-none_most m n = let e = count_none (all_of m) in omega (arith, e)
+none_most m n = let none_counted = count_none (all_of m) in omega (arith, none_counted)
 
 fits_is : (n k : ℕ) → (not (n == k) || false) ≡ false → n ≡ k
 fits_is n k h = grind (arith, nat_tests)
@@ -105,21 +105,21 @@ fits_is n k h = grind (arith, nat_tests)
 pub act_most : (m : Matrix) (b : Bot) (k : Command) (n : ℕ) → is_command k ≡ true → Fits (act b k) n
     → 8 * edits_of m (act b k) ≤ 29791 * n
 act_most m b (Fill d) n h f =
-    let e = count_none (all_of m) in let l = count_one m (just (plus (point b.pos) d)) in let o = just_one (plus (point b.pos) d) in let p = f.1 in omega (arith, e, l, o, p)
+    let none_counted = count_none (all_of m) in let one_counted = count_one m (just (plus (point b.pos) d)) in let size_one = just_one (plus (point b.pos) d) in let p = f.1 in omega (arith, none_counted, one_counted, size_one, p)
 act_most m b (Void d) n h f =
-    let e = count_none (all_of m) in let l = count_one m (just (plus (point b.pos) d)) in let o = just_one (plus (point b.pos) d) in let p = f.1 in omega (arith, e, l, o, p)
+    let none_counted = count_none (all_of m) in let one_counted = count_one m (just (plus (point b.pos) d)) in let size_one = just_one (plus (point b.pos) d) in let p = f.1 in omega (arith, none_counted, one_counted, size_one, p)
 act_most m b (GFill d f) n h g =
-    let e = count_none (all_of m) in
-    let l = count_one m (between (plus (point b.pos) d) (plus (plus (point b.pos) d) f)) in
-    let k = far_most (plus (point b.pos) d) f (second_of_two (is_near d) (is_far f) h) in
-    let p = fits_is n (2 ^ dimension (between (plus (point b.pos) d) (plus (plus (point b.pos) d) f))) g.0 in
-    omega (arith, e, l, k, p)
+    let none_counted = count_none (all_of m) in
+    let one_counted = count_one m (between (plus (point b.pos) d) (plus (plus (point b.pos) d) f)) in
+    let far_bound = far_most (plus (point b.pos) d) f (second_of_two (is_near d) (is_far f) h) in
+    let fit_is = fits_is n (2 ^ dimension (between (plus (point b.pos) d) (plus (plus (point b.pos) d) f))) g.0 in
+    omega (arith, none_counted, one_counted, far_bound, fit_is)
 act_most m b (GVoid d f) n h g =
-    let e = count_none (all_of m) in
-    let l = count_one m (between (plus (point b.pos) d) (plus (plus (point b.pos) d) f)) in
-    let k = far_most (plus (point b.pos) d) f (second_of_two (is_near d) (is_far f) h) in
-    let p = fits_is n (2 ^ dimension (between (plus (point b.pos) d) (plus (plus (point b.pos) d) f))) g.0 in
-    omega (arith, e, l, k, p)
+    let none_counted = count_none (all_of m) in
+    let one_counted = count_one m (between (plus (point b.pos) d) (plus (plus (point b.pos) d) f)) in
+    let far_bound = far_most (plus (point b.pos) d) f (second_of_two (is_near d) (is_far f) h) in
+    let fit_is = fits_is n (2 ^ dimension (between (plus (point b.pos) d) (plus (plus (point b.pos) d) f))) g.0 in
+    omega (arith, none_counted, one_counted, far_bound, fit_is)
 act_most m b k n h f = none_most m n
 
 -- ---- a list whose elements differ and are of another list
@@ -145,9 +145,9 @@ taken_out {X} x (z ∷ zs) (inr h) = longer (taken_out x zs h)
 pub no_more : {X : Type 0} (xs ys : List X) → Apart xs → ((x : X) → In x xs → In x ys) → length xs ≤ length ys
 no_more [] ys a h = omega arith
 no_more {X} (x ∷ xs) ys a h =
-    let r = taken_out x ys (h x (inl refl)) in
-    let l = no_more xs r.0 a.1 (λ y i. r.2 y (h y (inr i)) (λ (e : y ≡ x). a.0 (subst (λ (z : X). In z xs) e i))) in
-    let n = r.1 in
+    let without_it = taken_out x ys (h x (inl refl)) in
+    let no_longer = no_more xs without_it.0 a.1 (λ y i. without_it.2 y (h y (inr i)) (λ (e : y ≡ x). a.0 (subst (λ (z : X). In z xs) e i))) in
+    let n = without_it.1 in
     omega arith
 
 -- ---- all groups
@@ -155,14 +155,14 @@ no_more {X} (x ∷ xs) ys a h =
 length_flat : {X Y : Type 0} (f : X → List Y) (xs : List X) → length (flat_map f xs) ≡ sum_by (λ x. length (f x)) xs
 length_flat f [] = refl
 length_flat f (x ∷ xs) =
-    let a = length-append (f x) (flat_map f xs) in
-    let b = sum_by-cons (λ y. length (f y)) x xs in
-    let c = length_flat f xs in
-    omega (arith, a, b, c)
+    let length_is = length-append (f x) (flat_map f xs) in
+    let sum_is = sum_by-cons (λ y. length (f y)) x xs in
+    let flat_length = length_flat f xs in
+    omega (arith, length_is, sum_is, flat_length)
 
 none_of_either : {X : Type 0} (p q : X → Bool) (xs : List X) → list_any (λ x. p x || q x) xs ≡ false
     → list_any p xs ≡ false
-none_of_either {X} p q xs h = false_by (list_any p xs) (λ (e : list_any p xs ≡ true). let r = any_in p xs e in not_both (in_any (λ (x : X). p x || q x) r.0 xs r.1 (or_by_first (p r.0) (q r.0) r.2)) h)
+none_of_either {X} p q xs h = false_by (list_any p xs) (λ (e : list_any p xs ≡ true). let witness = any_in p xs e in not_both (in_any (λ (x : X). p x || q x) witness.0 xs witness.1 (or_by_first (p witness.0) (q witness.0) witness.2)) h)
 
 some_in : {X : Type 0} (x : X) (xs : List X) → In x xs → 1 ≤ length xs
 some_in x [] h = absurd h
@@ -175,12 +175,12 @@ group_totals : (m : Matrix) (all ls : List Act) → ((l : Act) → In l ls → 8
     → 8 * (edits_total m true ls + edits_total m false ls) ≤ 29791 * sum_by (member_count all) ls
 group_totals m all [] h = omega arith
 group_totals m all (l ∷ ls) h =
-    let v = sum_by-cons (edit_count m true) l ls in
-    let f = sum_by-cons (edit_count m false) l ls in
-    let n = sum_by-cons (member_count all) l ls in
+    let sum_is = sum_by-cons (edit_count m true) l ls in
+    let first_of_sum = sum_by-cons (edit_count m false) l ls in
+    let sum_is_here = sum_by-cons (member_count all) l ls in
     let a = h l (inl refl) in
-    let b = group_totals m all ls (λ d i. h d (inr i)) in
-    omega (arith, v, f, n, a, b)
+    let totals_bound = group_totals m all ls (λ d i. h d (inr i)) in
+    omega (arith, sum_is, first_of_sum, sum_is_here, a, totals_bound)
 
 module _ (s : State) (all : List Act) (good : IsGood s all) where
   lead : (l : Act) → In l (leaders all) → In l all
@@ -190,9 +190,9 @@ module _ (s : State) (all : List Act) (good : IsGood s all) where
   one_leader_each : (l d a : Act) → In l (leaders all) → In d (leaders all) → In a (members all l)
       → In a (members all d) → l ≡ d
   one_leader_each l d a i j p q =
-      let k = filter_in (are_together l) a all p in
-      let n = filter_in (are_together d) a all q in
-      let ld = together_on all good.apart l a d (lead l i) k.0 (lead d j) k.1 (together_back d a n.1) in
+      let passed = filter_in (are_together l) a all p in
+      let passes = filter_in (are_together d) a all q in
+      let ld = together_on all good.apart l a d (lead l i) passed.0 (lead d j) passed.1 (together_back d a passes.1) in
       let up = at_most_by_test l.bot.bid d.bot.bid (all_in (λ b. nat_le l.bot.bid b.bot.bid) d (members all l) (filter_in (is_leader all) l all i).1 (in_filter (are_together l) d all (lead d j) ld)) in
       let down = at_most_by_test d.bot.bid l.bot.bid (all_in (λ b. nat_le d.bot.bid b.bot.bid) l (members all d) (filter_in (is_leader all) d all j).1 (in_filter (are_together d) l all (lead l i) (together_back l d ld))) in
       good.apart.bids l d (lead l i) (lead d j) (let same_bid : l.bot.bid ≡ d.bot.bid = omega arith in same_bid)
@@ -206,10 +206,10 @@ module _ (s : State) (all : List Act) (good : IsGood s all) where
 
   members_most : sum_by (member_count all) (leaders all) ≤ length all
   members_most =
-      let a = apart_flat (members all) (leaders all) (apart_filter (is_leader all) all apart_acts) (λ l i. apart_filter (are_together l) all apart_acts) (λ l d x i j p q n. n (one_leader_each l d x i j p q)) in
-      let l = no_more (flat_map (members all) (leaders all)) all a (λ x i. let r = flat_in (members all) x (leaders all) i in (filter_in (are_together r.0) x all r.2).0) in
-      let e = length_flat (members all) (leaders all) in
-      omega (arith, l, e)
+      let all_apart = apart_flat (members all) (leaders all) (apart_filter (is_leader all) all apart_acts) (λ l i. apart_filter (are_together l) all apart_acts) (λ l d x i j p q n. n (one_leader_each l d x i j p q)) in
+      let no_longer = no_more (flat_map (members all) (leaders all)) all all_apart (λ x i. let origin = flat_in (members all) x (leaders all) i in (filter_in (are_together origin.0) x all origin.2).0) in
+      let flat_length = length_flat (members all) (leaders all) in
+      omega (arith, no_longer, flat_length)
 
   fits : (l : Act) → In l (leaders all) → Fits l (member_count all l)
   fits l i = (
@@ -221,11 +221,11 @@ module _ (s : State) (all : List Act) (good : IsGood s all) where
   pub changes_most : length all ≤ 40 → ((a : Act) → In a all → is_command a.command ≡ true)
       → edits_total s.matrix true (leaders all) + edits_total s.matrix false (leaders all) ≤ 148955
   changes_most few are =
-      let t = group_totals s.matrix all (leaders all) (λ l i. act_most s.matrix l.bot l.command (member_count all l) (are l (lead l i)) (fits l i)) in
-      let n = members_most in
-      omega (arith, t, n, few)
+      let totals_bound = group_totals s.matrix all (leaders all) (λ l i. act_most s.matrix l.bot l.command (member_count all l) (are l (lead l i)) (fits l i)) in
+      let members_bound = members_most in
+      omega (arith, totals_bound, members_bound, few)
 
 pub acts_few : (bots : List Bot) (commands : List Command) → length (acts bots commands) ≤ length bots
 acts_few [] commands = omega arith
 acts_few (b ∷ bots) [] = omega arith
-acts_few (b ∷ bots) (c ∷ commands) = let l = acts_few bots commands in omega arith
+acts_few (b ∷ bots) (c ∷ commands) = let acts_bound = acts_few bots commands in omega arith

@@ -34,10 +34,10 @@ flips [] [] h = refl
 flips [] (c ∷ commands) h = absurd (omega arith)
 flips (b ∷ bots) [] h = refl
 flips (b ∷ bots) (c ∷ commands) h =
-    let f = sum_by-cons (λ (a : Act). cond {A = ℕ} (is_flip a.command) 1 0) (record { bot = b; command = c }) (acts bots commands) in
-    let g = sum_by-cons (λ k. cond {A = ℕ} (is_flip k) 1 0) c commands in
-    let i = flips bots commands (omega arith) in
-    omega (arith, f, g, i)
+    let sum_is = sum_by-cons (λ (a : Act). cond {A = ℕ} (is_flip a.command) 1 0) (record { bot = b; command = c }) (acts bots commands) in
+    let first_of_sum = sum_by-cons (λ k. cond {A = ℕ} (is_flip k) 1 0) c commands in
+    let flips_here = flips bots commands (omega arith) in
+    omega (arith, sum_is, first_of_sum, flips_here)
 
 pub harmonics_are : (s : State) (commands : List Command) (before after_them : Harmonics)
     → length commands ≤ length s.bots → before ≡ s.harmonics
@@ -112,15 +112,15 @@ pairs_rule m all step (x ∷ xs) b i = by (in_either (Some b) (map (λ d. broken
     by : In (Some b) (map (λ d. broken_by step Interference x.bot.bid (clash m all x d)) xs)
         ⊎ In (Some b) (judge_pairs m all step xs) → (In (Some b) (judge_pairs m all step xs) → b.rule ≡ Interference)
         → b.rule ≡ Interference
-    by (inl j) later = let r = map_in (λ d. broken_by step Interference x.bot.bid (clash m all x d)) (Some b) xs j in rule_is step Interference x.bot.bid (clash m all x r.0) b r.2
+    by (inl j) later = let origin = map_in (λ d. broken_by step Interference x.bot.bid (clash m all x d)) (Some b) xs j in rule_is step Interference x.bot.bid (clash m all x origin.0) b origin.2
     by (inr j) later = later j
 
 pub bots_rule : (s : State) (all : List Act) (step : ℕ) (b : Broken) → In (Some b) (judge_bots s all step)
     → In b.rule rules_of_bots
 bots_rule s all step b i =
-    let a = flat_in (λ (x : Act). map (λ rule. broken_by step rule x.bot.bid (fault s all x rule)) rules_of_bots) (Some b) all i in
-    let r = map_in (λ rule. broken_by step rule a.0.bot.bid (fault s all a.0 rule)) (Some b) rules_of_bots a.2 in
-    subst (λ (rule : Rule). In rule rules_of_bots) (sym (rule_is step r.0 a.0.bot.bid (fault s all a.0 r.0) b r.2)) r.1
+    let origin = flat_in (λ (x : Act). map (λ rule. broken_by step rule x.bot.bid (fault s all x rule)) rules_of_bots) (Some b) all i in
+    let mapped_from = map_in (λ rule. broken_by step rule origin.0.bot.bid (fault s all origin.0 rule)) (Some b) rules_of_bots origin.2 in
+    subst (λ (rule : Rule). In rule rules_of_bots) (sym (rule_is step mapped_from.0 origin.0.bot.bid (fault s all origin.0 mapped_from.0) b mapped_from.2)) mapped_from.1
 
 no_grounding : (rule : Rule) → In rule rules_of_bots → rule ≡ Ungrounded → ⊥
 no_grounding rule (inl e) f = cc
@@ -142,12 +142,12 @@ not_grounding s commands step b e f = by (first_in (judge_trace s commands step 
     later : In (Some b) (judge_bots s (acts s.bots commands) step)
         ⊎ In (Some b) (judge_pairs s.matrix (acts s.bots commands) step (leaders (acts s.bots commands))) → ⊥
     later (inl i) = no_grounding b.rule (bots_rule s (acts s.bots commands) step b i) f
-    later (inr i) = let g = pairs_rule s.matrix (acts s.bots commands) step (leaders (acts s.bots commands)) b i in cc
+    later (inr i) = let interferes = pairs_rule s.matrix (acts s.bots commands) step (leaders (acts s.bots commands)) b i in cc
 
     by : In (Some b)
         (judge_trace s commands step ∷ (judge_bots s (acts s.bots commands) step ++ judge_pairs s.matrix (acts s.bots commands) step (leaders (acts s.bots commands))))
         → ⊥
-    by (inl i) = let g = trace_rule (slice_get s.bots (length commands)) step b i in cc
+    by (inl i) = let trace_ends = trace_rule (slice_get s.bots (length commands)) step b i in cc
     by (inr i) = later (in_either (Some b) (judge_bots s (acts s.bots commands) step) (judge_pairs s.matrix (acts s.bots commands) step (leaders (acts s.bots commands))) i)
 
 -- ---- the energy
@@ -164,7 +164,7 @@ seen s steps spent = record { state = s; steps = steps; spent = spent }
 
 few_steps : (s : State) (steps : ℕ) (spent : Bool) (v : Situation) → seen s steps spent ≡ v → v.steps < 1073741824
     → steps + 1 ≤ 1073741824
-few_steps s steps spent v e h = let f = ap (λ (w : Situation). w.steps) e in omega arith
+few_steps s steps spent v e h = let steps_is = ap (λ (w : Situation). w.steps) e in omega arith
 
 pub sound_on : (s t : State) (commands : List Command) (old new : Standing) (changed list : Changes) (steps : ℕ)
     (spent : Bool) (v : Situation) → IsConsistent s old changed steps spent → seen s steps spent ≡ v

@@ -33,10 +33,10 @@ none_found Low m at e held = subst (λ (o : Option Coord). FirstUngrounded m o) 
 
 module _ (s : State) (d : Diff) (one : length s.bots ≡ 1) (whole : IsWhole s.matrix) where
   matrix_stays : s.matrix ≡ (after s (SMove d ∷ [])).matrix
-  matrix_stays = let o = only_bot s.bots one in sym (ap (λ (bots : List Bot). matrix_after s.matrix (acts bots (SMove d ∷ []))) o.1 ∙ untouched s.matrix (act o.0 (SMove d)) whole refl refl)
+  matrix_stays = let only = only_bot s.bots one in sym (ap (λ (bots : List Bot). matrix_after s.matrix (acts bots (SMove d ∷ []))) only.1 ∙ untouched s.matrix (act only.0 (SMove d)) whole refl refl)
 
   harmonics_stay : s.harmonics ≡ (after s (SMove d ∷ [])).harmonics
-  harmonics_stay = let o = only_bot s.bots one in sym (ap (λ (bots : List Bot). harmonics_after s.harmonics (acts bots (SMove d ∷ []))) o.1)
+  harmonics_stay = let only = only_bot s.bots one in sym (ap (λ (bots : List Bot). harmonics_after s.harmonics (acts bots (SMove d ∷ []))) only.1)
 
   -- the step goes to its state, of which the forest is one
   pub still : (step : ℕ) (forest : Standing) (now : ℕ) → broken s (SMove d ∷ []) step ≡ None

@@ -40,8 +40,8 @@ among cells d i = in_any (λ c. same_point (point d) (point c)) d cells i (point
 
 pub of_among : (cells : List Coord) (d : Coord) → is_cell cells d ≡ true → In d cells
 of_among cells d h =
-    let r = any_in (λ c. same_point (point d) (point c)) cells h in
-    subst (λ (c : Coord). In c cells) (sym (same_point-is d r.0 r.2)) r.1
+    let witness = any_in (λ c. same_point (point d) (point c)) cells h in
+    subst (λ (c : Coord). In c cells) (sym (same_point-is d witness.0 witness.2)) witness.1
 
 pub not_among : (cells : List Coord) (d : Coord) → (In d cells → ⊥) → is_cell cells d ≡ false
 not_among cells d h = false_by (is_cell cells d) (λ e. h (of_among cells d e))
@@ -162,12 +162,12 @@ module _ (s : State) (commands : List Command) (step : ℕ) (ready : IsReady s) 
   -- not many voxels change
   pub few_change : IsWhole s.matrix → length (edits_of s commands true ++ edits_of s commands false) ≤ 64000000
   few_change whole =
-      let n = length-append (edits_of s commands true) (edits_of s commands false) in
-      let c = all_change s commands step ready keeps in
+      let length_is = length-append (edits_of s commands true) (edits_of s commands false) in
+      let changes_bound = all_change s commands step ready keeps in
       let le = count_by-le-length (differ_at s.matrix (matrix_after s.matrix (acts s.bots commands))) (all_of s.matrix) in
-      let v = length_coordinates s.matrix.resolution in
+      let coordinates_count = length_coordinates s.matrix.resolution in
       let most = cube s.matrix.resolution whole.most in
-      omega (arith, n, c, le, v, most)
+      omega (arith, length_is, changes_bound, le, coordinates_count, most)
     where
       cube : (r : ℕ) → r ≤ 400 → r * r * r ≤ 64000000
       cube r h = grind (arith)
@@ -196,11 +196,11 @@ module _ (s : State) (commands : List Command) (step : ℕ) (ready : IsReady s) 
       filled_differ = subst (λ (xs : List Coord). AllPairs ◌≢◌ xs) (sym h.filled) (pairs_of (edits_of s commands false) (cells_apart s (acts s.bots commands) good false));
       voided_differ = subst (λ (xs : List Coord). AllPairs ◌≢◌ xs) (sym h.voided) (pairs_of (edits_of s commands true) (cells_apart s (acts s.bots commands) good true));
       filled = in_each undo.filled.items (λ c i.
-          let w = cell_of s (acts s.bots commands) good false c (filled_cell c i) in
-          now c w.0 ∙ or_by_first (is_filled (acts s.bots commands) c) (is_full s.matrix c && not (is_voided (acts s.bots commands) c)) w.2);
+          let cell_facts = cell_of s (acts s.bots commands) good false c (filled_cell c i) in
+          now c cell_facts.0 ∙ or_by_first (is_filled (acts s.bots commands) c) (is_full s.matrix c && not (is_voided (acts s.bots commands) c)) cell_facts.2);
       voided = in_each undo.voided.items (λ c i.
-          let w = cell_of s (acts s.bots commands) good true c (voided_cell c i) in
-          now c w.0 ∙ voided_gone (is_filled (acts s.bots commands) c) (is_full s.matrix c) (is_voided (acts s.bots commands) c) (λ f. one_way s (acts s.bots commands) good c w.0 w.2 f) w.2);
+          let cell_facts = cell_of s (acts s.bots commands) good true c (voided_cell c i) in
+          now c cell_facts.0 ∙ voided_gone (is_filled (acts s.bots commands) c) (is_full s.matrix c) (is_voided (acts s.bots commands) c) (λ f. one_way s (acts s.bots commands) good c cell_facts.0 cell_facts.2 f) cell_facts.2);
     }
 
     pub note_holds : HaveChanged t.matrix undo

@@ -29,7 +29,7 @@ turn_at all [] [] i d h k = absurd (omega arith)
 turn_at all [] (t ∷ ts) i d h k = absurd h
 turn_at all (a ∷ ls) [] i d h k = absurd h
 turn_at all (a ∷ ls) (t ∷ ts) zero d h k = (a, h.0, refl, inl refl)
-turn_at all (a ∷ ls) (t ∷ ts) (suc i) d h k = let r = turn_at all ls ts i d h.1 (omega arith) in (r.0, r.1, r.2 ∙ ap (λ k. r.0 ∷ drop k (a ∷ ls)) (let successor_is : suc (i + 1) ≡ suc i + 1 = omega arith in successor_is), inr r.3)
+turn_at all (a ∷ ls) (t ∷ ts) (suc i) d h k = let turn = turn_at all ls ts i d h.1 (omega arith) in (turn.0, turn.1, turn.2 ∙ ap (λ k. turn.0 ∷ drop k (a ∷ ls)) (let successor_is : suc (i + 1) ≡ suc i + 1 = omega arith in successor_is), inr turn.3)
 
 -- the act of a turn: its bot and its command stand at the turn's place
 pub record IsHere (bots : List Bot) (commands : List Command) (ls : List Act) (i : ℕ) (t : Turn) : Type 0 where
@@ -46,16 +46,16 @@ act_at : (bots : List Bot) (commands : List Command) (k : ℕ) (a : Act) → sli
     × ((d : Command) → get_or commands k d ≡ a.command)
 act_at [] commands k a h = cc
 act_at (b ∷ bots) [] k a h = cc
-act_at (b ∷ bots) (c ∷ commands) zero a h = (omega arith, omega arith, (λ d. let e : record { bot = b; command = c } ≡ a = cc in ap (λ (x : Act). x.bot) e), (λ d. let e : record { bot = b; command = c } ≡ a = cc in ap (λ (x : Act). x.command) e))
-act_at (b ∷ bots) (c ∷ commands) (suc k) a h = let r = act_at bots commands k a h in (omega arith, omega arith, r.2, r.3)
+act_at (b ∷ bots) (c ∷ commands) zero a h = (omega arith, omega arith, (λ d. let is_a : record { bot = b; command = c } ≡ a = cc in ap (λ (x : Act). x.bot) is_a), (λ d. let is_a : record { bot = b; command = c } ≡ a = cc in ap (λ (x : Act). x.command) is_a))
+act_at (b ∷ bots) (c ∷ commands) (suc k) a h = let act_there = act_at bots commands k a h in (omega arith, omega arith, act_there.2, act_there.3)
 
 pub here : (bots : List Bot) (commands : List Command) (ls : List Act) (ts : List Turn) (i : ℕ) (t : Turn)
     → AreTurns (acts bots commands) ls ts → i < length ts → t ≡ get_or ts i t → IsHere bots commands ls i t
 here bots commands ls ts i t h k e =
-    let r = turn_at (acts bots commands) ls ts i t h k in
-    let element_is : slice_get (acts bots commands) t.place ≡ Some r.0 = ap (λ (u : Turn). slice_get (acts bots commands) u.place) e ∙ r.1.place in
-    let w = act_at bots commands t.place r.0 element_is in
-    record { act = r.0; among_bots = w.0; among_commands = w.1; bot = w.2; command = w.3; rest = r.2; leads = r.3 }
+    let turn = turn_at (acts bots commands) ls ts i t h k in
+    let element_is : slice_get (acts bots commands) t.place ≡ Some turn.0 = ap (λ (u : Turn). slice_get (acts bots commands) u.place) e ∙ turn.1.place in
+    let act_there = act_at bots commands t.place turn.0 element_is in
+    record { act = turn.0; among_bots = act_there.0; among_commands = act_there.1; bot = act_there.2; command = act_there.3; rest = turn.2; leads = turn.3 }
 
 -- the turn that a read past the end would give
 abbrev pub no_turn : Turn
@@ -67,7 +67,7 @@ no_bot = record { bid = 0; pos = origin; seeds = 0 }
 
 module _ (s : State) (commands : List Command) (bots : List Bot) (turns list : List Turn) (i k : ℕ) (same : bots ≡ s.bots) (listed : list ≡ turns) (are : AreTurns (acts s.bots commands) (leaders (acts s.bots commands)) turns) (below : i < length list) (place : k ≡ (get_or list i no_turn).place) where
   here_is : IsHere s.bots commands (leaders (acts s.bots commands)) i (get_or turns i no_turn)
-  here_is = here s.bots commands (leaders (acts s.bots commands)) turns i (get_or turns i no_turn) are (let e = ap length listed in omega arith) (default turns i)
+  here_is = here s.bots commands (leaders (acts s.bots commands)) turns i (get_or turns i no_turn) are (let length_is = ap length listed in omega arith) (default turns i)
     where
       default : (ts : List Turn) (j : ℕ) → get_or ts j no_turn ≡ get_or ts j (get_or ts j no_turn)
       default [] j = refl
@@ -78,7 +78,7 @@ module _ (s : State) (commands : List Command) (bots : List Bot) (turns list : L
   place_is = place ∙ ap (λ (ts : List Turn). (get_or ts i no_turn).place) listed
 
   pub among_bots : k < length bots
-  among_bots = let among_bots = here_is.among_bots in let e = ap length same in omega (arith, among_bots, e, place_is)
+  among_bots = let among_bots = here_is.among_bots in let length_is = ap length same in omega (arith, among_bots, length_is, place_is)
 
   pub among_commands : k < length commands
   among_commands = let among_commands = here_is.among_commands in omega (arith, among_commands, place_is)

@@ -49,7 +49,7 @@ settled_at s commands step keeps Low e (Some c) u = (Breaks (ungrounded_at step 
 
 next_at : (s : State) (commands : List Command) (step : ℕ) (b : Option Broken) → broken s commands step ≡ b
     → (o : Outcome) × Next s commands step o
-next_at s commands step None e = let f = first_ungrounded (after s commands).matrix in settled_at s commands step e (after s commands).harmonics refl f.0 f.1
+next_at s commands step None e = let ungrounded_first = first_ungrounded (after s commands).matrix in settled_at s commands step e (after s commands).harmonics refl ungrounded_first.0 ungrounded_first.1
 next_at s commands step (Some b) e = (Breaks b, breaks_at_start b e refl)
 
 pub next_of : (s : State) (commands : List Command) (step : ℕ) → (o : Outcome) × Next s commands step o
@@ -58,4 +58,4 @@ next_of s commands step = next_at s commands step (broken s commands step) refl
 -- what is within each work of a step is within one
 pub within_one : (s : State) (commands : List Command) (step began ended : ℕ)
     → ((n : ℕ) → WorkOfStep s commands step n → ended ≤ began + 100 * n) → IsWithinWork s commands step began ended
-within_one s commands step began ended h = let w = step_work s commands step in (w.0, w.1, h w.0 w.1)
+within_one s commands step began ended h = let work = step_work s commands step in (work.0, work.1, h work.0 work.1)

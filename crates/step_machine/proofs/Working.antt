@@ -43,8 +43,8 @@ edits_one m a = by (empties a.command) (other_edit a.bot a.command)
 
     by : (b : Bool) → ((c : Coord) → is_edited (not b) a c ≡ false)
         → edit_count m true a + edit_count m false a ≡ edit_count m b a
-    by true e = let n = gone false e in omega (arith, n)
-    by false e = let n = gone true e in omega (arith, n)
+    by true e = let gone_here = gone false e in omega (arith, gone_here)
+    by false e = let gone_here = gone true e in omega (arith, gone_here)
 
 module _ (s : State) (commands : List Command) (step : ℕ) (ready : IsReady s) (keeps : broken s commands step ≡ None) where
   good : IsGood s (acts s.bots commands)
@@ -53,40 +53,40 @@ module _ (s : State) (commands : List Command) (step : ℕ) (ready : IsReady s) 
   edits_volatile : (l : Act) → In l (leaders (acts s.bots commands))
       → edit_count s.matrix true l + edit_count s.matrix false l ≤ volatile_count s.matrix (acts s.bots commands) l
   edits_volatile l i =
-      let e = edits_one s.matrix l in
+      let one_edit_count = edits_one s.matrix l in
       let own = filter_in (is_leader (acts s.bots commands)) l (acts s.bots commands) i in
       let le = count_le (is_edited (empties l.command) l) (λ c. list_any (is_volatile_of (point c)) (filter (stays_in_space s.matrix.resolution) (members (acts s.bots commands) l)))
       (λ c h. in_any (is_volatile_of (point c)) l (filter (stays_in_space s.matrix.resolution) (members (acts s.bots commands) l))
       (in_filter (stays_in_space s.matrix.resolution) l (members (acts s.bots commands) l) (in_filter (are_together l) l (acts s.bots commands) own.0 (with_itself l)) (leader_stays s commands step ready keeps l i))
       (edits_own (empties l.command) l c h))
       (all_of s.matrix) in
-      omega (arith, e, le)
+      omega (arith, one_edit_count, le)
 
   pub edits_are_volatile : edits_total s.matrix true (leaders (acts s.bots commands))
       + edits_total s.matrix false (leaders (acts s.bots commands)) ≤ volatile_total s.matrix (acts s.bots commands)
-  edits_are_volatile = let e = sum-map (volatile_count s.matrix (acts s.bots commands)) (leaders (acts s.bots commands)) in let l = by (leaders (acts s.bots commands)) (λ a i. i) in omega (arith, e, l)
+  edits_are_volatile = let mapped_sum = sum-map (volatile_count s.matrix (acts s.bots commands)) (leaders (acts s.bots commands)) in let l = by (leaders (acts s.bots commands)) (λ a i. i) in omega (arith, mapped_sum, l)
     where
       by : (ls : List Act) → ((a : Act) → In a ls → In a (leaders (acts s.bots commands)))
           → edits_total s.matrix true ls + edits_total s.matrix false ls
           ≤ sum_by (volatile_count s.matrix (acts s.bots commands)) ls
       by [] h = omega arith
       by (l ∷ ls) h =
-          let v = sum_by-cons (edit_count s.matrix true) l ls in
-          let f = sum_by-cons (edit_count s.matrix false) l ls in
-          let n = sum_by-cons (volatile_count s.matrix (acts s.bots commands)) l ls in
-          let a = edits_volatile l (h l (inl refl)) in
+          let sum_is = sum_by-cons (edit_count s.matrix true) l ls in
+          let first_of_sum = sum_by-cons (edit_count s.matrix false) l ls in
+          let sum_is_here = sum_by-cons (volatile_count s.matrix (acts s.bots commands)) l ls in
+          let volatile_bound = edits_volatile l (h l (inl refl)) in
           let b = by ls (λ d i. h d (inr i)) in
-          omega (arith, v, f, n, a, b)
+          omega (arith, sum_is, first_of_sum, sum_is_here, volatile_bound, b)
 
   -- ---- what they list changes
 
   lost_differs : (c : Coord) → In c (edits_of s commands true)
       → differ_at s.matrix (matrix_after s.matrix (acts s.bots commands)) c ≡ true
   lost_differs c i =
-      let w = cell_of s (acts s.bots commands) good true c i in
-      let gone : (is_filled (acts s.bots commands) c || (is_full s.matrix c && not (is_voided (acts s.bots commands) c))) ≡ false = voided_gone (is_filled (acts s.bots commands) c) (is_full s.matrix c) (is_voided (acts s.bots commands) c) (λ f. one_way s (acts s.bots commands) good c w.0 w.2 f) w.2 in
-      let e = full_where s.matrix.resolution (λ d. is_filled (acts s.bots commands) d || (is_full s.matrix d && not (is_voided (acts s.bots commands) d))) c w.0 ∙ gone in
-      or_by_first (is_full s.matrix c && not (is_full (matrix_after s.matrix (acts s.bots commands)) c)) (is_full (matrix_after s.matrix (acts s.bots commands)) c && not (is_full s.matrix c)) (both w.1 (ap not e))
+      let cell_facts = cell_of s (acts s.bots commands) good true c i in
+      let gone : (is_filled (acts s.bots commands) c || (is_full s.matrix c && not (is_voided (acts s.bots commands) c))) ≡ false = voided_gone (is_filled (acts s.bots commands) c) (is_full s.matrix c) (is_voided (acts s.bots commands) c) (λ f. one_way s (acts s.bots commands) good c cell_facts.0 cell_facts.2 f) cell_facts.2 in
+      let full_where_here = full_where s.matrix.resolution (λ d. is_filled (acts s.bots commands) d || (is_full s.matrix d && not (is_voided (acts s.bots commands) d))) c cell_facts.0 ∙ gone in
+      or_by_first (is_full s.matrix c && not (is_full (matrix_after s.matrix (acts s.bots commands)) c)) (is_full (matrix_after s.matrix (acts s.bots commands)) c && not (is_full s.matrix c)) (both cell_facts.1 (ap not full_where_here))
     where
       voided_gone : (f u v : Bool) → (f ≡ true → ⊥) → v ≡ true → (f || (u && not v)) ≡ false
       voided_gone true u v n e = absurd (n refl)
@@ -97,9 +97,9 @@ module _ (s : State) (commands : List Command) (step : ℕ) (ready : IsReady s) 
   won_differs : (c : Coord) → In c (edits_of s commands false)
       → differ_at s.matrix (matrix_after s.matrix (acts s.bots commands)) c ≡ true
   won_differs c i =
-      let w = cell_of s (acts s.bots commands) good false c i in
-      let e = full_where s.matrix.resolution (λ d. is_filled (acts s.bots commands) d || (is_full s.matrix d && not (is_voided (acts s.bots commands) d))) c w.0 ∙ or_by_first (is_filled (acts s.bots commands) c) (is_full s.matrix c && not (is_voided (acts s.bots commands) c)) w.2 in
-      or_by_second (is_full s.matrix c && not (is_full (matrix_after s.matrix (acts s.bots commands)) c)) (is_full (matrix_after s.matrix (acts s.bots commands)) c && not (is_full s.matrix c)) (both e w.1)
+      let cell_facts = cell_of s (acts s.bots commands) good false c i in
+      let full_where_here = full_where s.matrix.resolution (λ d. is_filled (acts s.bots commands) d || (is_full s.matrix d && not (is_voided (acts s.bots commands) d))) c cell_facts.0 ∙ or_by_first (is_filled (acts s.bots commands) c) (is_full s.matrix c && not (is_voided (acts s.bots commands) c)) cell_facts.2 in
+      or_by_second (is_full s.matrix c && not (is_full (matrix_after s.matrix (acts s.bots commands)) c)) (is_full (matrix_after s.matrix (acts s.bots commands)) c && not (is_full s.matrix c)) (both full_where_here cell_facts.1)
 
   apart_all : Apart (edits_of s commands true ++ edits_of s commands false)
   apart_all = apart_append (edits_of s commands true) (edits_of s commands false) (cells_apart s (acts s.bots commands) good true) (cells_apart s (acts s.bots commands) good false)
@@ -108,11 +108,11 @@ module _ (s : State) (commands : List Command) (step : ℕ) (ready : IsReady s) 
   pub all_change : length (edits_of s commands true) + length (edits_of s commands false)
       ≤ changed_count s.matrix (matrix_after s.matrix (acts s.bots commands))
   all_change =
-      let l = no_more (edits_of s commands true ++ edits_of s commands false) (filter (differ_at s.matrix (matrix_after s.matrix (acts s.bots commands))) (all_of s.matrix)) apart_all
+      let no_longer = no_more (edits_of s commands true ++ edits_of s commands false) (filter (differ_at s.matrix (matrix_after s.matrix (acts s.bots commands))) (all_of s.matrix)) apart_all
       (λ c i. by c (in_either c (edits_of s commands true) (edits_of s commands false) i)) in
-      let n = length-append (edits_of s commands true) (edits_of s commands false) in
-      let e = length-filter (differ_at s.matrix (matrix_after s.matrix (acts s.bots commands))) (all_of s.matrix) in
-      omega (arith, l, n, e)
+      let length_is = length-append (edits_of s commands true) (edits_of s commands false) in
+      let filtered_length = length-filter (differ_at s.matrix (matrix_after s.matrix (acts s.bots commands))) (all_of s.matrix) in
+      omega (arith, no_longer, length_is, filtered_length)
     where
       by : (c : Coord) → In c (edits_of s commands true) ⊎ In c (edits_of s commands false)
           → In c (filter (differ_at s.matrix (matrix_after s.matrix (acts s.bots commands))) (all_of s.matrix))
@@ -128,10 +128,10 @@ module _ (s : State) (commands : List Command) (step : ℕ) (ready : IsReady s) 
       let levels = w.0 in
       let lost = lose levels.before levels.between levels.before_are (subst (λ (m : Matrix). Levels m levels.between) (sym b) levels.between_are) in
       let won = win levels.between levels.afterwards (subst (λ (m : Matrix). Levels m levels.between) (sym b) levels.between_are) (subst (λ (m : Matrix). Levels m levels.afterwards) (sym a) levels.afterwards_are) in
-      let v = ap length f in
-      let u = ap length g in
-      let c = all_change in
-      omega (arith, lost, won, v, u, c, l, w.1)
+      let length_is = ap length f in
+      let same_length = ap length g in
+      let changes_bound = all_change in
+      omega (arith, lost, won, length_is, same_length, changes_bound, l, w.1)
 
 -- ---- a step that is broken at its start
 
@@ -156,10 +156,10 @@ ends_early s commands step b e f = by (slice_get s.bots (length commands)) refl 
     later : In (Some b) (judge_bots s (acts s.bots commands) step)
         ⊎ In (Some b) (judge_pairs s.matrix (acts s.bots commands) step (leaders (acts s.bots commands))) → ⊥
     later (inl i) = no_end b.rule (bots_rule s (acts s.bots commands) step b i) f
-    later (inr i) = let g = pairs_rule s.matrix (acts s.bots commands) step (leaders (acts s.bots commands)) b i in cc
+    later (inr i) = let interferes = pairs_rule s.matrix (acts s.bots commands) step (leaders (acts s.bots commands)) b i in cc
 
     none : {A B : Type 0} (g : A → B) (o : Option A) (x : B) → o ≡ None → Some x ≡ option_map g o → ⊥
-    none g o x n h = let k = ap (option_map g) n in cc
+    none g o x n h = let option_map_is = ap (option_map g) n in cc
 
     by : (o : Option Bot) → slice_get s.bots (length commands) ≡ o → In (Some b)
         (judge_trace s commands step ∷ (judge_bots s (acts s.bots commands) step ++ judge_pairs s.matrix (acts s.bots commands) step (leaders (acts s.bots commands))))
@@ -212,8 +212,8 @@ judged_touches s commands step b before after n e touches ends w = by (is_end b.
     work = subst (λ o. WorkOfJudged s (acts s.bots commands) o n) e w
 
     by : (b.rule ≡ TraceEnds) ⊎ (b.rule ≡ TraceEnds → ⊥) → after ≤ before + 100 * n
-    by (inl f) = let g = ends (ends_early s commands step b e f) in omega arith
-    by (inr f) = let g = work_at s.matrix (acts s.bots commands) b.rule f in omega (arith, g, work, touches)
+    by (inl f) = let run_ends = ends (ends_early s commands step b e f) in omega arith
+    by (inr f) = let work_is = work_at s.matrix (acts s.bots commands) b.rule f in omega (arith, work_is, work, touches)
 
 -- the work of a step that breaks none of the rules of its start
 pub acts_work : (s : State) (commands : List Command) (step n : ℕ) → broken s commands step ≡ None

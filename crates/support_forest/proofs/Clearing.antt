@@ -46,7 +46,7 @@ free_now old now c k n before steps f a l q h t = by t
           f.far q (omega arith) (omega arith) (omega arith) (omega arith) (omega arith)
     ]
     by (inr (inr (inr (inr (inr d))))) =
-        let e : word_at now q ≡ word_at old q = a.kept q (λ j b i s. let z_is : q.z ≡ c.z + j = ap (λ (p : Coord). p.z) s in absurd (omega arith)) in
+        let same_word_at : word_at now q ≡ word_at old q = a.kept q (λ j b i s. let z_is : q.z ≡ c.z + j = ap (λ (p : Coord). p.z) s in absurd (omega arith)) in
         elim (cases_lt 0 k) [
           | inl m ↦
               let z_is : q.z ≡ c.z + (k - 1) = omega arith in
@@ -158,7 +158,7 @@ row_cleared now new gone end count rest steps mid after c b l s m h old before a
   differ = p.differ;
   within = let within = p.within in omega arith;
   few = let few = p.few in omega arith;
-  cost = let o = p.cost in let cost = h.cost in omega arith;
+  cost = let its_cost = p.cost in let cost = h.cost in omega arith;
 }
   where
     void : (d : Coord) (j : ℕ) → j < count → d ≡ further c j → word_at new d ≡ 0

@@ -243,7 +243,7 @@ pub taking_taken : (old now new : Grid) (gone : List Coord) (i : ℕ) (rest : Li
     (x : Coord) → CanRemove old gone → IsTaking old now gone (i + 1) rest before steps → x ≡ slice_index_or gone i x
     → HaveTaken now new x steps after → IsTaking old new gone i rest before after
 taking_taken old now new gone i rest before steps after x a p e h =
-    let below_length : i < length gone = let w = p.within in omega arith in
+    let below_length : i < length gone = let its_within = p.within in omega arith in
     record {
       resolution = h.resolution ∙ p.resolution;
       exact = h.exact;
@@ -266,7 +266,7 @@ pub taking_listed : (old now new : Grid) (gone : List Coord) (i : ℕ) (rest mor
     (x : Coord) → CanRemove old gone → IsTaking old now gone (i + 1) rest before steps → x ≡ slice_index_or gone i x
     → new ≡ now → after ≤ steps + 6 → more ≡ rest ++ x ∷ [] → IsTaking old new gone i more before after
 taking_listed old now new gone i rest more before steps after x a p e s t m =
-    let below_length : i < length gone = let w = p.within in omega arith in
+    let below_length : i < length gone = let its_within = p.within in omega arith in
     subst (λ (v : Grid). IsTaking old v gone i more before after) (sym s) (subst (λ (xs : List Coord). IsTaking old now gone i xs before after) (sym m) (record {
       resolution = p.resolution;
       exact = p.exact;

@@ -42,11 +42,11 @@ one_more w c q a b d t i floor sound lower higher looser near loose = record {
   sound = sound;
   least = λ k p l u h. elim (cases_lt k d) [
     | inl m ↦ lower (height w p + 1) (i.least k p m u h)
-    | inr m ↦ let same_w : w p ≡ w q = the_word w c q p d k t u (omega arith) in let n = near (omega arith) in (n.0, omega (arith, n.1))
+    | inr m ↦ let same_w : w p ≡ w q = the_word w c q p d k t u (omega arith) in let near_here = near (omega arith) in (near_here.0, omega (arith, near_here.1))
   ];
   highest = λ k p l u h. elim (cases_lt k d) [
     | inl m ↦ let at_most_highest : height w p ≤ a.highest = i.highest k p m u h in omega arith
-    | inr m ↦ let same_w : w p ≡ w q = the_word w c q p d k t u (omega arith) in let n = near (omega arith) in omega (arith, n.2)
+    | inr m ↦ let same_w : w p ≡ w q = the_word w c q p d k t u (omega arith) in let near_here = near (omega arith) in omega (arith, near_here.2)
   ];
   loose = λ k p l u f h. elim (cases_lt k d) [
     | inl m ↦ looser (i.loose k p m u f h)
@@ -60,9 +60,9 @@ pub around_void : (w : Coord → ℕ) (c : Coord) (a : Around) (d : ℕ) → ((q
 around_void w c a d z i = record {
   floor = i.floor;
   sound = i.sound;
-  least = λ k p l u h. elim (cases_lt k d) [ inl m ↦ i.least k p m u h | inr m ↦ absurd (let e = none k p u (omega arith) in omega arith) ];
-  highest = λ k p l u h. elim (cases_lt k d) [ inl m ↦ i.highest k p m u h | inr m ↦ absurd (let e = none k p u (omega arith) in omega arith) ];
-  loose = λ k p l u f h. elim (cases_lt k d) [ inl m ↦ i.loose k p m u f h | inr m ↦ absurd (let e = none k p u (omega arith) in omega arith) ];
+  least = λ k p l u h. elim (cases_lt k d) [ inl m ↦ i.least k p m u h | inr m ↦ absurd (let none_there = none k p u (omega arith) in omega arith) ];
+  highest = λ k p l u h. elim (cases_lt k d) [ inl m ↦ i.highest k p m u h | inr m ↦ absurd (let none_there = none k p u (omega arith) in omega arith) ];
+  loose = λ k p l u f h. elim (cases_lt k d) [ inl m ↦ i.loose k p m u f h | inr m ↦ absurd (let none_there = none k p u (omega arith) in omega arith) ];
 }
   where
     none : (k : ℕ) (p : Coord) → Toward k c p → k ≡ d → w p ≡ 0
@@ -86,7 +86,7 @@ exact_low r w q e h = not_deep r w (λ _. ⊥) (height w q) q settling (λ y n. 
     }
 
 beside_back : (a b : Coord) → AreBeside a b → AreBeside b a
-beside_back a b n = let k = back n.direction a b n.toward in record { direction = k.direction; toward = k.toward }
+beside_back a b n = let back_here = back n.direction a b n.toward in record { direction = back_here.direction; toward = back_here.toward }
 
 not_beside : (d : ℕ) (a b : Coord) → a ≡ b → Toward d a b → ⊥
 unfolding Toward
@@ -119,23 +119,23 @@ exact_with : (r : ℕ) (w v : Coord → ℕ) (c : Coord) (word : ℕ) → AreExa
     → IsWritten w v c word → AreExact r v
 exact_with r w v c word e s z f k = record {
   space = λ d g. elim (same_or_not d c) [ inl m ↦ subst (λ (x : Coord). IsInSpace r x) (sym m) s | inr m ↦ let kept = k.kept d m in e.space d (omega arith) ];
-  form = λ d g. elim (same_or_not d c) [ inl m ↦ let n = at d m in let word_to_1 : word ≤ 1 = f.form (omega arith) in omega arith | inr m ↦ let kept = k.kept d m in let w_to_1 : w d ≤ 1 = e.form d (omega arith) in omega arith ];
+  form = λ d g. elim (same_or_not d c) [ inl m ↦ let at_here = at d m in let word_to_1 : word ≤ 1 = f.form (omega arith) in omega arith | inr m ↦ let kept = k.kept d m in let w_to_1 : w d ≤ 1 = e.form d (omega arith) in omega arith ];
   floor = λ d g y. elim (same_or_not d c) [ inl m ↦ at d m ∙ f.floor (sym (ap (λ (x : Coord). x.y) m) ∙ y) | inr m ↦ k.kept d m ∙ e.floor d (let kept = k.kept d m in omega arith) y ];
   parent = λ d g. elim (same_or_not d c) [
     | inl m ↦ own d m g
     | inr m ↦ let kept = k.kept d m in elim (e.parent d (omega arith)) [
       | inl p ↦ inl (kept ∙ p.0, p.1)
-      | inr p ↦ let n = still p.0 p.2 in inr (p.0, subst (λ (j : ℕ). Toward (j % 8) d p.0) (sym kept) p.1, omega (arith, p.2), omega (arith, p.3))
+      | inr p ↦ let still_here = still p.0 p.2 in inr (p.0, subst (λ (j : ℕ). Toward (j % 8) d p.0) (sym kept) p.1, omega (arith, p.2), omega (arith, p.3))
     ]
   ];
   near = λ a b g h n. elim (same_or_not a c) [
     | inl m ↦ elim (same_or_not b c) [
       | inl o ↦ absurd (not_beside n.direction a b (m ∙ sym o) n.toward)
-      | inr o ↦ let x = at a m in let kept = k.kept b o in let above = f.above b (omega arith) (subst (λ (t : Coord). AreBeside t b) m n) in (omega (arith, above.0), omega (arith, above.1))
+      | inr o ↦ let at_here = at a m in let kept = k.kept b o in let above = f.above b (omega arith) (subst (λ (t : Coord). AreBeside t b) m n) in (omega (arith, above.0), omega (arith, above.1))
     ]
     | inr m ↦ elim (same_or_not b c) [
-      | inl o ↦ let kept = k.kept a m in let y = at b o in let below = f.below a (omega arith) (omega arith) (subst (λ (t : Coord). AreBeside a t) o n) in (omega (arith, below.0), omega (arith, below.1))
-      | inr o ↦ let x = k.kept a m in let kept = k.kept b o in let near = e.near a b (omega arith) (omega arith) n in (omega (arith, near.0), omega (arith, near.1))
+      | inl o ↦ let kept = k.kept a m in let at_here = at b o in let below = f.below a (omega arith) (omega arith) (subst (λ (t : Coord). AreBeside a t) o n) in (omega (arith, below.0), omega (arith, below.1))
+      | inr o ↦ let its_kept = k.kept a m in let kept = k.kept b o in let near = e.near a b (omega arith) (omega arith) n in (omega (arith, near.0), omega (arith, near.1))
     ]
   ];
 }
@@ -148,9 +148,9 @@ exact_with r w v c word e s z f k = record {
 
     own : (d : Coord) → d ≡ c → 8 ≤ v d
         → ((v d ≡ 8) × (d.y ≡ 0)) ⊎ ((q : Coord) × Toward (v d % 8) d q × (8 ≤ v q) × (height v q + 1 ≡ height v d))
-    own d m g = let n = at d m in elim (f.parent (omega arith)) [
-      | inl p ↦ inl (n ∙ p.0, ap (λ (x : Coord). x.y) m ∙ p.1)
-      | inr p ↦ let o = still p.0 p.2 in inr (p.0, subst (λ (x : Coord). Toward (v d % 8) x p.0) (sym m) (subst (λ (j : ℕ). Toward (j % 8) c p.0) (sym n) p.1), omega (arith, p.2), omega (arith, p.3))
+    own d m g = let at_here = at d m in elim (f.parent (omega arith)) [
+      | inl p ↦ inl (at_here ∙ p.0, ap (λ (x : Coord). x.y) m ∙ p.1)
+      | inr p ↦ let still_here = still p.0 p.2 in inr (p.0, subst (λ (x : Coord). Toward (v d % 8) x p.0) (sym m) (subst (λ (j : ℕ). Toward (j % 8) c p.0) (sym at_here) p.1), omega (arith, p.2), omega (arith, p.3))
     ]
 
 -- ---- the voxel is offered no height
@@ -161,7 +161,7 @@ fits_alone r w c a i z = record {
   form = λ h. omega arith;
   floor = λ y. let height_is : a.height ≡ 1 = i.floor y in absurd (omega arith);
   parent = λ h. absurd (omega arith);
-  above = λ b h n. let t = toward_range_seven n.direction c b n.toward in let least = i.least n.direction b t.1 n.toward h in absurd (omega (arith, least.0));
+  above = λ b h n. let toward_range = toward_range_seven n.direction c b n.toward in let least = i.least n.direction b toward_range.1 n.toward h in absurd (omega (arith, least.0));
   below = λ b g h n. absurd (omega arith);
 }
 
@@ -177,9 +177,9 @@ fits_below r w c a e few i z firm calm =
     record {
       some = omega (arith, range.0);
       form = λ h. omega (arith, range.0);
-      floor = λ y. let height_is : a.height ≡ 1 = i.floor y in let t = on_floor w candidate sound height_is in omega arith;
+      floor = λ y. let height_is : a.height ≡ 1 = i.floor y in let on_floor_here = on_floor w candidate sound height_is in omega arith;
       parent = λ h. by_sound r w c a e i sound range.1;
-      above = λ b h n. let t = toward_range_seven n.direction c b n.toward in let least = i.least n.direction b t.1 n.toward h in (omega (arith, range.0), omega (arith, range.1, least.1));
+      above = λ b h n. let toward_range = toward_range_seven n.direction c b n.toward in let least = i.least n.direction b toward_range.1 n.toward h in (omega (arith, range.0), omega (arith, range.1, least.1));
       below = λ b g h n. neighbour b g (beside_back b c n) range.1 low;
     }
   where
@@ -191,9 +191,9 @@ fits_below r w c a e few i z firm calm =
         → IsSound w (record { at = c; height = a.height; toward = a.toward }) → a.height ≤ 64000001
     not_high r w c a e few i (inl s) = omega (arith, s.1)
     not_high r w c a e few i (inr s) =
-        let t = toward_range_seven a.toward c s.0 s.1 in
-        let least = i.least a.toward s.0 t.1 s.1 s.2 in
-        let l = exact_low r w s.0 e s.2 in
+        let toward_range = toward_range_seven a.toward c s.0 s.1 in
+        let least = i.least a.toward s.0 toward_range.1 s.1 s.2 in
+        let height_bound = exact_low r w s.0 e s.2 in
         omega (arith, least.1)
 
     by_sound : (r : ℕ) (w : Coord → ℕ) (c : Coord) (a : Around) → AreExact r w → IsAround w c a 7
@@ -203,17 +203,17 @@ fits_below r w c a e few i z firm calm =
     by_sound r w c a e i (inl s) t = inl (omega (arith, s.0, s.1), s.2)
     by_sound r w c a e i (inr s) t =
         let toward_is : a.toward ≡ (8 * a.height + a.toward) % 8 = omega arith in
-        let u = toward_range_seven a.toward c s.0 s.1 in
-        let least = i.least a.toward s.0 u.1 s.1 s.2 in
+        let toward_range = toward_range_seven a.toward c s.0 s.1 in
+        let least = i.least a.toward s.0 toward_range.1 s.1 s.2 in
         inr (s.0, subst (λ (j : ℕ). Toward j c s.0) toward_is s.1, s.2, omega (arith, s.3, least.1))
 
     neighbour : (b : Coord) → 0 < w b → AreBeside c b → a.toward ≤ 6 → a.height ≤ 64000001
         → (8 ≤ w b) × (height w b ≤ (8 * a.height + a.toward) / 8 + 1)
     neighbour b g n t low =
-        let u = toward_range_seven n.direction c b n.toward in
+        let toward_range = toward_range_seven n.direction c b n.toward in
         elim (cases_lt (w b) 8) [
-          | inl m ↦ absurd (false≢true (sym firm ∙ i.loose n.direction b u.1 n.toward g m))
-          | inr m ↦ let at_most_highest : height w b ≤ a.highest = i.highest n.direction b u.1 n.toward (omega arith) in (omega arith, omega arith)
+          | inl m ↦ absurd (false≢true (sym firm ∙ i.loose n.direction b toward_range.1 n.toward g m))
+          | inr m ↦ let at_most_highest : height w b ≤ a.highest = i.highest n.direction b toward_range.1 n.toward (omega arith) in (omega arith, omega arith)
         ]
 
 -- ---- the voxel stands on the one under it
@@ -227,7 +227,7 @@ fits_over r w c b k m =
     record {
       some = omega arith;
       form = λ h. omega arith;
-      floor = λ y. let h = toward_down c down.0 down.1 in absurd (omega arith);
+      floor = λ y. let down_is = toward_down c down.0 down.1 in absurd (omega arith);
       parent = λ h. inr (down.0, subst (λ (j : ℕ). Toward j c down.0) digit down.1, (let under = m.under in omega arith), omega arith);
       above = λ q h n. (omega arith, each_beside w c q b (λ v. 8 ≤ v → (8 * (b.under / 8) + 11) / 8 ≤ v / 8 + 1) k (above b.left m.left) (above b.right m.right) (λ u. omega arith) (above b.over m.over) (above b.near m.near) (above b.far m.far) n h);
       below = λ q f h n. each_beside w c q b (λ v. 0 < v → (8 ≤ v) × (v / 8 ≤ (8 * (b.under / 8) + 11) / 8 + 1)) k (below b.left m.left) (below b.right m.right) (λ u. (m.under, omega arith)) (below b.over m.over) (below b.near m.near) (below b.far m.far) (beside_back q c n) f;
@@ -264,7 +264,7 @@ fits_on_floor r w c over e y k m = record {
   floor = λ z. refl;
   parent = λ h. inl (refl, y);
   above = λ b h n. (omega arith, omega arith);
-  below = λ a f h n. let b = beside_back a c n in floor_near r w c a b.direction over e y k m f b.toward;
+  below = λ a f h n. let back_beside = beside_back a c n in floor_near r w c a back_beside.direction over e y k m f back_beside.toward;
 }
 
 -- the word that is written is a small number
@@ -275,9 +275,9 @@ word_small r w c a e few i = elim i.sound [
   | inr s ↦ elim s [
     | inl f ↦ omega (arith, f.1)
     | inr f ↦
-        let t = toward_range_seven a.toward c f.0 f.1 in
-        let least = i.least a.toward f.0 t.1 f.1 f.2 in
-        let l = exact_low r w f.0 e f.2 in
+        let toward_range = toward_range_seven a.toward c f.0 f.1 in
+        let least = i.least a.toward f.0 toward_range.1 f.1 f.2 in
+        let height_bound = exact_low r w f.0 e f.2 in
         omega (arith, least.1)
   ]
 ]
@@ -292,9 +292,9 @@ pub around_none : (w : Coord → ℕ) (c : Coord) (a : Around)
 around_none w c a h t = record {
   floor = λ y. elim h [ inl k ↦ k.1 | inr k ↦ absurd (k.0 y) ];
   sound = elim h [ inl k ↦ inr (inl (t, k.1, k.0)) | inr k ↦ inl k.1 ];
-  least = λ k q l u g. let r = toward_range_seven k c q u in absurd (omega (arith, r.0));
-  highest = λ k q l u g. let r = toward_range_seven k c q u in absurd (omega (arith, r.0));
-  loose = λ k q l u f g. let r = toward_range_seven k c q u in absurd (omega (arith, r.0));
+  least = λ k q l u g. let toward_range = toward_range_seven k c q u in absurd (omega (arith, toward_range.0));
+  highest = λ k q l u g. let toward_range = toward_range_seven k c q u in absurd (omega (arith, toward_range.0));
+  loose = λ k q l u f g. let toward_range = toward_range_seven k c q u in absurd (omega (arith, toward_range.0));
 }
 
 -- ---- the voxel is full

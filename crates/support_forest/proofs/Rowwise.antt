@@ -58,7 +58,7 @@ record IsRowed (g : Grid) (c : Coord) (slot index word k : ℕ) : Type 0 where
   later : (j : ℕ) → k ≤ j → word_at (rowed g slot index word k) (further c j) ≡ word_at g (further c j)
 
 not_one : (n : ℕ) → n ≢ 1 → tally (n == 1) ≡ 0
-not_one n h = let e : (n == 1) ≡ false = grind (arith, nat_tests) in ap tally e
+not_one n h = let other_n : (n == 1) ≡ false = grind (arith, nat_tests) in ap tally other_n
 
 one_more : (g : Grid) (c : Coord) (slot index word k : ℕ) → CanRow g c slot index word → IsStore (rowed g slot index word k) → k < 8 →
     IsWritten (word_at (rowed g slot index word k)) (word_at (rowed g slot index word (suc k))) (further c k) word × IsStore (rowed g slot index word (suc k))
@@ -66,12 +66,12 @@ unfolding with_row
 one_more g c slot index word k h s l =
     let now = rowed g slot index word k in
     let in_space : IsInSpace g.resolution (further c k) = row_space g c 8 k h.row l in
-    let e : Some slot ≡ slot_of now (further c k) = row_slot g c 8 k (Some slot) h.row l (sym h.own) in
+    let some_is : Some slot ≡ slot_of now (further c k) = row_slot g c 8 k (Some slot) h.row l (sym h.own) in
     let index_is : index + k ≡ word_index (further c k) = sym (row_index c 8 k index h.row.row l h.at) in
     let sum_is : k + 1 ≡ suc k = omega arith in
     let element_is : get_or (words_of (with_row g.bricks slot index (suc k) word) slot) (index + k) 0 ≡ word = subst (λ (j : ℕ). get_or (words_of (with_row g.bricks slot index j word) slot) (index + k) 0 ≡ word) sum_is (h.written k l) in (
-      sets now (further c k) slot (index + k) word (with_row g.bricks slot index (suc k) word) s in_space e index_is refl element_is,
-      keeps now (further c k) slot (index + k) word (with_row g.bricks slot index (suc k) word) s in_space e index_is refl element_is,
+      sets now (further c k) slot (index + k) word (with_row g.bricks slot index (suc k) word) s in_space some_is index_is refl element_is,
+      keeps now (further c k) slot (index + k) word (with_row g.bricks slot index (suc k) word) s in_space some_is index_is refl element_is,
     )
 
 is_rowed : (g : Grid) (c : Coord) (slot index word k : ℕ) → CanRow g c slot index word → k ≤ 8
@@ -79,18 +79,18 @@ is_rowed : (g : Grid) (c : Coord) (slot index word k : ℕ) → CanRow g c slot 
 unfolding with_row
 is_rowed g c slot index word zero h l = record { store = h.store; count = refl; later = λ j m. refl }
 is_rowed g c slot index word (suc k) h l =
-    let p = is_rowed g c slot index word k h (omega arith) in
+    let rowed_here = is_rowed g c slot index word k h (omega arith) in
     let k_below_8 : k < 8 = omega arith in
-    let o = one_more g c slot index word k h p.store k_below_8 in
-    let old : word_at (rowed g slot index word k) (further c k) ≢ 1 = λ e. h.levels k k_below_8 (sym (p.later k (omega arith)) ∙ e) in
-    let n = count_written (rowed g slot index word k) (rowed g slot index word (suc k)) (further c k) (word_at (rowed g slot index word k) (further c k)) word refl (row_space g c 8 k h.row k_below_8) refl o.0 in
-    let u : tally (word == 1) ≡ 0 = not_one word h.level in
-    let d : tally (word_at (rowed g slot index word k) (further c k) == 1) ≡ 0 = not_one (word_at (rowed g slot index word k) (further c k)) old in
-    let before = p.count in
+    let one_more_here = one_more g c slot index word k h rowed_here.store k_below_8 in
+    let old : word_at (rowed g slot index word k) (further c k) ≢ 1 = λ e. h.levels k k_below_8 (sym (rowed_here.later k (omega arith)) ∙ e) in
+    let written_count = count_written (rowed g slot index word k) (rowed g slot index word (suc k)) (further c k) (word_at (rowed g slot index word k) (further c k)) word refl (row_space g c 8 k h.row k_below_8) refl one_more_here.0 in
+    let tally_zero : tally (word == 1) ≡ 0 = not_one word h.level in
+    let tally_is_zero : tally (word_at (rowed g slot index word k) (further c k) == 1) ≡ 0 = not_one (word_at (rowed g slot index word k) (further c k)) old in
+    let before = rowed_here.count in
     record {
-      store = o.1;
+      store = one_more_here.1;
       count = omega arith;
-      later = λ j m. o.0.kept (further c j) (λ e. let sum_is : c.z + j ≡ c.z + k = ap (λ (x : Coord). x.z) e in omega arith) ∙ p.later j (omega arith);
+      later = λ j m. one_more_here.0.kept (further c j) (λ e. let sum_is : c.z + j ≡ c.z + k = ap (λ (x : Coord). x.z) e in omega arith) ∙ rowed_here.later j (omega arith);
     }
 
 -- what a row that is written leaves
@@ -103,10 +103,10 @@ pub wrote_row : (g : Grid) (v : Slots) (c : Coord) (slot index word : ℕ) → C
     → v ≡ with_row g.bricks slot index 8 word → WroteRow g v c word
 unfolding with_row
 wrote_row g v c slot index word h e =
-    let p = is_rowed g c slot index word 8 h (omega arith) in
+    let rowed_here = is_rowed g c slot index word 8 h (omega arith) in
     subst (λ (u : Slots). WroteRow g u c word) (sym e) (record {
-      store = p.store;
-      count = p.count;
+      store = rowed_here.store;
+      count = rowed_here.count;
       written = record {
         after = λ k. rowed g slot index word k;
         first = refl;
@@ -127,14 +127,14 @@ written_so_far : (old new : Grid) (c : Coord) (word k : ℕ) (w : AreWritten old
     ((j : ℕ) → j < k → word_at (w.after k) (further c j) ≡ word) × ((d : Coord) → ((j : ℕ) → j < k → d ≡ further c j → ⊥) → word_at (w.after k) d ≡ word_at old d)
 written_so_far old new c word zero w l = ((λ j m. absurd (omega arith)), (λ d h. ap (λ (g : Grid). word_at g d) w.first))
 written_so_far old new c word (suc k) w l =
-    let p = written_so_far old new c word k w (omega arith) in
+    let so_far = written_so_far old new c word k w (omega arith) in
     let same_k : k + 1 ≡ suc k = omega arith in
     let written : IsWritten (word_at (w.after k)) (word_at (w.after (suc k))) (further c k) word = subst (λ (j : ℕ). IsWritten (word_at (w.after k)) (word_at (w.after j)) (further c k) word) same_k (w.each k (omega arith)) in (
       (λ j m. elim (cases_eq j k) [
         | inl e ↦ ap (λ (i : ℕ). word_at (w.after (suc k)) (further c i)) e ∙ written.here
-        | inr e ↦ written.kept (further c j) (λ q. let sum_is : c.z + j ≡ c.z + k = ap (λ (x : Coord). x.z) q in e (omega arith)) ∙ p.0 j (grind arith)
+        | inr e ↦ written.kept (further c j) (λ q. let sum_is : c.z + j ≡ c.z + k = ap (λ (x : Coord). x.z) q in e (omega arith)) ∙ so_far.0 j (grind arith)
       ]),
-      (λ d h. written.kept d (h k (omega arith)) ∙ p.1 d (λ j m. h j (omega arith))),
+      (λ d h. written.kept d (h k (omega arith)) ∙ so_far.1 d (λ j m. h j (omega arith))),
     )
 
 pub row_word : (old new : Grid) (c : Coord) (word j : ℕ) → AreWritten old new c word → j < 8
@@ -176,22 +176,22 @@ no_parent w c q n k f l out h t = by t
 exact_without_row : (r n : ℕ) (w v : Coord → ℕ) (c : Coord) → AreExact r w → RowIsFree w c n → ((j : ℕ) → j < n → v (further c j) ≡ 0) →
     ((d : Coord) → ((j : ℕ) → j < n → d ≡ further c j → ⊥) → v d ≡ w d) → AreExact r v
 exact_without_row r n w v c e f gone kept = record {
-  space = λ d h. let s = kept d (out d h) in e.space d (omega arith);
+  space = λ d h. let kept_there = kept d (out d h) in e.space d (omega arith);
   form = λ d l. elim (in_row d c n) [
     | inl i ↦ let v_is : v d ≡ 0 = ap v i.2 ∙ gone i.0 i.1 in omega arith
-    | inr o ↦ let s = kept d o in let w_to_1 : w d ≤ 1 = e.form d (omega arith) in omega arith
+    | inr o ↦ let kept_there = kept d o in let w_to_1 : w d ≤ 1 = e.form d (omega arith) in omega arith
   ];
-  floor = λ d h y. let s = kept d (out d h) in s ∙ e.floor d (omega arith) y;
+  floor = λ d h y. let kept_there = kept d (out d h) in kept_there ∙ e.floor d (omega arith) y;
   parent = λ d h.
-      let o = out d (omega arith) in
-      let s = kept d o in
+      let out_here = out d (omega arith) in
+      let kept_there = kept d out_here in
       elim (e.parent d (omega arith)) [
-        | inl p ↦ inl (s ∙ p.0, p.1)
+        | inl p ↦ inl (kept_there ∙ p.0, p.1)
         | inr p ↦
-            let same : v p.0 ≡ w p.0 = kept p.0 (λ j l m. no_parent w c d n j f l o (omega arith) (subst (λ (x : Coord). Toward (w d % 8) d x) m p.1)) in
-            inr (p.0, subst (λ (j : ℕ). Toward (j % 8) d p.0) (sym s) p.1, omega (arith, p.2), omega (arith, p.3))
+            let same : v p.0 ≡ w p.0 = kept p.0 (λ j l m. no_parent w c d n j f l out_here (omega arith) (subst (λ (x : Coord). Toward (w d % 8) d x) m p.1)) in
+            inr (p.0, subst (λ (j : ℕ). Toward (j % 8) d p.0) (sym kept_there) p.1, omega (arith, p.2), omega (arith, p.3))
       ];
-  near = λ a b h i j. let s = kept a (out a h) in let t = kept b (out b (omega arith)) in let near = e.near a b (omega arith) (omega arith) j in (omega (arith, near.0), omega (arith, near.1));
+  near = λ a b h i j. let kept_there = kept a (out a h) in let kept_there_here = kept b (out b (omega arith)) in let near = e.near a b (omega arith) (omega arith) j in (omega (arith, near.0), omega (arith, near.1));
 }
   where
     out : (d : Coord) → 0 < v d → (j : ℕ) → j < n → d ≡ further c j → ⊥

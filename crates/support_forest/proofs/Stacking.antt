@@ -53,12 +53,12 @@ fits_level r w c word h level floor parent = record {
   parent = λ k. parent;
   above = λ b k n.
       let height_is : height w b ≡ b.y + 1 = h b (omega arith) in
-      let y = near_level n.direction c b n.toward in
-      (omega arith, omega (arith, y.0));
+      let levels_near = near_level n.direction c b n.toward in
+      (omega arith, omega (arith, levels_near.0));
   below = λ a k m n.
       let height_is : height w a ≡ a.y + 1 = h a k in
-      let y = near_level n.direction a c n.toward in
-      (omega arith, omega (arith, y.0));
+      let levels_near = near_level n.direction a c n.toward in
+      (omega arith, omega (arith, levels_near.0));
 }
 
 heap_with : (w v : Coord → ℕ) (c : Coord) (word : ℕ) → AreHeapWords w → word / 8 ≡ c.y + 1 → IsWritten w v c word
@@ -138,12 +138,12 @@ slots_kept old new c own below t r s = record { here = slot_kept old new c t r �
 pub slots_along : (g : Grid) (c : Coord) (z own : ℕ) (below : Option ℕ) → z / 8 ≡ c.z / 8 → AreBrickSlots g c own below →
     AreBrickSlots g (record { x = c.x; y = c.y; z = z }) own below
 slots_along g c z own below e s =
-    let d : Coord = record { x = c.x; y = c.y; z = z } in
-    let here : brick d ≡ brick c = λ i. record { x = c.x / 8; y = c.y / 8; z = e i } in
-    let there : brick (under d) ≡ brick (under c) = λ i. record { x = c.x / 8; y = (c.y - 1) / 8; z = e i } in
+    let place_there : Coord = record { x = c.x; y = c.y; z = z } in
+    let here : brick place_there ≡ brick c = λ i. record { x = c.x / 8; y = c.y / 8; z = e i } in
+    let there : brick (under place_there) ≡ brick (under c) = λ i. record { x = c.x / 8; y = (c.y - 1) / 8; z = e i } in
     record {
-      here = sym (same_slot g c d (Some own) here (sym s.here));
-      there = λ y. same_slot g (under c) (under d) below there (s.there y);
+      here = sym (same_slot g c place_there (Some own) here (sym s.here));
+      there = λ y. same_slot g (under c) (under place_there) below there (s.there y);
     }
 
 -- ---- bits
@@ -274,11 +274,11 @@ module _ (m : Matrix) (old : Grid) (p : ℕ) (rest : List Coord) (c : Coord) (h 
     exact = h.exact;
     heap = h.heap;
     within = subst (λ (r : ℕ). IsInSpace r c) (sym h.resolution) within;
-    void = elim (cases_lt 0 (word_at old c)) [ inl f ↦ let b = (h.seen c f).before in absurd (omega (arith, b)) | inr f ↦ omega arith ];
+    void = elim (cases_lt 0 (word_at old c)) [ inl f ↦ let before = (h.seen c f).before in absurd (omega (arith, before)) | inr f ↦ omega arith ];
   }
 
   not_here : (d : Coord) → IsSeen m p d → d ≡ c → ⊥
-  not_here d s e = let before = s.before in let k : place m.resolution d ≡ place m.resolution c = ap (place m.resolution) e in omega (arith, before)
+  not_here d s e = let before = s.before in let place_is : place m.resolution d ≡ place m.resolution c = ap (place m.resolution) e in omega (arith, before)
 
   earlier : (d : Coord) → (d ≡ c → ⊥) → IsSeen m (p + 1) d → IsSeen m p d
   earlier d n s = elim (cases_lt (place m.resolution d) p) [
@@ -377,16 +377,16 @@ are_piled : (m : Matrix) (old new : Grid) (c : Coord) (word k : ℕ) → CanPile
     → (w : AreWritten old new c word) → k ≤ 8 → ArePiled m old (w.after k) c k
 are_piled m old new c word zero h w l = subst (λ (g : Grid). ArePiled m old g c 0) (sym w.first) (record { heaped = λ rest i. heaped_at _ _ _ _ _ (omega arith) i; stands = h.stands })
 are_piled m old new c word (suc k) h w l =
-    let p = are_piled m old new c word k h w (omega arith) in
+    let piled_here = are_piled m old new c word k h w (omega arith) in
     let sum_is : k + 1 ≡ suc k = omega arith in
     let k_below_8 : k < 8 = omega arith in
     let below_resolution : c.z + k < m.resolution = omega (arith, h.row) in
     let some = h.heap in
-    let can : CanStack (w.after k) (further c k) = can_stack_along m (w.after k) c k some.rest (p.heaped some.rest some.is) h.within below_resolution in
-    let stacked = stacked_in_pile (w.after k) (w.after (k + 1)) c 8 k word 0 1 can p.stands k_below_8 h.floor h.above (w.each k k_below_8) (w.resolution (k + 1) ∙ sym (w.resolution k)) (w.table (k + 1) ∙ sym (w.table k)) (omega arith) in
+    let can : CanStack (w.after k) (further c k) = can_stack_along m (w.after k) c k some.rest (piled_here.heaped some.rest some.is) h.within below_resolution in
+    let stacked = stacked_in_pile (w.after k) (w.after (k + 1)) c 8 k word 0 1 can piled_here.stands k_below_8 h.floor h.above (w.each k k_below_8) (w.resolution (k + 1) ∙ sym (w.resolution k)) (w.table (k + 1) ∙ sym (w.table k)) (omega arith) in
     subst (λ (j : ℕ). ArePiled m old (w.after j) c j) sum_is (record {
-      heaped = λ rest i. stacked_along m (w.after k) c k rest (p.heaped rest i) h.within below_resolution (h.full k k_below_8) (w.after (k + 1)) 0 1 stacked;
-      stands = still_stands (word_at (w.after k)) (word_at (w.after (k + 1))) c 8 k word p.stands (w.each k k_below_8);
+      heaped = λ rest i. stacked_along m (w.after k) c k rest (piled_here.heaped rest i) h.within below_resolution (h.full k k_below_8) (w.after (k + 1)) 0 1 stacked;
+      stands = still_stands (word_at (w.after k)) (word_at (w.after (k + 1))) c 8 k word piled_here.stands (w.each k k_below_8);
     })
 
 pub piled : (m : Matrix) (old new : Grid) (c : Coord) (word : ℕ) → CanPile m old c word → AreWritten old new c word →
@@ -399,7 +399,7 @@ pub void_to_come : (m : Matrix) (old : Grid) (c : Coord) (k : ℕ) → IsSomeHea
 void_to_come m old c k h e =
     let seen = h.is.seen (further c k) (omega arith) in
     let below_place : place m.resolution (further c k) < place m.resolution c = seen.before in
-    let p : place m.resolution (further c k) ≡ place m.resolution c + k = omega arith in
+    let place_sum : place m.resolution (further c k) ≡ place m.resolution c + k = omega arith in
     omega arith
 
 -- ---- the whole matrix

@@ -28,7 +28,7 @@ in_space r c h = record {
 
 pub brick_inside : (r : ℕ) (c : Coord) → IsInSpace r c → IsInSpace (side r) (brick c)
 unfolding side
-brick_inside r c h = let x = h.x in let y = h.y in let z = h.z in record { x = omega arith; y = omega arith; z = omega arith }
+brick_inside r c h = let along_x = h.x in let along_y = h.y in let along_z = h.z in record { x = omega arith; y = omega arith; z = omega arith }
 
 pub few_bricks : (r : ℕ) → r ≤ 400 → side r ≤ 50
 unfolding side
@@ -36,7 +36,7 @@ few_bricks r h = omega arith
 
 pub cube_of_bricks : (n : ℕ) → n ≤ 50 → n * n * n ≤ 125000
 cube_of_bricks n h =
-    let a : n * n ≤ 50 * n = grind arith in
+    let at_most_product : n * n ≤ 50 * n = grind arith in
     let at_most_n : n * n * n ≤ 50 * n * n = grind arith in
     omega arith
 
@@ -56,11 +56,11 @@ pub same_voxel : (r : ℕ) (c d : Coord) → IsInSpace (side r) (brick c) → Is
     → brick_number r c ≡ brick_number r d → word_index c ≡ word_index d → c ≡ d
 unfolding brick_number word_index
 same_voxel r c d h k n i =
-    let b : brick c ≡ brick d = sym (coordinate_at-place (side r) (brick c) h) ∙ (ap (coordinate_at (side r)) n ∙ coordinate_at-place (side r) (brick d) k) in
-    let m = digits c.x c.y c.z d.x d.y d.z i in
-    let same_x : c.x ≡ d.x = same_digits c.x d.x (ap (λ (p : Coord). p.x) b) m.0 in
-    let same_y : c.y ≡ d.y = same_digits c.y d.y (ap (λ (p : Coord). p.y) b) m.1 in
-    let same_z : c.z ≡ d.z = same_digits c.z d.z (ap (λ (p : Coord). p.z) b) m.2 in
+    let same_brick_here : brick c ≡ brick d = sym (coordinate_at-place (side r) (brick c) h) ∙ (ap (coordinate_at (side r)) n ∙ coordinate_at-place (side r) (brick d) k) in
+    let all_digits = digits c.x c.y c.z d.x d.y d.z i in
+    let same_x : c.x ≡ d.x = same_digits c.x d.x (ap (λ (p : Coord). p.x) same_brick_here) all_digits.0 in
+    let same_y : c.y ≡ d.y = same_digits c.y d.y (ap (λ (p : Coord). p.y) same_brick_here) all_digits.1 in
+    let same_z : c.z ≡ d.z = same_digits c.z d.z (ap (λ (p : Coord). p.z) same_brick_here) all_digits.2 in
     λ j. record { x = same_x j; y = same_y j; z = same_z j }
 
 -- ---- slots
@@ -96,7 +96,7 @@ one_more None n e = omega arith
 one_more (Some s) n e = absurd (none_some s e)
   where
     none_some : (s : ℕ) → Some s ≡ None → ⊥
-    none_some s e = let z : true ≡ false = ap is_some e in cc
+    none_some s e = let true_is_false : true ≡ false = ap is_some e in cc
 
 -- one more brick has a slot
 pub count_taken : (table : List (Option ℕ)) (n s : ℕ) → n < length table → slot_at table n ≡ None
@@ -105,7 +105,7 @@ count_taken [] n s l e = absurd (omega arith)
 count_taken (o ∷ more) zero s l e =
     sum_by-cons (λ (p : Option ℕ). cond (is_some p) 1 0) (Some s) more ∙ (one_more o (count_by is_some more) e ∙ ap (λ (k : ℕ). k + 1) (sym (sum_by-cons (λ (p : Option ℕ). cond (is_some p) 1 0) o more)))
 count_taken (o ∷ more) (suc n) s l e =
-    let a : count_by is_some (o ∷ set more n (Some s)) ≡ cond (is_some o) 1 0 + count_by is_some (set more n (Some s)) = sum_by-cons (λ (p : Option ℕ). cond (is_some p) 1 0) o (set more n (Some s)) in
+    let sum_is : count_by is_some (o ∷ set more n (Some s)) ≡ cond (is_some o) 1 0 + count_by is_some (set more n (Some s)) = sum_by-cons (λ (p : Option ℕ). cond (is_some p) 1 0) o (set more n (Some s)) in
     let count_is : count_by is_some (o ∷ more) ≡ cond (is_some o) 1 0 + count_by is_some more = sum_by-cons (λ (p : Option ℕ). cond (is_some p) 1 0) o more in
     let same_count : count_by is_some (set more n (Some s)) ≡ count_by is_some more + 1 = count_taken more n s (omega arith) e in
     omega arith

@@ -31,22 +31,22 @@ pub stretch_from : (gone : List Coord) (end : ℕ) (last : Coord) (most count : 
     → IsBefore gone end last most count → end ≤ length gone → c ≡ slice_index_or gone (end - count) c
     → IsStretch gone (end - count) count c
 stretch_from gone end last most count c b l h =
-    let s = b.some in
-    let w = b.within in
+    let some_there = b.some in
+    let its_within = b.within in
     let few = b.few in
-    let r = b.row in
+    let its_row = b.row in
     let record_is : c ≡ record { x = last.x; y = last.y; z = last.z - (count - 1) } = h ∙ b.each (count - 1) (end - count) c (omega arith) (omega arith) in
     let same_x : last.x ≡ c.x = sym (ap (λ (p : Coord). p.x) record_is) in
     let same_y : last.y ≡ c.y = sym (ap (λ (p : Coord). p.y) record_is) in
     let z_is : c.z ≡ last.z - (count - 1) = ap (λ (p : Coord). p.z) record_is in
     record {
-      some = s;
+      some = some_there;
       within = omega arith;
       row = omega arith;
       each = λ k d m.
           let difference_is : last.z - (count - 1 - k) ≡ c.z + k = omega arith in
-          let u : record { x = last.x; y = last.y; z = last.z - (count - 1 - k) } ≡ further c k = λ j. record { x = same_x j; y = same_y j; z = difference_is j } in
-          b.each (count - 1 - k) (end - count + k) d (omega arith) (omega arith) ∙ u;
+          let is_further : record { x = last.x; y = last.y; z = last.z - (count - 1 - k) } ≡ further c k = λ j. record { x = same_x j; y = same_y j; z = difference_is j } in
+          b.each (count - 1 - k) (end - count + k) d (omega arith) (omega arith) ∙ is_further;
     }
 
 pub one_before : (gone : List Coord) (end : ℕ) (last : Coord) (most : ℕ) → 0 < end → end ≤ length gone
@@ -119,7 +119,7 @@ pub row_in_slot : (g : Grid) (chunk : List ℕ) (slot index from n : ℕ) (c : C
 row_in_slot g chunk slot index from n c P s b r e h i f w k l =
     let same : brick (further c k) ≡ brick c = row_brick c n k r l in
     let at : word_index (further c k) ≡ index + k = row_index c n k index r l i in
-    let below : index + k < 512 = let p = index_below (further c k) in omega arith in
+    let below : index + k < 512 = let below_512 = index_below (further c k) in omega arith in
     let stands : StandsAt g slot (index + k) (further c k) = record {
       within = subst (λ (x : Coord). IsInSpace (side g.resolution) x) (sym same) b;
       in_slot = sym (same_slot g c (further c k) (Some slot) same (sym e));
@@ -198,9 +198,9 @@ pub side_none : (g : Grid) (r : ℕ) (c : Coord) (n d toward : ℕ) → (0 < d) 
     → ((q : Coord) → 0 < word_at g q → IsInSpace g.resolution q) → ((q : Coord) → Toward d c q → IsInSpace r q → ⊥)
     → SideHangsNot (word_at g) c n d toward
 side_none g r c n d toward b h e space none k p l t f m =
-    let s = space p (omega arith) in
+    let space_here = space p (omega arith) in
     let within_z = h.within.z in
-    none (record { x = p.x; y = p.y; z = c.z }) (side_back d k c p b.1 t) (subst (λ (i : ℕ). IsInSpace i (record { x = p.x; y = p.y; z = c.z })) (sym e) (record { x = s.x; y = s.y; z = within_z }))
+    none (record { x = p.x; y = p.y; z = c.z }) (side_back d k c p b.1 t) (subst (λ (i : ℕ). IsInSpace i (record { x = p.x; y = p.y; z = c.z })) (sym e) (record { x = space_here.x; y = space_here.y; z = within_z }))
 
 -- a side in the brick at hand
 pub side_in_slot : (g : Grid) (chunk : List ℕ) (slot index from n d toward : ℕ) (c : Coord) → (0 < d) × (d ≤ 4)
@@ -244,8 +244,8 @@ pub stretch_in_row : (g : Grid) (gone : List Coord) (end count : ℕ) (c : Coord
     → IsStretch gone (end - count) count c → count ≤ end
     → ((i : ℕ) (x : Coord) → i < end → x ≡ slice_index_or gone i x → 0 < word_at g x) → LieInRow g c count
 stretch_in_row g gone end count c e s b full =
-    let m = s.some in
-    let first = e.space (further c 0) (stretch_full g gone end count 0 c s b full m) in
+    let some_there = s.some in
+    let first = e.space (further c 0) (stretch_full g gone end count 0 c s b full some_there) in
     let last = e.space (further c (count - 1)) (stretch_full g gone end count (count - 1) c s b full (omega arith)) in
     record {
       within = record { x = first.x; y = first.y; z = let first_z = first.z in omega arith };

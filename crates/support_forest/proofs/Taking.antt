@@ -28,16 +28,16 @@ none_hangs w c b k n q h t = by t
 pub exact_without : (r : ℕ) (w v : Coord → ℕ) (c : Coord) → AreExact r w → IsNoParent w c → IsWritten w v c 0
     → AreExact r v
 exact_without r w v c e n k = record {
-  space = λ d f. let s = still d (omega arith) in e.space d (omega arith);
+  space = λ d f. let still_here = still d (omega arith) in e.space d (omega arith);
   form = λ d l. elim (same_or_not d c) [ inl m ↦ let v_is : v d ≡ 0 = ap v m ∙ k.here in omega arith | inr m ↦ let kept = k.kept d m in let w_to_1 : w d ≤ 1 = e.form d (omega arith) in omega arith ];
-  floor = λ d f y. let s = still d f in s ∙ e.floor d (omega arith) y;
-  parent = λ d h. let s = still d (omega arith) in elim (e.parent d (omega arith)) [
-    | inl p ↦ inl (s ∙ p.0, p.1)
+  floor = λ d f y. let still_here = still d f in still_here ∙ e.floor d (omega arith) y;
+  parent = λ d h. let still_here = still d (omega arith) in elim (e.parent d (omega arith)) [
+    | inl p ↦ inl (still_here ∙ p.0, p.1)
     | inr p ↦
         let v_is : v p.0 ≡ w p.0 = k.kept p.0 (λ m. n d (omega arith) (subst (λ (x : Coord). Toward (w d % 8) d x) m p.1)) in
-        inr (p.0, subst (λ (j : ℕ). Toward (j % 8) d p.0) (sym s) p.1, omega (arith, p.2), omega (arith, p.3))
+        inr (p.0, subst (λ (j : ℕ). Toward (j % 8) d p.0) (sym still_here) p.1, omega (arith, p.2), omega (arith, p.3))
   ];
-  near = λ a b f h i. let s = still a f in let t = still b (omega arith) in let near = e.near a b (omega arith) (omega arith) i in (omega (arith, near.0), omega (arith, near.1));
+  near = λ a b f h i. let still_here = still a f in let still_here_too = still b (omega arith) in let near = e.near a b (omega arith) (omega arith) i in (omega (arith, near.0), omega (arith, near.1));
 }
   where
     still : (d : Coord) → 0 < v d → v d ≡ w d

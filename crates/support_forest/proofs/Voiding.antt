@@ -214,7 +214,7 @@ wall_before_region old now new k x rest more most h p q =
 -- steps that a row or a wall adds
 pub more_steps : (high y n before steps after : ℕ) → y ≤ high → steps ≤ before + 40 * ((high + 1 - (y + 1)) * n)
     → after ≤ steps + 40 * n → after ≤ before + 40 * ((high + 1 - y) * n)
-more_steps high y n before steps after h s t = let e = one_more_of high y n h in omega (arith, e)
+more_steps high y n before steps after h s t = let one_more = one_more_of high y n h in omega (arith, one_more)
 
 -- ---- the region
 
@@ -233,7 +233,9 @@ walls_are_region old new k n rest more o p = record {
 }
   where
     here : (c : Coord) → IsInRegion k c → IsInWalls k k.low.x c
-    here c h = let q = is_of k c o h in (q.x_low, q.x_high, q.y_low, q.y_high, q.z_low, q.z_high)
+    here c h =
+        let lies_within = is_of k c o h in
+        (lies_within.x_low, lies_within.x_high, lies_within.y_low, lies_within.y_high, lies_within.z_low, lies_within.z_high)
 
     there : (c : Coord) → IsInWalls k k.low.x c → IsInRegion k c
     there c h = of_is k c (record { x_low = h.0; x_high = h.1; y_low = h.2; y_high = h.3; z_low = h.4; z_high = h.5 })

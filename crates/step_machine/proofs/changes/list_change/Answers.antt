@@ -17,8 +17,8 @@ returns-then-edited-full-clause-items g c =
 pub list_region-requires-clause-room : goal.list_region-requires-clause-room
 list_region-requires-clause-room g c =
     let region : IsRegionOf c.in-Some.edited.region c.args.full (act c.args.bot.now c.args.command.now) = edits_region c.resolution.result c.args.bot.now c.args.command.now c.in-Some.edited c.args.full c.in-Some.ensures c.if-edited-full.false in
-    let n = size_is c.args.matrix.now c.resolution.result c.args.full (act c.args.bot.now c.args.command.now) c.in-Some.edited.region c.resolution.ensures.value c.in-Some.ensures.ordered c.in-Some.ensures.within region in
-    omega (arith, n, c.requires.room)
+    let sized = size_is c.args.matrix.now c.resolution.result c.args.full (act c.args.bot.now c.args.command.now) c.in-Some.edited.region c.resolution.ensures.value c.in-Some.ensures.ordered c.in-Some.ensures.within region in
+    omega (arith, sized, c.requires.room)
 
 pub returns-clause-items : goal.returns-clause-items
 returns-clause-items g c =

@@ -31,4 +31,4 @@ resettle-requires-clause-can g c = can_resettle _ _ _ c.requires (all_marked _ _
 pub returns : goal.returns
 returns g c =
     ok_then c.resettle.result (HaveResettled c.loop-c.cells c.resettle.new.cells c.args.new.now c.loop-c.steps c.resettle.new.steps) _
-    (λ h. have_added _ _ _ _ _ _ _ _ c.requires c.loop-c.invariant c.loop-c-test.false (let e = c.loop-c.auto.c-index-end in omega arith) h) c.resettle.ensures
+    (λ h. have_added _ _ _ _ _ _ _ _ c.requires c.loop-c.invariant c.loop-c-test.false (let in_range = c.loop-c.auto.c-index-end in omega arith) h) c.resettle.ensures

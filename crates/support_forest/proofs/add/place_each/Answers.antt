@@ -31,4 +31,4 @@ loop-c-preserved g c =
     (get_or_default c.args.new.now c.loop-c.c-index origin next c.loop-c-test.true) stays.0 stays.1 c.in_ok-push.ensures.items
 
 pub returns : goal.returns
-returns g c = are_placed _ _ _ c.loop-c.c-index _ _ _ c.requires.can c.loop-c.invariant (let e = c.loop-c.auto.c-index-end in let f = c.loop-c-test.false in omega arith)
+returns g c = are_placed _ _ _ c.loop-c.c-index _ _ _ c.requires.can c.loop-c.invariant (let in_range = c.loop-c.auto.c-index-end in let at_end = c.loop-c-test.false in omega arith)

@@ -6,18 +6,18 @@ use Rattle.support_forest.proofs.heap.pile_row.Goals as goal
 
 pub write_row-requires-clause-level : goal.write_row-requires-clause-level
 write_row-requires-clause-level g c e =
-    let w = c.heap_word.ensures in
-    elim (cases_lt 0 c.args.first.y) [ inl l ↦ let a = w.above l in omega arith | inr l ↦ let z : c.args.first.y ≡ 0 = omega arith in let f = w.floor z in omega arith ]
+    let heap_word_ensured = c.heap_word.ensures in
+    elim (cases_lt 0 c.args.first.y) [ inl l ↦ let above = heap_word_ensured.above l in omega arith | inr l ↦ let same_y : c.args.first.y ≡ 0 = omega arith in let floor = heap_word_ensured.floor same_y in omega arith ]
 
 pub write_row-requires-clause-levels : goal.write_row-requires-clause-levels
 write_row-requires-clause-levels g c k l e = void_to_come c.args.planes.now c.args.cells.now c.args.first k c.requires.heap e
 
 pub returns-clause-heaped : goal.returns-clause-heaped
 returns-clause-heaped g c =
-    let r = c.requires.heap.is.resolution in
+    let resolution = c.requires.heap.is.resolution in
     let can : CanPile c.args.planes.now c.args.cells.now c.args.first c.heap_word.result = record {
-      within = subst (λ (n : ℕ). IsInSpace n c.args.first) r c.requires.row.within;
-      row = omega (arith, c.requires.row.last, r);
+      within = subst (λ (n : ℕ). IsInSpace n c.args.first) resolution c.requires.row.within;
+      row = omega (arith, c.requires.row.last, resolution);
       full = c.requires.full;
       stands = c.requires.stands;
       heap = c.requires.heap;

@@ -11,18 +11,18 @@ returns-then-bits-eq0-clause-heaped g c = heaped_blank _ _ _ _ _ _ c.requires.bi
 
 pub is_pile-requires-clause-row : goal.is_pile-requires-clause-row
 is_pile-requires-clause-row g c =
-    let r : c.take_slot.new.self.resolution ≡ c.args.planes.now.resolution = c.take_slot.ensures.resolution ∙ c.requires.heaped.resolution in
-    record { within = subst (λ (n : ℕ). IsInSpace n c.args.first) (sym r) c.requires.within; last = omega (arith, c.requires.row, r); row = c.requires.brick }
+    let same_resolution : c.take_slot.new.self.resolution ≡ c.args.planes.now.resolution = c.take_slot.ensures.resolution ∙ c.requires.heaped.resolution in
+    record { within = subst (λ (n : ℕ). IsInSpace n c.args.first) (sym same_resolution) c.requires.within; last = omega (arith, c.requires.row, same_resolution); row = c.requires.brick }
 
 pub pile_row-requires-clause-full : goal.pile_row-requires-clause-full
 pile_row-requires-clause-full g c =
-    let p = c.is_pile.ensures.pile c.if-is_pile.true in
-    pile_full c.args.planes.now (place c.args.planes.now.resolution c.args.first) c.args.count c.args.bits c.requires.bits p.whole p.full
+    let pile = c.is_pile.ensures.pile c.if-is_pile.true in
+    pile_full c.args.planes.now (place c.args.planes.now.resolution c.args.first) c.args.count c.args.bits c.requires.bits pile.whole pile.full
 
 pub pile_row-requires-clause-stands : goal.pile_row-requires-clause-stands
 pile_row-requires-clause-stands g c =
-    let p = c.is_pile.ensures.pile c.if-is_pile.true in
-    subst (λ (n : ℕ). RowStands (word_at c.take_slot.new.self) c.args.first n) p.whole p.stands
+    let pile = c.is_pile.ensures.pile c.if-is_pile.true in
+    subst (λ (n : ℕ). RowStands (word_at c.take_slot.new.self) c.args.first n) pile.whole pile.stands
 
 pub pile_row-requires-clause-heap : goal.pile_row-requires-clause-heap
 pile_row-requires-clause-heap g c = record {
@@ -32,8 +32,8 @@ pile_row-requires-clause-heap g c = record {
 
 pub returns-then-is_pile-clause-heaped : goal.returns-then-is_pile-clause-heaped
 returns-then-is_pile-clause-heaped g c =
-    let p = c.is_pile.ensures.pile c.if-is_pile.true in
-    let w = p.whole in
+    let pile = c.is_pile.ensures.pile c.if-is_pile.true in
+    let whole = pile.whole in
     heaped_at _ _ _ _ _ (omega arith) (c.pile_row.ensures.heaped c.args.rest.now.items (heaped_same _ _ _ _ _ c.take_slot.ensures.resolution c.in_ok-own.ensures.same c.requires.heaped))
 
 pub stack_each-requires-clause-slots : goal.stack_each-requires-clause-slots

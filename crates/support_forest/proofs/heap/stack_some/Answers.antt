@@ -10,12 +10,12 @@ loop-k-init g c = record { few = omega arith; heaped = heaped_at _ _ _ _ _ (omeg
 
 pub stack_part-requires-clause-bits : goal.stack_part-requires-clause-bits
 stack_part-requires-clause-bits g c =
-    let m = c.args.planes.now in
-    let from : c.place-from.result ≡ place m.resolution c.args.first = c.place-from.ensures.value ∙ ap (λ (r : ℕ). place r c.args.first)
+    let planes = c.args.planes.now in
+    let from : c.place-from.result ≡ place planes.resolution c.args.first = c.place-from.ensures.value ∙ ap (λ (r : ℕ). place r c.args.first)
     c.resolution.ensures.value in
-    let read : AreBits m (place m.resolution c.args.first) c.args.count c.places-bits.result = λ k l. c.places-bits.ensures.bits k
-    (omega (arith, l, c.from.ensures)) ∙ ap (λ (p : ℕ). voxel_at m (p + k)) from in
-    bits_from m (place m.resolution c.args.first) c.args.count c.places-bits.result c.loop-k.k c.min-part.result _ read
+    let read : AreBits planes (place planes.resolution c.args.first) c.args.count c.places-bits.result = λ k l. c.places-bits.ensures.bits k
+    (omega (arith, l, c.from.ensures)) ∙ ap (λ (p : ℕ). voxel_at planes (p + k)) from in
+    bits_from planes (place planes.resolution c.args.first) c.args.count c.places-bits.result c.loop-k.k c.min-part.result _ read
     (omega (arith, c.min-part.ensures, c.loop-k-test.true)) (omega arith)
 
 pub stack_part-requires-clause-heaped : goal.stack_part-requires-clause-heaped

@@ -8,21 +8,21 @@ use Rattle.support_forest.proofs.region.take_region.Goals as goal
 
 pub loop-x-preserved : goal.loop-x-preserved
 loop-x-preserved g c =
-    let i = c.loop-x.invariant in
-    let k = c.args.b.now in
+    let invariant = c.loop-x.invariant in
+    let corners = c.args.b.now in
     let low = ap (λ (p : Coord). p.x) c.low-low.ensures.value in
-    let t : k.low.x < c.loop-x.x = omega (arith, low, c.loop-x-test.true) in
-    let m : c.loop-x.x ≤ k.high.x + 1 = i.1.0 in
-    let x = c.loop-x.x - 1 in
-    let e : c.loop-x.x ≡ x + 1 = omega arith in
-    let s : c.loop-x.steps ≤ c.args.steps.now + 40 * ((k.high.x + 1 - (x + 1)) * wall_size k) = subst (λ (n : ℕ). c.loop-x.steps ≤ c.args.steps.now + 40 * ((k.high.x + 1 - n) * wall_size k)) e i.1.1.0 in (
+    let below_x : corners.low.x < c.loop-x.x = omega (arith, low, c.loop-x-test.true) in
+    let at_most_sum : c.loop-x.x ≤ corners.high.x + 1 = invariant.1.0 in
+    let difference_x = c.loop-x.x - 1 in
+    let same_x : c.loop-x.x ≡ difference_x + 1 = omega arith in
+    let steps_at_most : c.loop-x.steps ≤ c.args.steps.now + 40 * ((corners.high.x + 1 - (difference_x + 1)) * wall_size corners) = subst (λ (n : ℕ). c.loop-x.steps ≤ c.args.steps.now + 40 * ((corners.high.x + 1 - n) * wall_size corners)) same_x invariant.1.1.0 in (
       omega arith,
       (
         omega arith,
         (
-          more_steps k.high.x x (wall_size k) c.args.steps.now c.loop-x.steps c.take_wall.new.steps (omega arith) s c.in_ok-take_wall.ensures.touches,
-          wall_before_region c.args.cells.now c.loop-x.cells c.take_wall.new.cells k x c.args.rest.now.items c.loop-x.rest.items c.take_wall.new.rest.items (omega arith)
-              (subst (λ (n : ℕ). AreVoided c.args.cells.now c.loop-x.cells (IsInWalls k n) ((k.high.x + 1 - n) * wall_size k) c.args.rest.now.items c.loop-x.rest.items) e i.1.1.1)
+          more_steps corners.high.x difference_x (wall_size corners) c.args.steps.now c.loop-x.steps c.take_wall.new.steps (omega arith) steps_at_most c.in_ok-take_wall.ensures.touches,
+          wall_before_region c.args.cells.now c.loop-x.cells c.take_wall.new.cells corners difference_x c.args.rest.now.items c.loop-x.rest.items c.take_wall.new.rest.items (omega arith)
+              (subst (λ (n : ℕ). AreVoided c.args.cells.now c.loop-x.cells (IsInWalls corners n) ((corners.high.x + 1 - n) * wall_size corners) c.args.rest.now.items c.loop-x.rest.items) same_x invariant.1.1.1)
               c.in_ok-take_wall.ensures.voided,
         ),
       ),
@@ -30,22 +30,22 @@ loop-x-preserved g c =
 
 pub returns-clause-voided : goal.returns-clause-voided
 returns-clause-voided g c =
-    let i = c.loop-x.invariant in
-    let k = c.args.b.now in
+    let invariant = c.loop-x.invariant in
+    let corners = c.args.b.now in
     let low = ap (λ (p : Coord). p.x) c.low-low.ensures.value in
-    let l : k.low.x ≤ c.loop-x.x = i.0 in
-    let e : c.loop-x.x ≡ k.low.x = omega (arith, low, c.loop-x-test.false) in
-    subst (λ (n : ℕ). AreVoided c.args.cells.now c.loop-x.cells (IsInRegion k) n c.args.rest.now.items c.loop-x.rest.items) (sym (size-walls k c.low-low.ensures.ordered))
-    (walls_are_region c.args.cells.now c.loop-x.cells k ((k.high.x + 1 - k.low.x) * wall_size k) c.args.rest.now.items c.loop-x.rest.items c.low-low.ensures.ordered
-    (subst (λ (n : ℕ). AreVoided c.args.cells.now c.loop-x.cells (IsInWalls k n) ((k.high.x + 1 - n) * wall_size k) c.args.rest.now.items c.loop-x.rest.items) e i.1.1.1))
+    let at_most_x : corners.low.x ≤ c.loop-x.x = invariant.0 in
+    let same_x : c.loop-x.x ≡ corners.low.x = omega (arith, low, c.loop-x-test.false) in
+    subst (λ (n : ℕ). AreVoided c.args.cells.now c.loop-x.cells (IsInRegion corners) n c.args.rest.now.items c.loop-x.rest.items) (sym (size-walls corners c.low-low.ensures.ordered))
+    (walls_are_region c.args.cells.now c.loop-x.cells corners ((corners.high.x + 1 - corners.low.x) * wall_size corners) c.args.rest.now.items c.loop-x.rest.items c.low-low.ensures.ordered
+    (subst (λ (n : ℕ). AreVoided c.args.cells.now c.loop-x.cells (IsInWalls corners n) ((corners.high.x + 1 - n) * wall_size corners) c.args.rest.now.items c.loop-x.rest.items) same_x invariant.1.1.1))
 
 pub returns-clause-touches : goal.returns-clause-touches
 returns-clause-touches g c =
-    let i = c.loop-x.invariant in
-    let k = c.args.b.now in
+    let invariant = c.loop-x.invariant in
+    let corners = c.args.b.now in
     let low = ap (λ (p : Coord). p.x) c.low-low.ensures.value in
-    let l : k.low.x ≤ c.loop-x.x = i.0 in
-    let e : c.loop-x.x ≡ k.low.x = omega (arith, low, c.loop-x-test.false) in
-    let w = size-walls k c.low-low.ensures.ordered in
-    let s : c.loop-x.steps ≤ c.args.steps.now + 40 * ((k.high.x + 1 - k.low.x) * wall_size k) = subst (λ (n : ℕ). c.loop-x.steps ≤ c.args.steps.now + 40 * ((k.high.x + 1 - n) * wall_size k)) e i.1.1.0 in
-    subst (λ (n : ℕ). c.loop-x.steps ≤ c.args.steps.now + 40 * n) (sym w) s
+    let at_most_x : corners.low.x ≤ c.loop-x.x = invariant.0 in
+    let same_x : c.loop-x.x ≡ corners.low.x = omega (arith, low, c.loop-x-test.false) in
+    let walls_size = size-walls corners c.low-low.ensures.ordered in
+    let at_most_sum : c.loop-x.steps ≤ c.args.steps.now + 40 * ((corners.high.x + 1 - corners.low.x) * wall_size corners) = subst (λ (n : ℕ). c.loop-x.steps ≤ c.args.steps.now + 40 * ((corners.high.x + 1 - n) * wall_size corners)) same_x invariant.1.1.0 in
+    subst (λ (n : ℕ). c.loop-x.steps ≤ c.args.steps.now + 40 * n) (sym walls_size) at_most_sum

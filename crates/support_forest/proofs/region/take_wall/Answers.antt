@@ -7,35 +7,35 @@ use Rattle.support_forest.proofs.region.take_wall.Goals as goal
 
 pub loop-y-preserved : goal.loop-y-preserved
 loop-y-preserved g c =
-    let i = c.loop-y.invariant in
-    let k = c.args.b.now in
+    let invariant = c.loop-y.invariant in
+    let corners = c.args.b.now in
     let low = ap (λ (p : Coord). p.y) c.low-low.ensures.value in
-    let t : k.low.y < c.loop-y.y = omega (arith, low, c.loop-y-test.true) in
-    let m : c.loop-y.y ≤ k.high.y + 1 = i.1.0 in
-    let y = c.loop-y.y - 1 in
-    let e : c.loop-y.y ≡ y + 1 = omega arith in
-    let z = ap (λ (p : Coord). p.z) c.low-low.ensures.value in
-    let h = ap (λ (p : Coord). p.z) c.high-high.ensures.value in
-    let s : c.loop-y.steps ≤ c.args.steps.now + 40 * ((k.high.y + 1 - (y + 1)) * row_size k) = subst (λ (n : ℕ). c.loop-y.steps ≤ c.args.steps.now + 40 * ((k.high.y + 1 - n) * row_size k)) e i.1.1.0 in
-    let u : c.take_row.new.steps ≤ c.loop-y.steps + 40 * row_size k = omega (arith, z, h, c.in_ok-take_row.ensures.touches) in
-    let o = c.low-low.ensures.ordered.z in (
+    let below_y : corners.low.y < c.loop-y.y = omega (arith, low, c.loop-y-test.true) in
+    let at_most_sum : c.loop-y.y ≤ corners.high.y + 1 = invariant.1.0 in
+    let difference_y = c.loop-y.y - 1 in
+    let same_y : c.loop-y.y ≡ difference_y + 1 = omega arith in
+    let same_z = ap (λ (p : Coord). p.z) c.low-low.ensures.value in
+    let z_is = ap (λ (p : Coord). p.z) c.high-high.ensures.value in
+    let steps_at_most : c.loop-y.steps ≤ c.args.steps.now + 40 * ((corners.high.y + 1 - (difference_y + 1)) * row_size corners) = subst (λ (n : ℕ). c.loop-y.steps ≤ c.args.steps.now + 40 * ((corners.high.y + 1 - n) * row_size corners)) same_y invariant.1.1.0 in
+    let at_most_sum_here : c.take_row.new.steps ≤ c.loop-y.steps + 40 * row_size corners = omega (arith, same_z, z_is, c.in_ok-take_row.ensures.touches) in
+    let low_along_z = c.low-low.ensures.ordered.z in (
       omega arith,
       (
         omega arith,
         (
-          more_steps k.high.y y (row_size k) c.args.steps.now c.loop-y.steps c.take_row.new.steps (omega arith) s u,
-          row_before_wall c.args.cells.now c.loop-y.cells c.take_row.new.cells k c.args.x y c.args.rest.now.items c.loop-y.rest.items c.take_row.new.rest.items (omega arith) (omega arith) o
-              (subst (λ (n : ℕ). AreVoided c.args.cells.now c.loop-y.cells (IsInWall k c.args.x n) ((k.high.y + 1 - n) * row_size k) c.args.rest.now.items c.loop-y.rest.items) e i.1.1.1)
-              (row_of_region c.loop-y.cells c.take_row.new.cells k c.low-low.result c.high-high.result c.args.x y c.loop-y.rest.items c.take_row.new.rest.items c.low-low.ensures.value c.high-high.ensures.value c.in_ok-take_row.ensures.voided),
+          more_steps corners.high.y difference_y (row_size corners) c.args.steps.now c.loop-y.steps c.take_row.new.steps (omega arith) steps_at_most at_most_sum_here,
+          row_before_wall c.args.cells.now c.loop-y.cells c.take_row.new.cells corners c.args.x difference_y c.args.rest.now.items c.loop-y.rest.items c.take_row.new.rest.items (omega arith) (omega arith) low_along_z
+              (subst (λ (n : ℕ). AreVoided c.args.cells.now c.loop-y.cells (IsInWall corners c.args.x n) ((corners.high.y + 1 - n) * row_size corners) c.args.rest.now.items c.loop-y.rest.items) same_y invariant.1.1.1)
+              (row_of_region c.loop-y.cells c.take_row.new.cells corners c.low-low.result c.high-high.result c.args.x difference_y c.loop-y.rest.items c.take_row.new.rest.items c.low-low.ensures.value c.high-high.ensures.value c.in_ok-take_row.ensures.voided),
         ),
       ),
     )
 
 pub returns-clause-voided : goal.returns-clause-voided
 returns-clause-voided g c =
-    let i = c.loop-y.invariant in
-    let k = c.args.b.now in
+    let invariant = c.loop-y.invariant in
+    let corners = c.args.b.now in
     let low = ap (λ (p : Coord). p.y) c.low-low.ensures.value in
-    let l : k.low.y ≤ c.loop-y.y = i.0 in
-    let e : c.loop-y.y ≡ k.low.y = omega (arith, low, c.loop-y-test.false) in
-    subst (λ (n : ℕ). AreVoided c.args.cells.now c.loop-y.cells (IsInWall k c.args.x n) ((k.high.y + 1 - n) * row_size k) c.args.rest.now.items c.loop-y.rest.items) e i.1.1.1
+    let at_most_y : corners.low.y ≤ c.loop-y.y = invariant.0 in
+    let same_y : c.loop-y.y ≡ corners.low.y = omega (arith, low, c.loop-y-test.false) in
+    subst (λ (n : ℕ). AreVoided c.args.cells.now c.loop-y.cells (IsInWall corners c.args.x n) ((corners.high.y + 1 - n) * row_size corners) c.args.rest.now.items c.loop-y.rest.items) same_y invariant.1.1.1

@@ -10,29 +10,29 @@ loop-i-init g c = handled_none _ _ _ _ _ _ _ c.in_ok-vanish.ensures c.take_fresh
 
 pub handle-requires-clause-within : goal.handle-requires-clause-within
 handle-requires-clause-within g c =
-    let l : c.loop-i.i < length c.loop-i.queue.items = let a = c.len.ensures in let o = c.loop-i.queue.ok in let t = c.loop-i-test.true in omega arith in
-    orphan_inside _ _ _ _ _ _ _ _ _ c.requires.exact c.loop-i.invariant l c.index-x.ensures
+    let below_length : c.loop-i.i < length c.loop-i.queue.items = let len_ensured = c.len.ensures in let queue_ok = c.loop-i.queue.ok in let goes_on = c.loop-i-test.true in omega arith in
+    orphan_inside _ _ _ _ _ _ _ _ _ c.requires.exact c.loop-i.invariant below_length c.index-x.ensures
 
 pub handle-requires-clause-space : goal.handle-requires-clause-space
 handle-requires-clause-space g c = λ q f. still_inside _ _ _ _ _ _ _ _ c.requires.exact c.loop-i.invariant q f
 
 pub handle-requires-clause-height : goal.handle-requires-clause-height
 handle-requires-clause-height g c =
-    let l : c.loop-i.i < length c.loop-i.queue.items = let a = c.len.ensures in let o = c.loop-i.queue.ok in let t = c.loop-i-test.true in omega arith in
-    (c.loop-i.invariant.removing.listed _ (c.loop-i.i, l, sym c.index-x.ensures)).0
+    let below_length : c.loop-i.i < length c.loop-i.queue.items = let len_ensured = c.len.ensures in let queue_ok = c.loop-i.queue.ok in let goes_on = c.loop-i-test.true in omega arith in
+    (c.loop-i.invariant.removing.listed _ (c.loop-i.i, below_length, sym c.index-x.ensures)).0
 
 pub loop-i-smaller : goal.loop-i-smaller
 loop-i-smaller g c =
-    let l : c.loop-i.i < length c.loop-i.queue.items = let a = c.len.ensures in let o = c.loop-i.queue.ok in let t = c.loop-i-test.true in omega arith in
-    (handled_more _ _ _ _ _ _ _ _ _ _ _ _ _ c.requires.exact c.loop-i.invariant l c.index-x.ensures c.in_ok-handle.ensures.resolution c.in_ok-handle.ensures.done c.in_ok-handle.ensures.touches).1
+    let below_length : c.loop-i.i < length c.loop-i.queue.items = let len_ensured = c.len.ensures in let queue_ok = c.loop-i.queue.ok in let goes_on = c.loop-i-test.true in omega arith in
+    (handled_more _ _ _ _ _ _ _ _ _ _ _ _ _ c.requires.exact c.loop-i.invariant below_length c.index-x.ensures c.in_ok-handle.ensures.resolution c.in_ok-handle.ensures.done c.in_ok-handle.ensures.touches).1
 
 pub loop-i-preserved : goal.loop-i-preserved
 loop-i-preserved g c =
-    let l : c.loop-i.i < length c.loop-i.queue.items = let a = c.len.ensures in let o = c.loop-i.queue.ok in let t = c.loop-i-test.true in omega arith in
-    (handled_more _ _ _ _ _ _ _ _ _ _ _ _ _ c.requires.exact c.loop-i.invariant l c.index-x.ensures c.in_ok-handle.ensures.resolution c.in_ok-handle.ensures.done c.in_ok-handle.ensures.touches).0
+    let below_length : c.loop-i.i < length c.loop-i.queue.items = let len_ensured = c.len.ensures in let queue_ok = c.loop-i.queue.ok in let goes_on = c.loop-i-test.true in omega arith in
+    (handled_more _ _ _ _ _ _ _ _ _ _ _ _ _ c.requires.exact c.loop-i.invariant below_length c.index-x.ensures c.in_ok-handle.ensures.resolution c.in_ok-handle.ensures.done c.in_ok-handle.ensures.touches).0
 
 pub resettle-requires-clause-can : goal.resettle-requires-clause-can
-resettle-requires-clause-can g c = subst (λ (l : List Coord). CanResettle c.loop-i.cells l) (sym c.deref.ensures.value) (can_resettle _ _ _ _ _ _ c.requires.exact c.loop-i.invariant.removing (let a = c.len.ensures in let o = c.loop-i.queue.ok in let t = c.loop-i-test.false in omega arith))
+resettle-requires-clause-can g c = subst (λ (l : List Coord). CanResettle c.loop-i.cells l) (sym c.deref.ensures.value) (can_resettle _ _ _ _ _ _ c.requires.exact c.loop-i.invariant.removing (let len_ensured = c.len.ensures in let queue_ok = c.loop-i.queue.ok in let at_end = c.loop-i-test.false in omega arith))
 
 pub returns : goal.returns
 returns g c = have_removed _ _ _ _ _ _ _ _ _ _ _ c.requires.exact c.loop-i.invariant.removing c.loop-i.invariant.below c.loop-i.invariant.cost (subst (λ (l : List Coord). HaveResettled c.loop-i.cells c.resettle.new.cells l c.loop-i.steps c.resettle.new.steps) c.deref.ensures.value c.in_ok-resettle.ensures)

@@ -7,5 +7,5 @@ use Rattle.support_forest.proofs.settle.slot_toward.Goals as goal
 
 pub returns-in-Some : goal.returns-in-Some
 returns-in-Some c =
-    let t = c.in-Some.ensures in
-    same_slot c.args.cells.now c.args.c t.there c.args.own t.same_brick c.requires.own ∙ ap (λ (q : Coord). slot_of c.args.cells.now q) (one_toward c.args.d c.args.c t.there c.args.q t.toward c.requires.toward)
+    let some_ensured = c.in-Some.ensures in
+    same_slot c.args.cells.now c.args.c some_ensured.there c.args.own some_ensured.same_brick c.requires.own ∙ ap (λ (q : Coord). slot_of c.args.cells.now q) (one_toward c.args.d c.args.c some_ensured.there c.args.q some_ensured.toward c.requires.toward)

@@ -41,6 +41,6 @@ spread_toward-requires-6-clause-can g c = can_go_on _ _ _ _ _ _ _ _ _ (can_go_on
 
 pub returns : goal.returns
 returns g c = λ old start before limit s.
-    let e : c.spread_toward-6.new.steps + 7 - 7 ≡ c.spread_toward-6.new.steps = omega arith in
-    subst (λ (n : ℕ). IsSpreading old c.spread_toward-6.new.cells start c.spread_toward-6.new.pending c.args.c 7 before n limit) e
+    let difference_is : c.spread_toward-6.new.steps + 7 - 7 ≡ c.spread_toward-6.new.steps = omega arith in
+    subst (λ (n : ℕ). IsSpreading old c.spread_toward-6.new.cells start c.spread_toward-6.new.pending c.args.c 7 before n limit) difference_is
     (c.in_ok-spread_toward-6.ensures.spreads old start before limit (c.in_ok-spread_toward-5.ensures.spreads old start before limit (c.in_ok-spread_toward-4.ensures.spreads old start before limit (c.in_ok-spread_toward-3.ensures.spreads old start before limit (c.in_ok-spread_toward-2.ensures.spreads old start before limit (c.in_ok-spread_toward.ensures.spreads old start before limit (spreading_fewer _ _ _ _ _ _ _ _ _ _ s (omega arith))))))))

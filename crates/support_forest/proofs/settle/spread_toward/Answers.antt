@@ -13,16 +13,16 @@ accept-requires-clause-improves g c = subst (λ (m : ℕ). (0 < m) × ((m < 8) �
 
 pub returns-in_ok-accept-clause-further : goal.returns-in_ok-accept-clause-further
 returns-in_ok-accept-clause-further g c =
-    let a = c.in_ok-accept.ensures.accepted 0 0 (omega arith) in
-    stay_after (word_at c.args.cells.now) (word_at c.accept.new.cells) c.args.c.at c.in-Some.at c.args.d _ c.in-Some.ensures.0 a.written
+    let accepted = c.in_ok-accept.ensures.accepted 0 0 (omega arith) in
+    stay_after (word_at c.args.cells.now) (word_at c.accept.new.cells) c.args.c.at c.in-Some.at c.args.d _ c.in-Some.ensures.0 accepted.written
 
 pub returns-in_ok-accept-clause-spreads : goal.returns-in_ok-accept-clause-spreads
 returns-in_ok-accept-clause-spreads g c = λ old start before limit s.
-    let t = c.in-Some.ensures.0 in
+    let some_ensured = c.in-Some.ensures.0 in
     let here : IsInSpace c.args.cells.now.resolution c.in-Some.at = subst (λ (r : ℕ). IsInSpace r c.in-Some.at) c.resolution-r.ensures.value c.in-Some.ensures.1 in
     let within : IsInSpace old.resolution c.in-Some.at = subst (λ (r : ℕ). IsInSpace r c.in-Some.at) s.same.resolution here in
-    let m = c.in_ok-accept.ensures.touch in
-    direction_offered _ _ _ _ _ _ _ _ _ _ _ _ _ s t (record { toward = c.opposite.ensures _ _ t; height = refl; within = within }) (inr (c.in_ok-accept.ensures.accepted (c.args.steps.now + c.args.d - 7) (c.accept.new.steps + (c.args.d + 1) - 7) (omega arith)))
+    let accept_touch = c.in_ok-accept.ensures.touch in
+    direction_offered _ _ _ _ _ _ _ _ _ _ _ _ _ s some_ensured (record { toward = c.opposite.ensures _ _ some_ensured; height = refl; within = within }) (inr (c.in_ok-accept.ensures.accepted (c.args.steps.now + c.args.d - 7) (c.accept.new.steps + (c.args.d + 1) - 7) (omega arith)))
 
 pub returns-then-not-improves_next-clause-spreads : goal.returns-then-not-improves_next-clause-spreads
 returns-then-not-improves_next-clause-spreads g c = λ old start before limit s.

@@ -7,9 +7,9 @@ use Rattle.support_forest.proofs.stretch.clear_at_once.Goals as goal
 
 pub write_row-requires-clause-row : goal.write_row-requires-clause-row
 write_row-requires-clause-row g c =
-    let b = c.requires.row.row in
-    let n : c.args.count ≡ 8 = (let r = b.row in let f = c.if-count-lt-BRICK_SIDE.false in omega arith) in
-    subst (λ (k : ℕ). LieInRow c.args.cells.now c.args.first k) n b
+    let row_required = c.requires.row.row in
+    let count_is : c.args.count ≡ 8 = (let row = row_required.row in let not_below_brick_side = c.if-count-lt-BRICK_SIDE.false in omega arith) in
+    subst (λ (k : ℕ). LieInRow c.args.cells.now c.args.first k) count_is row_required
 
 pub write_row-requires-clause-levels : goal.write_row-requires-clause-levels
 write_row-requires-clause-levels g c k l e =
@@ -17,7 +17,7 @@ write_row-requires-clause-levels g c k l e =
 
 pub returns-clause-cleared : goal.returns-clause-cleared
 returns-clause-cleared g c t =
-    let n : c.args.count ≡ 8 = (let r = c.requires.row.row.row in let f = c.if-count-lt-BRICK_SIDE.false in omega arith) in
-    subst (λ (k : ℕ). AreCleared c.args.cells.now c.write_row.new.self c.args.first 0 k c.args.steps.now c.write_row.new.steps) (sym n)
+    let count_is : c.args.count ≡ 8 = (let row_required = c.requires.row.row.row in let not_below_brick_side = c.if-count-lt-BRICK_SIDE.false in omega arith) in
+    subst (λ (k : ℕ). AreCleared c.args.cells.now c.write_row.new.self c.args.first 0 k c.args.steps.now c.write_row.new.steps) (sym count_is)
     (row_voided c.args.cells.now c.write_row.new.self c.args.first c.args.steps.now c.write_row.new.steps c.requires.exact
-    (subst (λ (k : ℕ). RowIsFree (word_at c.args.cells.now) c.args.first k) n c.requires.free) c.write_row.ensures.written c.write_row.ensures.touches)
+    (subst (λ (k : ℕ). RowIsFree (word_at c.args.cells.now) c.args.first k) count_is c.requires.free) c.write_row.ensures.written c.write_row.ensures.touches)

@@ -7,30 +7,30 @@ use Rattle.support_forest.proofs.stretch.clear_voxels.Goals as goal
 
 pub word_in-word-requires-clause-slot : goal.word_in-word-requires-clause-slot
 word_in-word-requires-clause-slot g c =
-    let i = c.loop-left.invariant in
-    let w = i.within in
-    slot_stays c.args.cells.now c.loop-left.cells (further c.args.first (c.loop-left.left - 1)) (Some c.args.own) i.table i.resolution
-    (row_slot c.args.cells.now c.args.first c.args.count (c.loop-left.left - 1) (Some c.args.own) c.requires.row.row (let t = c.loop-left-test.true in omega arith) (sym c.requires.row.own))
+    let invariant = c.loop-left.invariant in
+    let within = invariant.within in
+    slot_stays c.args.cells.now c.loop-left.cells (further c.args.first (c.loop-left.left - 1)) (Some c.args.own) invariant.table invariant.resolution
+    (row_slot c.args.cells.now c.args.first c.args.count (c.loop-left.left - 1) (Some c.args.own) c.requires.row.row (let goes_on = c.loop-left-test.true in omega arith) (sym c.requires.row.own))
 
 pub write-requires-clause-slot : goal.write-requires-clause-slot
 write-requires-clause-slot g c =
-    let i = c.loop-left.invariant in
-    let w = i.within in
-    sym (slot_stays c.args.cells.now c.loop-left.cells (further c.args.first (c.loop-left.left - 1)) (Some c.args.own) i.table i.resolution
-    (row_slot c.args.cells.now c.args.first c.args.count (c.loop-left.left - 1) (Some c.args.own) c.requires.row.row (let t = c.loop-left-test.true in omega arith) (sym c.requires.row.own)))
+    let invariant = c.loop-left.invariant in
+    let within = invariant.within in
+    sym (slot_stays c.args.cells.now c.loop-left.cells (further c.args.first (c.loop-left.left - 1)) (Some c.args.own) invariant.table invariant.resolution
+    (row_slot c.args.cells.now c.args.first c.args.count (c.loop-left.left - 1) (Some c.args.own) c.requires.row.row (let goes_on = c.loop-left-test.true in omega arith) (sym c.requires.row.own)))
 
 pub loop-left-preserved : goal.loop-left-preserved
 loop-left-preserved g c =
-    let i = c.loop-left.invariant in
-    let w = i.within in
-    let t = c.loop-left-test.true in
-    let a = c.word_in-word.ensures.touch in
-    let b = c.write.ensures.touch in
+    let invariant = c.loop-left.invariant in
+    let within = invariant.within in
+    let goes_on = c.loop-left-test.true in
+    let word_touch = c.word_in-word.ensures.touch in
+    let write_touch = c.write.ensures.touch in
     cleared_more c.args.cells.now c.loop-left.cells c.write.new.self c.args.first (c.loop-left.left - 1) c.args.count c.args.steps.now c.loop-left.steps c.write.new.steps c.requires.free
-    (before_left c.args.cells.now c.loop-left.cells c.args.first c.loop-left.left c.args.count c.args.steps.now c.loop-left.steps (omega arith) i) (omega arith) c.write.ensures.written c.write.ensures.resolution c.write.ensures.slots (omega arith)
+    (before_left c.args.cells.now c.loop-left.cells c.args.first c.loop-left.left c.args.count c.args.steps.now c.loop-left.steps (omega arith) invariant) (omega arith) c.write.ensures.written c.write.ensures.resolution c.write.ensures.slots (omega arith)
 
 pub returns : goal.returns
 returns g c =
-    let t = c.loop-left-test.false in
-    let e : c.loop-left.left ≡ 0 = omega arith in
-    subst (λ (k : ℕ). AreCleared c.args.cells.now c.loop-left.cells c.args.first k c.args.count c.args.steps.now c.loop-left.steps) e c.loop-left.invariant
+    let at_end = c.loop-left-test.false in
+    let left_zero : c.loop-left.left ≡ 0 = omega arith in
+    subst (λ (k : ℕ). AreCleared c.args.cells.now c.loop-left.cells c.args.first k c.args.count c.args.steps.now c.loop-left.steps) left_zero c.loop-left.invariant

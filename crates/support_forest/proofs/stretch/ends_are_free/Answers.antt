@@ -12,7 +12,7 @@ chunk-chunk-requires g c = c.recall.ensures.store.live _ c.args.own c.requires.o
 
 pub word_near-requires-2-clause-slot : goal.word_near-requires-2-clause-slot
 word_near-requires-2-clause-slot g c =
-    let s = c.requires.some in
+    let some_required = c.requires.some in
     sym (row_slot c.args.cells.now c.args.first c.args.count (c.args.count - 1) (Some c.args.own) c.requires.row (omega arith) (sym c.requires.own))
 
 pub returns-clause-free : goal.returns-clause-free

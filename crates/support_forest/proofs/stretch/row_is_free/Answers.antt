@@ -6,14 +6,14 @@ use Rattle.support_forest.proofs.stretch.row_is_free.Goals as goal
 
 pub words_hang_not-requires-clause-within : goal.words_hang_not-requires-clause-within
 words_hang_not-requires-clause-within g c =
-    let s = c.start_in_chunk.ensures in
-    let e = c.from.ensures in
+    let start_in_chunk_ensured = c.start_in_chunk.ensures in
+    let from_ensured = c.from.ensures in
     row_in_chunk c.args.cells.now c.chunk.result.now c.in-Some.slot c.word_index.result (c.start_in_chunk.result + c.from.result) c.args.count c.args.first c.chunk.ensures c.word_index.ensures.value c.requires.row.row (omega arith)
 
 pub returns-in-Some-clause-none : goal.returns-in-Some-clause-none
 returns-in-Some-clause-none g c t =
-    let s = c.start_in_chunk.ensures in
-    let e = c.from.ensures in
+    let start_in_chunk_ensured = c.start_in_chunk.ensures in
+    let from_ensured = c.from.ensures in
     row_in_slot c.args.cells.now c.chunk.result.now c.in-Some.slot c.word_index.result (c.start_in_chunk.result + c.from.result) c.args.count c.args.first (λ v. HangsNot v c.args.toward)
     c.slot.ensures.store (brick_inside c.args.cells.now.resolution c.args.first c.requires.row.within) c.requires.row.row (sym c.slot.ensures.value ∙ c.in-Some.is) c.chunk.ensures c.word_index.ensures.value (omega arith) (c.words_hang_not.ensures.none t)
 

@@ -7,20 +7,20 @@ use Rattle.support_forest.proofs.stretch.side_is_free.Goals as goal
 
 pub overflow_add-from : goal.overflow_add-from
 overflow_add-from g c =
-    let t = c.in-Some.ensures in
-    let below = index_below t.there in
-    let same = t.at_index in
-    let s = c.start_in_chunk.ensures in
+    let some_ensured = c.in-Some.ensures in
+    let below = index_below some_ensured.there in
+    let same = some_ensured.at_index in
+    let start_in_chunk_ensured = c.start_in_chunk.ensures in
     omega arith
 
 pub words_hang_not-requires-clause-within : goal.words_hang_not-requires-clause-within
 words_hang_not-requires-clause-within g c =
-    let s = c.start_in_chunk.ensures in
+    let start_in_chunk_ensured = c.start_in_chunk.ensures in
     side_in_chunk c.args.cells.now c.args.chunk.now c.args.own c.in-Some.i (c.start_in_chunk.result + c.in-Some.i) c.args.count c.args.d c.args.first c.requires.direction.1 c.requires.row c.requires.chunk c.in-Some.ensures (omega arith)
 
 pub returns-in-Some-clause-none : goal.returns-in-Some-clause-none
 returns-in-Some-clause-none g c t =
-    let s = c.start_in_chunk.ensures in
+    let start_in_chunk_ensured = c.start_in_chunk.ensures in
     side_in_slot c.args.cells.now c.args.chunk.now c.args.own c.in-Some.i (c.start_in_chunk.result + c.in-Some.i) c.args.count c.args.d c.args.toward c.args.first
     c.requires.direction c.recall.ensures.store c.requires.row c.requires.chunk c.in-Some.ensures (omega arith) (c.words_hang_not.ensures.none t)
 

@@ -9,14 +9,14 @@ chunk-chunk-requires g c = c.recall.ensures.store.live _ c.args.own c.requires.o
 
 pub words_hang_not-requires-clause-within : goal.words_hang_not-requires-clause-within
 words_hang_not-requires-clause-within g c =
-    let s = c.start_in_chunk.ensures in
-    let e = c.from.ensures in
+    let start_in_chunk_ensured = c.start_in_chunk.ensures in
+    let from_ensured = c.from.ensures in
     row_in_chunk c.args.cells.now c.chunk-chunk.result.now c.args.own c.word_index.result (c.start_in_chunk.result + c.from.result) c.args.count c.args.first c.chunk-chunk.ensures c.word_index.ensures.value c.requires.row.row (omega arith)
 
 pub returns-clause-free : goal.returns-clause-free
 returns-clause-free g c t =
-    let s = c.start_in_chunk.ensures in
-    let e = c.from.ensures in
+    let start_in_chunk_ensured = c.start_in_chunk.ensures in
+    let from_ensured = c.from.ensures in
     record {
       over = c.side_is_free.ensures.none c.if-not-side_is_free.false;
       under = c.side_is_free-2.ensures.none c.if-not-side_is_free-2.false;

@@ -7,11 +7,11 @@ use Rattle.support_forest.proofs.stretch.sides_of_all_are_free.Goals as goal
 
 pub sides_are_free-requires : goal.sides_are_free-requires
 sides_are_free-requires g c =
-    let e = c.start_of_row-start.ensures in
-    let z : c.start_of_row-start.result.z ≡ c.args.first.z / 8 * 8 = ap (λ (p : Coord). p.z) e in
-    let r = c.resolution.ensures.value in
-    let l : c.args.first.z / 8 * 8 + 8 ≤ c.args.cells.now.resolution = omega (arith, c.if-start-resolution.false) in
-    subst (λ (p : Coord). IsBrickRow c.args.cells.now c.args.own p 8) (sym e) (whole_brick_row c.args.cells.now c.args.own c.args.first c.args.count c.requires l)
+    let start_ensured = c.start_of_row-start.ensures in
+    let same_z : c.start_of_row-start.result.z ≡ c.args.first.z / 8 * 8 = ap (λ (p : Coord). p.z) start_ensured in
+    let resolution_value = c.resolution.ensures.value in
+    let at_most_resolution : c.args.first.z / 8 * 8 + 8 ≤ c.args.cells.now.resolution = omega (arith, c.if-start-resolution.false) in
+    subst (λ (p : Coord). IsBrickRow c.args.cells.now c.args.own p 8) (sym start_ensured) (whole_brick_row c.args.cells.now c.args.own c.args.first c.args.count c.requires at_most_resolution)
 
 pub returns-clause-free : goal.returns-clause-free
 returns-clause-free g c t = part_free (word_at c.args.cells.now) c.args.first c.args.count c.requires.row.row (subst (λ (p : Coord). SidesAreFree (word_at c.args.cells.now) p 8) c.start_of_row-start.ensures (c.sides_are_free.ensures.free t))

@@ -12,52 +12,52 @@ origin = record { x = 0; y = 0; z = 0 }
 
 pub returns-in_ok-push-clause-taken : goal.returns-in_ok-push-clause-taken
 returns-in_ok-push-clause-taken g c =
-    let n = c.stretch_before-count.result in
-    let s = c.stretch_before-count.ensures in
-    let x = get_or c.args.gone.now (c.args.end - c.from.result) origin in
-    let stays = unless c.take.result (HaveTaken c.args.cells.now c.take.new.cells x c.args.steps.now c.take.new.steps) ((c.take.new.cells ≡ c.args.cells.now) × (c.take.new.steps ≤ c.args.steps.now + 6)) c.if-not-take.true c.take.ensures in
+    let count = c.stretch_before-count.result in
+    let count_ensured = c.stretch_before-count.ensures in
+    let element = get_or c.args.gone.now (c.args.end - c.from.result) origin in
+    let stays = unless c.take.result (HaveTaken c.args.cells.now c.take.new.cells element c.args.steps.now c.take.new.steps) ((c.take.new.cells ≡ c.args.cells.now) × (c.take.new.steps ≤ c.args.steps.now + 6)) c.if-not-take.true c.take.ensures in
     subst (λ (k : ℕ). TakesMore c.args.cells.now c.take.new.cells c.args.gone.now c.args.end (c.args.end - k) c.args.rest.now.items c.push.new.self.items c.args.steps.now c.take.new.steps) (sym c.from.ensures)
-    (one_listed c.args.cells.now c.take.new.cells c.args.gone.now c.args.end n c.args.rest.now.items c.push.new.self.items c.args.steps.now c.take.new.steps x c.if-count-eq1.true s.below
-    (first_of c.args.gone.now c.args.end c.from.result n origin s.some s.below c.requires.within c.from.ensures) stays.0 stays.1 c.in_ok-push.ensures.items)
+    (one_listed c.args.cells.now c.take.new.cells c.args.gone.now c.args.end count c.args.rest.now.items c.push.new.self.items c.args.steps.now c.take.new.steps element c.if-count-eq1.true count_ensured.below
+    (first_of c.args.gone.now c.args.end c.from.result count origin count_ensured.some count_ensured.below c.requires.within c.from.ensures) stays.0 stays.1 c.in_ok-push.ensures.items)
 
 pub returns-else-not-take-clause-taken : goal.returns-else-not-take-clause-taken
 returns-else-not-take-clause-taken g c =
-    let n = c.stretch_before-count.result in
-    let s = c.stretch_before-count.ensures in
-    let x = get_or c.args.gone.now (c.args.end - c.from.result) origin in
+    let count = c.stretch_before-count.result in
+    let count_ensured = c.stretch_before-count.ensures in
+    let element = get_or c.args.gone.now (c.args.end - c.from.result) origin in
     subst (λ (k : ℕ). TakesMore c.args.cells.now c.take.new.cells c.args.gone.now c.args.end (c.args.end - k) c.args.rest.now.items c.args.rest.now.items c.args.steps.now c.take.new.steps) (sym c.from.ensures)
-    (one_taken c.args.cells.now c.take.new.cells c.args.gone.now c.args.end n c.args.rest.now.items c.args.steps.now c.take.new.steps x c.if-count-eq1.true s.below
-    (first_of c.args.gone.now c.args.end c.from.result n origin s.some s.below c.requires.within c.from.ensures)
-    (when c.take.result (HaveTaken c.args.cells.now c.take.new.cells x c.args.steps.now c.take.new.steps) ((c.take.new.cells ≡ c.args.cells.now) × (c.take.new.steps ≤ c.args.steps.now + 6)) c.if-not-take.false c.take.ensures))
+    (one_taken c.args.cells.now c.take.new.cells c.args.gone.now c.args.end count c.args.rest.now.items c.args.steps.now c.take.new.steps element c.if-count-eq1.true count_ensured.below
+    (first_of c.args.gone.now c.args.end c.from.result count origin count_ensured.some count_ensured.below c.requires.within c.from.ensures)
+    (when c.take.result (HaveTaken c.args.cells.now c.take.new.cells element c.args.steps.now c.take.new.steps) ((c.take.new.cells ≡ c.args.cells.now) × (c.take.new.steps ≤ c.args.steps.now + 6)) c.if-not-take.false c.take.ensures))
 
 pub free_slot-requires-clause-row : goal.free_slot-requires-clause-row
 free_slot-requires-clause-row g c =
-    let n = c.stretch_before-count.result in
-    let s = c.stretch_before-count.ensures in
-    let x = get_or c.args.gone.now (c.args.end - c.from.result) origin in
-    stretch_in_row c.args.cells.now c.args.gone.now c.args.end n x c.requires.exact
-    (s.stretch x (first_of c.args.gone.now c.args.end c.from.result n origin s.some s.below c.requires.within c.from.ensures)) s.below c.requires.full
+    let count = c.stretch_before-count.result in
+    let count_ensured = c.stretch_before-count.ensures in
+    let element = get_or c.args.gone.now (c.args.end - c.from.result) origin in
+    stretch_in_row c.args.cells.now c.args.gone.now c.args.end count element c.requires.exact
+    (count_ensured.stretch element (first_of c.args.gone.now c.args.end c.from.result count origin count_ensured.some count_ensured.below c.requires.within c.from.ensures)) count_ensured.below c.requires.full
 
 pub returns-in-Some-clause-taken : goal.returns-in-Some-clause-taken
 returns-in-Some-clause-taken g c =
-    let n = c.stretch_before-count.result in
-    let s = c.stretch_before-count.ensures in
-    let x = get_or c.args.gone.now (c.args.end - c.from.result) origin in
-    let some = s.some in
+    let count = c.stretch_before-count.result in
+    let count_ensured = c.stretch_before-count.ensures in
+    let element = get_or c.args.gone.now (c.args.end - c.from.result) origin in
+    let some = count_ensured.some in
     let more = c.if-count-eq1.false in
-    let b : 2 ≤ n = grind arith in
+    let n_large : 2 ≤ count = grind arith in
     subst (λ (k : ℕ). TakesMore c.args.cells.now c.clear_row.new.cells c.args.gone.now c.args.end (c.args.end - k) c.args.rest.now.items c.args.rest.now.items c.args.steps.now c.clear_row.new.steps) (sym c.from.ensures)
-    (row_cleared c.args.cells.now c.clear_row.new.cells c.args.gone.now c.args.end n c.args.rest.now.items c.args.steps.now c.free_slot.new.steps c.clear_row.new.steps x b s.below
-    (s.stretch x (first_of c.args.gone.now c.args.end c.from.result n origin s.some s.below c.requires.within c.from.ensures)) c.free_slot.ensures.touches c.clear_row.ensures)
+    (row_cleared c.args.cells.now c.clear_row.new.cells c.args.gone.now c.args.end count c.args.rest.now.items c.args.steps.now c.free_slot.new.steps c.clear_row.new.steps element n_large count_ensured.below
+    (count_ensured.stretch element (first_of c.args.gone.now c.args.end c.from.result count origin count_ensured.some count_ensured.below c.requires.within c.from.ensures)) c.free_slot.ensures.touches c.clear_row.ensures)
 
 pub returns-clause-taken : goal.returns-clause-taken
 returns-clause-taken g c =
-    let n = c.stretch_before-count.result in
-    let s = c.stretch_before-count.ensures in
-    let some = s.some in
+    let count = c.stretch_before-count.result in
+    let count_ensured = c.stretch_before-count.ensures in
+    let some = count_ensured.some in
     let more = c.if-count-eq1.false in
-    let b : 2 ≤ n = grind arith in
-    let h = c.in_ok-list_voxels.ensures c.args.cells.now c.args.steps.now in
+    let n_large : 2 ≤ count = grind arith in
+    let list_voxels_ensured = c.in_ok-list_voxels.ensures c.args.cells.now c.args.steps.now in
     subst (λ (k : ℕ). TakesMore c.args.cells.now c.args.cells.now c.args.gone.now c.args.end (c.args.end - k) c.args.rest.now.items c.list_voxels.new.rest.items c.args.steps.now c.free_slot.new.steps) (sym c.from.ensures)
-    (row_listed c.args.cells.now c.args.gone.now c.args.end n c.args.rest.now.items c.list_voxels.new.rest.items c.args.steps.now c.free_slot.new.steps b s.below c.free_slot.ensures.touches
-    (subst (λ (k : ℕ). TakesMore c.args.cells.now c.args.cells.now c.args.gone.now c.args.end (c.args.end - k) c.args.rest.now.items c.list_voxels.new.rest.items c.args.steps.now (c.args.steps.now + 6 * (c.args.end - (c.args.end - k)))) c.from.ensures h))
+    (row_listed c.args.cells.now c.args.gone.now c.args.end count c.args.rest.now.items c.list_voxels.new.rest.items c.args.steps.now c.free_slot.new.steps n_large count_ensured.below c.free_slot.ensures.touches
+    (subst (λ (k : ℕ). TakesMore c.args.cells.now c.args.cells.now c.args.gone.now c.args.end (c.args.end - k) c.args.rest.now.items c.list_voxels.new.rest.items c.args.steps.now (c.args.steps.now + 6 * (c.args.end - (c.args.end - k)))) c.from.ensures list_voxels_ensured))

@@ -23,16 +23,16 @@ settled g c =
 
 pub invariant_of-self-2 : goal.invariant_of-self-2
 invariant_of-self-2 g c =
-    let h = settled g c in
+    let settled_there = settled g c in
     sound_on c.self.inside.system c.move_at_once.new.self (SMove c.args.d ∷ []) c.self.inside.forest c.self.inside.forest c.self.inside.changed c.self.inside.changed c.self.inside.steps c.self.inside.spent c.args.self.now c.self.invariant c.self.view_is c.requires.steps
-    (c.if-not-move_at_once.ensures.moved refl) h.stands h.tied c.self.invariant.room c.recall_step.ensures.rises c.recall_step.ensures.falls
+    (c.if-not-move_at_once.ensures.moved refl) settled_there.stands settled_there.tied c.self.invariant.room c.recall_step.ensures.rises c.recall_step.ensures.falls
 
 pub returns-clause-made : goal.returns-clause-made
 returns-clause-made g c = λ _ fault.
-    let s : State = c.self.inside.system in
-    let h = settled g c in
-    made s (SMove c.args.d ∷ []) c.self.inside.steps c.self.inside.spent c.args.self.now c.self.view_is (ap (λ (v : Situation). v.spent) c.self.view_is ∙ c.requires.stands) c.args.steps.now
+    let state : State = c.self.inside.system in
+    let settled_there = settled g c in
+    made state (SMove c.args.d ∷ []) c.self.inside.steps c.self.inside.spent c.args.self.now c.self.view_is (ap (λ (v : Situation). v.spent) c.self.view_is ∙ c.requires.stands) c.args.steps.now
     c.move_at_once.new.steps (c.if-not-move_at_once.ensures.keeps refl (c.self.inside.steps + 1)) (omega (arith, c.move_at_once.ensures.touches))
-    c.move_at_once.new.self c.self.inside.forest (record { energy = c.move_at_once.new.self.energy; halted = false }) c.move_at_once.new.steps c.move_at_once.new.steps h (c.if-not-move_at_once.ensures.moved refl) refl (bots_left c.move_at_once.new.self.bots (c.if-not-move_at_once.ensures.one refl))
-    (formed_on s c.move_at_once.new.self (SMove c.args.d ∷ []) (c.self.inside.steps + 1) c.recall_step.ensures.well_formed h.goes (c.if-not-move_at_once.ensures.moved refl))
+    c.move_at_once.new.self c.self.inside.forest (record { energy = c.move_at_once.new.self.energy; halted = false }) c.move_at_once.new.steps c.move_at_once.new.steps settled_there (c.if-not-move_at_once.ensures.moved refl) refl (bots_left c.move_at_once.new.self.bots (c.if-not-move_at_once.ensures.one refl))
+    (formed_on state c.move_at_once.new.self (SMove c.args.d ∷ []) (c.self.inside.steps + 1) c.recall_step.ensures.well_formed settled_there.goes (c.if-not-move_at_once.ensures.moved refl))
     (omega arith)

@@ -60,9 +60,9 @@ settle_noted-requires-clause-prepared g c = record {
 
 pub invariant_of-self-2 : goal.invariant_of-self-2
 invariant_of-self-2 g c =
-    let h = c.in-Ok.ensures.settled in
+    let settled = c.in-Ok.ensures.settled in
     sound_on c.self.inside.system c.take_turns.new.system c.args.commands.now c.self.inside.forest c.settle_noted.new.forest c.self.inside.changed c.settle_noted.new.list c.self.inside.steps c.self.inside.spent c.args.self.now c.self.invariant c.self.view_is c.requires.steps
-    c.take_turns.ensures.value h.stands h.tied c.settle_noted.ensures.room c.recall_step.ensures.rises c.recall_step.ensures.falls
+    c.take_turns.ensures.value settled.stands settled.tied c.settle_noted.ensures.room c.recall_step.ensures.rises c.recall_step.ensures.falls
 
 pub invariant_of-self-in-Err : goal.invariant_of-self-in-Err
 invariant_of-self-in-Err g c = sound_spent c.self.inside.system c.self.inside.forest c.settle_noted.new.forest c.self.inside.changed c.settle_noted.new.list c.self.inside.steps c.self.inside.spent c.self.invariant c.settle_noted.ensures.room

@@ -9,5 +9,5 @@ zero_by n h = grind (arith, nat_tests)
 
 pub returns : goal.returns
 returns c e d =
-    let s = c.self.inside in
-    sym (ap (λ (g : Grid). word_at g d) c.self.view_is) ∙ blank_void (record { resolution = s.resolution; table = s.table.items; bricks = s.bricks }) c.self.invariant.1.0 (sym c.live.ensures.count ∙ zero_by c.live.result e) d
+    let inside = c.self.inside in
+    sym (ap (λ (g : Grid). word_at g d) c.self.view_is) ∙ blank_void (record { resolution = inside.resolution; table = inside.table.items; bricks = inside.bricks }) c.self.invariant.1.0 (sym c.live.ensures.count ∙ zero_by c.live.result e) d

@@ -8,24 +8,24 @@ use Rattle.support_forest.proofs.cells.Cells.slot_for.Goals as goal
 
 pub take-requires : goal.take-requires
 take-requires c =
-    let s = c.self.inside in
-    let k = few_live (record { resolution = s.resolution; table = s.table.items; bricks = s.bricks }) c.self.invariant.1.0 in
-    let h : len s.bricks ≤ 125000 = k in
+    let inside = c.self.inside in
+    let live_few = few_live (record { resolution = inside.resolution; table = inside.table.items; bricks = inside.bricks }) c.self.invariant.1.0 in
+    let len_small : len inside.bricks ≤ 125000 = live_few in
     omega arith
 
 pub invariant_of-self-2 : goal.invariant_of-self-2
 invariant_of-self-2 c =
-    let s = c.self.inside in
-    let old : Grid = record { resolution = s.resolution; table = s.table.items; bricks = s.bricks } in
-    let l : c.args.number < length s.table.items = subst (λ (q : Grid). c.args.number < length q.table) (sym c.self.view_is) c.requires in
-    let e : slot_at s.table.items c.args.number ≡ None = get_or_default s.table.items c.args.number None c.index.result.now l ∙ (sym c.index.ensures ∙ c.in_default.is) in
-    let k = grows old c.args.number c.in-Ok.slot c.take.new.self c.self.invariant.1.0 l e c.in-Ok.ensures.fresh c.in-Ok.ensures.zeros in
-    (c.self.invariant.0, (k.0, c.self.invariant.1.1 ∙ sym (count_same old _ refl k.1)))
+    let inside = c.self.inside in
+    let old : Grid = record { resolution = inside.resolution; table = inside.table.items; bricks = inside.bricks } in
+    let below_length : c.args.number < length inside.table.items = subst (λ (q : Grid). c.args.number < length q.table) (sym c.self.view_is) c.requires in
+    let slot_at_none : slot_at inside.table.items c.args.number ≡ None = get_or_default inside.table.items c.args.number None c.index.result.now below_length ∙ (sym c.index.ensures ∙ c.in_default.is) in
+    let grows_here = grows old c.args.number c.in-Ok.slot c.take.new.self c.self.invariant.1.0 below_length slot_at_none c.in-Ok.ensures.fresh c.in-Ok.ensures.zeros in
+    (c.self.invariant.0, (grows_here.0, c.self.invariant.1.1 ∙ sym (count_same old _ refl grows_here.1)))
 
 pub returns-clause-same : goal.returns-clause-same
 returns-clause-same c =
-    let s = c.self.inside in
-    let old : Grid = record { resolution = s.resolution; table = s.table.items; bricks = s.bricks } in
-    let l : c.args.number < length s.table.items = subst (λ (q : Grid). c.args.number < length q.table) (sym c.self.view_is) c.requires in
-    let e : slot_at s.table.items c.args.number ≡ None = get_or_default s.table.items c.args.number None c.index.result.now l ∙ (sym c.index.ensures ∙ c.in_default.is) in
-    λ d. (grows old c.args.number c.in-Ok.slot c.take.new.self c.self.invariant.1.0 l e c.in-Ok.ensures.fresh c.in-Ok.ensures.zeros).1 d ∙ ap (λ (q : Grid). word_at q d) c.self.view_is
+    let inside = c.self.inside in
+    let old : Grid = record { resolution = inside.resolution; table = inside.table.items; bricks = inside.bricks } in
+    let below_length : c.args.number < length inside.table.items = subst (λ (q : Grid). c.args.number < length q.table) (sym c.self.view_is) c.requires in
+    let slot_at_none : slot_at inside.table.items c.args.number ≡ None = get_or_default inside.table.items c.args.number None c.index.result.now below_length ∙ (sym c.index.ensures ∙ c.in_default.is) in
+    λ d. (grows old c.args.number c.in-Ok.slot c.take.new.self c.self.invariant.1.0 below_length slot_at_none c.in-Ok.ensures.fresh c.in-Ok.ensures.zeros).1 d ∙ ap (λ (q : Grid). word_at q d) c.self.view_is

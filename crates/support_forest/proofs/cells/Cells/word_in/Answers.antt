@@ -6,8 +6,8 @@ use Rattle.support_forest.proofs.cells.Cells.word_in.Goals as goal
 
 pub returns-in-Some-clause-value : goal.returns-in-Some-clause-value
 returns-in-Some-clause-value g c =
-    let s = c.self.inside in
-    let old : Grid = record { resolution = s.resolution; table = s.table.items; bricks = s.bricks } in
+    let inside = c.self.inside in
+    let old : Grid = record { resolution = inside.resolution; table = inside.table.items; bricks = inside.bricks } in
     subst (λ (q : Grid). c.word.result ≡ word_at q c.args.at) c.self.view_is
     (reads old c.args.at c.in-Some.slot c.word_index.result c.word.result (subst (λ (q : Grid). IsInSpace q.resolution c.args.at) (sym c.self.view_is) c.requires.within) (subst (λ (q : Grid). Some c.in-Some.slot ≡ slot_of q c.args.at) (sym c.self.view_is) (sym c.in-Some.is ∙ c.requires.slot)) c.word_index.ensures.value c.word.ensures.value)
 

@@ -12,19 +12,19 @@ set_row-requires-clause-row g c = row_fits c.args.first c.word_index.result c.re
 
 pub invariant_of-self : goal.invariant_of-self
 invariant_of-self g c =
-    let s = c.self.inside in
-    let old : Grid = record { resolution = s.resolution; table = s.table.items; bricks = s.bricks } in
-    let w = wrote_row old c.set_row.new.self c.args.first c.args.slot c.word_index.result c.args.word
+    let inside = c.self.inside in
+    let old : Grid = record { resolution = inside.resolution; table = inside.table.items; bricks = inside.bricks } in
+    let row_written = wrote_row old c.set_row.new.self c.args.first c.args.slot c.word_index.result c.args.word
     (can_row old c.args.self.now c.args.first c.args.slot c.word_index.result c.args.word c.self.view_is c.self.invariant.1.0 c.requires.row c.requires.slot c.word_index.ensures.value c.requires.level c.requires.levels c.set_row.ensures.written)
     c.set_row.ensures.value in
-    (c.self.invariant.0, (w.store, c.self.invariant.1.1 ∙ sym w.count))
+    (c.self.invariant.0, (row_written.store, c.self.invariant.1.1 ∙ sym row_written.count))
 
 pub returns-clause-written : goal.returns-clause-written
 returns-clause-written g c =
-    let s = c.self.inside in
-    let old : Grid = record { resolution = s.resolution; table = s.table.items; bricks = s.bricks } in
-    let new : Grid = record { resolution = s.resolution; table = s.table.items; bricks = c.set_row.new.self } in
-    let w = wrote_row old c.set_row.new.self c.args.first c.args.slot c.word_index.result c.args.word
+    let inside = c.self.inside in
+    let old : Grid = record { resolution = inside.resolution; table = inside.table.items; bricks = inside.bricks } in
+    let new : Grid = record { resolution = inside.resolution; table = inside.table.items; bricks = c.set_row.new.self } in
+    let row_written = wrote_row old c.set_row.new.self c.args.first c.args.slot c.word_index.result c.args.word
     (can_row old c.args.self.now c.args.first c.args.slot c.word_index.result c.args.word c.self.view_is c.self.invariant.1.0 c.requires.row c.requires.slot c.word_index.ensures.value c.requires.level c.requires.levels c.set_row.ensures.written)
     c.set_row.ensures.value in
-    subst (λ (x : Grid). AreWritten x new c.args.first c.args.word) c.self.view_is w.written
+    subst (λ (x : Grid). AreWritten x new c.args.first c.args.word) c.self.view_is row_written.written

@@ -25,7 +25,7 @@ returns-clause-value g c = λ e.
 pub returns-clause-held : goal.returns-clause-held
 returns-clause-held g c = λ e h.
     let done = when c.take.result (HaveTaken c.self.inside.cells c.take.new.cells c.args.c c.args.steps.now c.take.new.steps) ((c.take.new.cells ≡ c.self.inside.cells) × (c.take.new.steps ≤ c.args.steps.now + 6)) e c.take.ensures in
-    still_held c.self.inside.cells c.take.new.cells c.args.c (c.self.invariant (ap (λ (q : Standing). q.spent) c.self.view_is ∙ c.requires.stands)) done.exact done.resolution done.kept (λ o. let w = done.gone in absurd (omega arith))
+    still_held c.self.inside.cells c.take.new.cells c.args.c (c.self.invariant (ap (λ (q : Standing). q.spent) c.self.view_is ∙ c.requires.stands)) done.exact done.resolution done.kept (λ o. let gone = done.gone in absurd (omega arith))
     (subst (λ (q : Standing). FirstUngrounded q.matrix None) (sym c.self.view_is) h)
 
 pub returns-clause-stays : goal.returns-clause-stays

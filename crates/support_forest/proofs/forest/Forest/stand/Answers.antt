@@ -25,7 +25,7 @@ returns-clause-value g c = λ e.
 pub returns-clause-held : goal.returns-clause-held
 returns-clause-held g c = λ e h.
     let done = when c.stand.result (HavePlaced c.self.inside.cells c.stand.new.cells c.args.c c.args.steps.now c.stand.new.steps) ((c.stand.new.cells ≡ c.self.inside.cells) × (c.stand.new.steps ≤ c.args.steps.now + 6)) e c.stand.ensures.placed in
-    still_held c.self.inside.cells c.stand.new.cells c.args.c (c.self.invariant (ap (λ (q : Standing). q.spent) c.self.view_is ∙ c.requires.stands)) done.exact done.resolution done.kept (λ o. let w = c.stand.ensures.held e in absurd (omega arith))
+    still_held c.self.inside.cells c.stand.new.cells c.args.c (c.self.invariant (ap (λ (q : Standing). q.spent) c.self.view_is ∙ c.requires.stands)) done.exact done.resolution done.kept (λ o. let held = c.stand.ensures.held e in absurd (omega arith))
     (subst (λ (q : Standing). FirstUngrounded q.matrix None) (sym c.self.view_is) h)
 
 pub returns-clause-stays : goal.returns-clause-stays
