@@ -7,7 +7,7 @@ use Rattle.support_forest.proofs.across.spot_toward.Goals as goal
 
 pub spot_before-requires-clause-before : goal.spot_before-requires-clause-before
 spot_before-requires-clause-before c = λ some.
-    let direction : c.args.d ≡ 1 = (let k = c.in-1.is in omega arith) in
+    let direction : c.args.d ≡ 1 = (let case_is = c.in-1.is in omega arith) in
     let own : IsOwnSpot c.args.r c.args.c c.args.own.number c.args.own.index = record { within = c.requires.within; in_brick = c.requires.number; at_index = c.requires.index } in
     let row : c.from-row.result ≡ side c.args.r = c.from-row.ensures ∙ c.requires.side in
     subst (λ (k : ℕ). k * k ≤ c.args.own.number) (sym row) (wall_before_own c.args.r c.args.c c.args.own.number c.args.own.index own (c.requires.last.left direction) some)
@@ -15,14 +15,14 @@ spot_before-requires-clause-before c = λ some.
 pub spot_before-requires-clause-fits : goal.spot_before-requires-clause-fits
 unfolding word_index
 spot_before-requires-clause-fits c =
-    let direction : c.args.d ≡ 1 = (let k = c.in-1.is in omega arith) in
+    let direction : c.args.d ≡ 1 = (let case_is = c.in-1.is in omega arith) in
     let last = c.requires.last.left direction in
     let at = c.requires.index in
     omega arith
 
 pub returns-in-1 : goal.returns-in-1
 returns-in-1 c =
-    let direction : c.args.d ≡ 1 = (let k = c.in-1.is in omega arith) in
+    let direction : c.args.d ≡ 1 = (let case_is = c.in-1.is in omega arith) in
     let own : IsOwnSpot c.args.r c.args.c c.args.own.number c.args.own.index = record { within = c.requires.within; in_brick = c.requires.number; at_index = c.requires.index } in
     let row : c.from-row.result ≡ side c.args.r = c.from-row.ensures ∙ c.requires.side in
     match_so c.spot_before.result _ _ _ (λ (s : Spot). IsSpotToward c.args.r c.args.c c.args.d s.number s.index) (λ h. none_left c.args.r c.args.c c.args.d direction h)
@@ -40,14 +40,14 @@ spot_behind-requires-clause-fits c =
 pub spot_behind-requires-clause-behind : goal.spot_behind-requires-clause-behind
 unfolding word_index
 spot_behind-requires-clause-behind c =
-    let direction : c.args.d ≡ 2 = (let k = c.in-2.is in omega arith) in
+    let direction : c.args.d ≡ 2 = (let case_is = c.in-2.is in omega arith) in
     let last = c.requires.last.right direction in
     let at = c.requires.index in
     omega arith
 
 pub returns-in-2 : goal.returns-in-2
 returns-in-2 c =
-    let direction : c.args.d ≡ 2 = (let k = c.in-2.is in omega arith) in
+    let direction : c.args.d ≡ 2 = (let case_is = c.in-2.is in omega arith) in
     let own : IsOwnSpot c.args.r c.args.c c.args.own.number c.args.own.index = record { within = c.requires.within; in_brick = c.requires.number; at_index = c.requires.index } in
     let row : c.from-row.result ≡ side c.args.r = c.from-row.ensures ∙ c.requires.side in
     match_so c.spot_behind.result _ _ _ (λ (s : Spot). IsSpotToward c.args.r c.args.c c.args.d s.number s.index) (λ h. none_right c.args.r c.args.c c.args.d direction h)
@@ -55,7 +55,7 @@ returns-in-2 c =
 
 pub spot_before-requires-in-3-clause-before : goal.spot_before-requires-in-3-clause-before
 spot_before-requires-in-3-clause-before c = λ some.
-    let direction : c.args.d ≡ 3 = (let k = c.in-3.is in omega arith) in
+    let direction : c.args.d ≡ 3 = (let case_is = c.in-3.is in omega arith) in
     let own : IsOwnSpot c.args.r c.args.c c.args.own.number c.args.own.index = record { within = c.requires.within; in_brick = c.requires.number; at_index = c.requires.index } in
     let row : c.from-row.result ≡ side c.args.r = c.from-row.ensures ∙ c.requires.side in
     subst (λ (k : ℕ). k ≤ c.args.own.number) (sym row) (row_before_own c.args.r c.args.c c.args.own.number c.args.own.index own (c.requires.last.under direction) some)
@@ -63,14 +63,14 @@ spot_before-requires-in-3-clause-before c = λ some.
 pub spot_before-requires-in-3-clause-fits : goal.spot_before-requires-in-3-clause-fits
 unfolding word_index
 spot_before-requires-in-3-clause-fits c =
-    let direction : c.args.d ≡ 3 = (let k = c.in-3.is in omega arith) in
+    let direction : c.args.d ≡ 3 = (let case_is = c.in-3.is in omega arith) in
     let last = c.requires.last.under direction in
     let at = c.requires.index in
     omega arith
 
 pub returns-in-3 : goal.returns-in-3
 returns-in-3 c =
-    let direction : c.args.d ≡ 3 = (let k = c.in-3.is in omega arith) in
+    let direction : c.args.d ≡ 3 = (let case_is = c.in-3.is in omega arith) in
     let own : IsOwnSpot c.args.r c.args.c c.args.own.number c.args.own.index = record { within = c.requires.within; in_brick = c.requires.number; at_index = c.requires.index } in
     let row : c.from-row.result ≡ side c.args.r = c.from-row.ensures ∙ c.requires.side in
     match_so c.spot_before-in-3.result _ _ _ (λ (s : Spot). IsSpotToward c.args.r c.args.c c.args.d s.number s.index) (λ h. none_under c.args.r c.args.c c.args.d direction h)
@@ -88,14 +88,14 @@ spot_behind-requires-in-4-clause-fits c =
 pub spot_behind-requires-in-4-clause-behind : goal.spot_behind-requires-in-4-clause-behind
 unfolding word_index
 spot_behind-requires-in-4-clause-behind c =
-    let direction : c.args.d ≡ 4 = (let k = c.in-4.is in omega arith) in
+    let direction : c.args.d ≡ 4 = (let case_is = c.in-4.is in omega arith) in
     let last = c.requires.last.over direction in
     let at = c.requires.index in
     omega arith
 
 pub returns-in-4 : goal.returns-in-4
 returns-in-4 c =
-    let direction : c.args.d ≡ 4 = (let k = c.in-4.is in omega arith) in
+    let direction : c.args.d ≡ 4 = (let case_is = c.in-4.is in omega arith) in
     let own : IsOwnSpot c.args.r c.args.c c.args.own.number c.args.own.index = record { within = c.requires.within; in_brick = c.requires.number; at_index = c.requires.index } in
     let row : c.from-row.result ≡ side c.args.r = c.from-row.ensures ∙ c.requires.side in
     match_so c.spot_behind-in-4.result _ _ _ (λ (s : Spot). IsSpotToward c.args.r c.args.c c.args.d s.number s.index) (λ h. none_over c.args.r c.args.c c.args.d direction h)
@@ -103,21 +103,21 @@ returns-in-4 c =
 
 pub spot_before-requires-in-5-clause-before : goal.spot_before-requires-in-5-clause-before
 spot_before-requires-in-5-clause-before c = λ some.
-    let direction : c.args.d ≡ 5 = (let k = c.in-5.is in omega arith) in
+    let direction : c.args.d ≡ 5 = (let case_is = c.in-5.is in omega arith) in
     let own : IsOwnSpot c.args.r c.args.c c.args.own.number c.args.own.index = record { within = c.requires.within; in_brick = c.requires.number; at_index = c.requires.index } in
     one_before_own c.args.r c.args.c c.args.own.number c.args.own.index own (c.requires.last.near direction) some
 
 pub spot_before-requires-in-5-clause-fits : goal.spot_before-requires-in-5-clause-fits
 unfolding word_index
 spot_before-requires-in-5-clause-fits c =
-    let direction : c.args.d ≡ 5 = (let k = c.in-5.is in omega arith) in
+    let direction : c.args.d ≡ 5 = (let case_is = c.in-5.is in omega arith) in
     let last = c.requires.last.near direction in
     let at = c.requires.index in
     omega arith
 
 pub returns-in-5 : goal.returns-in-5
 returns-in-5 c =
-    let direction : c.args.d ≡ 5 = (let k = c.in-5.is in omega arith) in
+    let direction : c.args.d ≡ 5 = (let case_is = c.in-5.is in omega arith) in
     let own : IsOwnSpot c.args.r c.args.c c.args.own.number c.args.own.index = record { within = c.requires.within; in_brick = c.requires.number; at_index = c.requires.index } in
     match_so c.spot_before-in-5.result _ _ _ (λ (s : Spot). IsSpotToward c.args.r c.args.c c.args.d s.number s.index) (λ h. none_near c.args.r c.args.c c.args.d direction h)
     (λ (s : Spot) h. spot_near c.args.r c.args.c c.args.d c.args.own.number c.args.own.index s.number s.index own direction (c.requires.last.near direction) h.0 (h.1) h.2) c.spot_before-in-5.ensures
@@ -134,14 +134,14 @@ spot_behind-requires-in_default-clause-fits c =
 pub spot_behind-requires-in_default-clause-behind : goal.spot_behind-requires-in_default-clause-behind
 unfolding word_index
 spot_behind-requires-in_default-clause-behind c =
-    let direction : c.args.d ≡ 6 = (let k = c.in_default in let r = c.requires.direction in grind arith) in
+    let direction : c.args.d ≡ 6 = (let in_default = c.in_default in let direction_required = c.requires.direction in grind arith) in
     let last = c.requires.last.far direction in
     let at = c.requires.index in
     omega arith
 
 pub returns-in_default : goal.returns-in_default
 returns-in_default c =
-    let direction : c.args.d ≡ 6 = (let k = c.in_default in let r = c.requires.direction in grind arith) in
+    let direction : c.args.d ≡ 6 = (let in_default = c.in_default in let direction_required = c.requires.direction in grind arith) in
     let own : IsOwnSpot c.args.r c.args.c c.args.own.number c.args.own.index = record { within = c.requires.within; in_brick = c.requires.number; at_index = c.requires.index } in
     match_so c.spot_behind-in_default.result _ _ _ (λ (s : Spot). IsSpotToward c.args.r c.args.c c.args.d s.number s.index) (λ h. none_far c.args.r c.args.c c.args.d direction h)
     (λ (s : Spot) h. spot_far c.args.r c.args.c c.args.d c.args.own.number c.args.own.index s.number s.index own direction (c.requires.last.far direction) h.0 (h.1) h.2) c.spot_behind-in_default.ensures

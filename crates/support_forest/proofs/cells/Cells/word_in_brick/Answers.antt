@@ -6,18 +6,18 @@ use Rattle.support_forest.proofs.cells.Cells.word_in_brick.Goals as goal
 
 pub returns-in-Some-clause-value : goal.returns-in-Some-clause-value
 returns-in-Some-clause-value g c =
-    let s = c.self.inside in
-    let old : Grid = record { resolution = s.resolution; table = s.table.items; bricks = s.bricks } in
-    let below : c.args.number < length s.table.items = subst (λ (x : Grid). c.args.number < length x.table) (sym c.self.view_is) c.requires.number in
-    let slot : Some c.in-Some.slot ≡ slot_at s.table.items c.args.number = sym (get_or_default s.table.items c.args.number None c.index.result.now below ∙ (sym c.index.ensures ∙ c.in-Some.is)) in
+    let inside = c.self.inside in
+    let old : Grid = record { resolution = inside.resolution; table = inside.table.items; bricks = inside.bricks } in
+    let below : c.args.number < length inside.table.items = subst (λ (x : Grid). c.args.number < length x.table) (sym c.self.view_is) c.requires.number in
+    let slot : Some c.in-Some.slot ≡ slot_at inside.table.items c.args.number = sym (get_or_default inside.table.items c.args.number None c.index.result.now below ∙ (sym c.index.ensures ∙ c.in-Some.is)) in
     λ q h. subst (λ (x : Grid). word_at x q ≡ c.word.result) c.self.view_is
     (reads_in_brick old c.args.number c.args.index c.word.result _ c.self.invariant.1.0 slot c.word.ensures.value q (subst (λ (x : Grid). StandsIn x.resolution c.args.number c.args.index q) (sym c.self.view_is) h))
 
 pub returns-in-None-clause-value : goal.returns-in-None-clause-value
 returns-in-None-clause-value g c =
-    let s = c.self.inside in
-    let old : Grid = record { resolution = s.resolution; table = s.table.items; bricks = s.bricks } in
-    let below : c.args.number < length s.table.items = subst (λ (x : Grid). c.args.number < length x.table) (sym c.self.view_is) c.requires.number in
-    let slot : None ≡ slot_at s.table.items c.args.number = sym (get_or_default s.table.items c.args.number None c.index.result.now below ∙ (sym c.index.ensures ∙ c.in-None.is)) in
+    let inside = c.self.inside in
+    let old : Grid = record { resolution = inside.resolution; table = inside.table.items; bricks = inside.bricks } in
+    let below : c.args.number < length inside.table.items = subst (λ (x : Grid). c.args.number < length x.table) (sym c.self.view_is) c.requires.number in
+    let slot : None ≡ slot_at inside.table.items c.args.number = sym (get_or_default inside.table.items c.args.number None c.index.result.now below ∙ (sym c.index.ensures ∙ c.in-None.is)) in
     λ q h. subst (λ (x : Grid). word_at x q ≡ 0) c.self.view_is
     (reads_in_brick old c.args.number c.args.index 0 _ c.self.invariant.1.0 slot refl q (subst (λ (x : Grid). StandsIn x.resolution c.args.number c.args.index q) (sym c.self.view_is) h))

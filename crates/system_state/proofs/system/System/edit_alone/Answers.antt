@@ -9,11 +9,11 @@ use Rattle.system_state.proofs.system.System.edit_alone.Goals as goal
 
 pub returns-clause-value : goal.returns-clause-value
 returns-clause-value c = λ b d only named.
-    let s : State = c.args.self.now in
+    let state : State = c.args.self.now in
     c.edit_voxel.ensures.value
     ∙ (ap (λ (t : State). record t { matrix = with_voxel t.matrix c.args.at c.args.full; energy = t.energy +ℤ edit_cost c.args.full c.args.was_full }) c.pay_upkeep_of.ensures.value
-    ∙ (ap (λ t. record s { matrix = with_voxel s.matrix c.args.at c.args.full; energy = (s.energy +ℤ upkeep s) +ℤ edit_cost c.args.full t }) c.requires.was
-    ∙ edited_on s b d c.args.at c.args.full only c.requires.within named))
+    ∙ (ap (λ t. record state { matrix = with_voxel state.matrix c.args.at c.args.full; energy = (state.energy +ℤ upkeep state) +ℤ edit_cost c.args.full t }) c.requires.was
+    ∙ edited_on state b d c.args.at c.args.full only c.requires.within named))
 
 pub returns-clause-bots : goal.returns-clause-bots
 returns-clause-bots c = ap (λ (t : State). t.bots) c.edit_voxel.ensures.value ∙ ap (λ (t : State). t.bots) c.pay_upkeep_of.ensures.value

@@ -12,11 +12,11 @@ pay-requires-clause-small c =
 
 pub returns-clause-value : goal.returns-clause-value
 returns-clause-value c =
-    let s : State = c.args.self.now in
+    let state : State = c.args.self.now in
     let same : to_z w64 (of_z w64 c.cost_of_edit.result) ≡ c.cost_of_edit.result = search rules in
     c.set_voxel_at.ensures.value
     ∙ (ap (λ (t : State). record t { matrix = with_voxel t.matrix c.args.at c.args.full }) c.pay.ensures.value
-    ∙ ap (λ z. record s { matrix = with_voxel s.matrix c.args.at c.args.full; energy = s.energy +ℤ z }) (same ∙ c.cost_of_edit.ensures.value))
+    ∙ ap (λ z. record state { matrix = with_voxel state.matrix c.args.at c.args.full; energy = state.energy +ℤ z }) (same ∙ c.cost_of_edit.ensures.value))
 
 pub returns-clause-within : goal.returns-clause-within
 returns-clause-within c = subst (λ (t : State). IsAfterTurn c.args.self.now.energy t.energy) (sym c.set_voxel_at.ensures.value) c.pay.ensures.within

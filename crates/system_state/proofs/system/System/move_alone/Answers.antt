@@ -11,28 +11,28 @@ use Rattle.system_state.proofs.system.System.move_alone.Goals as goal
 
 pub returns-in-Ok-clause-moved : goal.returns-in-Ok-clause-moved
 returns-in-Ok-clause-moved g c =
-    let s : State = c.args.self.now in
-    let b : Bot = c.only_bot-bot.result in
-    let there : List Bot = moved b (point c.in-Ok.to) ∷ [] in
+    let state : State = c.args.self.now in
+    let bot : Bot = c.only_bot-bot.result in
+    let there : List Bot = moved bot (point c.in-Ok.to) ∷ [] in
     let same : to_z w64 (of_z w64 c.cost_of_move.result) ≡ c.cost_of_move.result = search rules in
-    let payment : c.pay.new.self ≡ record s { energy = (s.energy +ℤ upkeep s) +ℤ pos (2 * mlen c.args.d) } =
+    let payment : c.pay.new.self ≡ record state { energy = (state.energy +ℤ upkeep state) +ℤ pos (2 * mlen c.args.d) } =
     c.pay.ensures.value
     ∙ (ap (λ (t : State). record t { energy = t.energy +ℤ to_z w64 (of_z w64 c.cost_of_move.result) }) c.pay_upkeep_of.ensures.value
-    ∙ ap (λ z. record s { energy = (s.energy +ℤ upkeep s) +ℤ z }) (same ∙ c.cost_of_move.ensures.value)) in
+    ∙ ap (λ z. record state { energy = (state.energy +ℤ upkeep state) +ℤ z }) (same ∙ c.cost_of_move.ensures.value)) in
     let gone : c.move_only.new.self ≡ record c.pay.new.self { bots = there } =
-    c.move_only.ensures b (ap (λ (t : State). t.bots) payment ∙ c.only_bot-bot.ensures.only) in
-    gone ∙ (ap (λ (t : State). record t { bots = there }) payment ∙ moved_on s b c.args.d c.in-Ok.to c.only_bot-bot.ensures.only c.recall.ensures.whole c.in-Ok.ensures.sum)
+    c.move_only.ensures bot (ap (λ (t : State). t.bots) payment ∙ c.only_bot-bot.ensures.only) in
+    gone ∙ (ap (λ (t : State). record t { bots = there }) payment ∙ moved_on state bot c.args.d c.in-Ok.to c.only_bot-bot.ensures.only c.recall.ensures.whole c.in-Ok.ensures.sum)
 
 pub returns-in-Ok-clause-one : goal.returns-in-Ok-clause-one
 returns-in-Ok-clause-one g c =
-    let s : State = c.args.self.now in
-    let b : Bot = c.only_bot-bot.result in
-    let there : List Bot = moved b (point c.in-Ok.to) ∷ [] in
+    let state : State = c.args.self.now in
+    let bot : Bot = c.only_bot-bot.result in
+    let there : List Bot = moved bot (point c.in-Ok.to) ∷ [] in
     let same : to_z w64 (of_z w64 c.cost_of_move.result) ≡ c.cost_of_move.result = search rules in
-    let payment : c.pay.new.self ≡ record s { energy = (s.energy +ℤ upkeep s) +ℤ pos (2 * mlen c.args.d) } =
+    let payment : c.pay.new.self ≡ record state { energy = (state.energy +ℤ upkeep state) +ℤ pos (2 * mlen c.args.d) } =
     c.pay.ensures.value
     ∙ (ap (λ (t : State). record t { energy = t.energy +ℤ to_z w64 (of_z w64 c.cost_of_move.result) }) c.pay_upkeep_of.ensures.value
-    ∙ ap (λ z. record s { energy = (s.energy +ℤ upkeep s) +ℤ z }) (same ∙ c.cost_of_move.ensures.value)) in
+    ∙ ap (λ z. record state { energy = (state.energy +ℤ upkeep state) +ℤ z }) (same ∙ c.cost_of_move.ensures.value)) in
     let gone : c.move_only.new.self ≡ record c.pay.new.self { bots = there } =
-    c.move_only.ensures b (ap (λ (t : State). t.bots) payment ∙ c.only_bot-bot.ensures.only) in
+    c.move_only.ensures bot (ap (λ (t : State). t.bots) payment ∙ c.only_bot-bot.ensures.only) in
     ap (λ (t : State). length t.bots) gone

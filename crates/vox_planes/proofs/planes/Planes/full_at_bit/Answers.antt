@@ -7,11 +7,11 @@ use Rattle.vox_planes.proofs.planes.Planes.full_at_bit.Goals as goal
 
 pub returns-clause-value : goal.returns-clause-value
 returns-clause-value g c =
-    let r = c.self.inside.resolution in
+    let resolution = c.self.inside.resolution in
     let ws = c.self.inside.words.items in
     let within = subst (λ (n : ℕ). IsInSpace n c.args.c) (ap (λ (m : Matrix). m.resolution) (sym c.self.view_is)) c.requires.within in
-    let bit : c.args.bit ≡ bit_index r c.args.c = c.requires.bit ∙ ap (λ (m : Matrix). bit_index m.resolution c.args.c) (sym c.self.view_is) in
+    let bit : c.args.bit ≡ bit_index resolution c.args.c = c.requires.bit ∙ ap (λ (m : Matrix). bit_index m.resolution c.args.c) (sym c.self.view_is) in
     c.is_set.ensures
     ∙ ((λ i. is_set (c.deref.ensures.value i) (bit i))
-    ∙ (sym (is_full-layered r ws c.args.c within)
+    ∙ (sym (is_full-layered resolution ws c.args.c within)
     ∙ ap (λ (m : Matrix). is_full m c.args.c) c.self.view_is))
