@@ -33,6 +33,7 @@ use Rattle.step_machine.specs.declared.undo.Undo.{Undo}
 use Rattle.step_machine.proofs.Acting.{stays}
 use Rattle.step_machine.proofs.Changed.{is_changed, one_way, same_edit}
 use Rattle.step_machine.proofs.Regions.{edits_nothing, edits_region}
+use Rattle.step_machine.proofs.Sizes.{acts_few}
 use Rattle.system_state.specs.declared.edited.EditedRegion.{EditedRegion}
 use Rattle.system_state.specs.Edited.{IsEditedRegion}
 use Rattle.step_debugger.specs.Debugging.{Debugging, debugging_of, point_of}
@@ -169,11 +170,6 @@ acts_long (x ∷ bots) [] i l m = absurd (omega arith)
 acts_long (x ∷ bots) (y ∷ commands) zero l m = omega arith
 acts_long (x ∷ bots) (y ∷ commands) (suc i) l m = let r = acts_long bots commands i (omega arith) (omega arith) in omega (arith, r)
 
-acts_many : (bots : List Bot) (commands : List Command) → length (acts bots commands) ≤ length bots
-acts_many [] commands = omega arith
-acts_many (b ∷ bots) [] = omega arith
-acts_many (b ∷ bots) (k ∷ commands) = let r = acts_many bots commands in omega arith
-
 module _ (s : State) (next : List Command) (step : ℕ) (ready : IsReady s) (keeps : broken s next step ≡ None) (begun : List ℕ) (c : Coord) (within : IsInSpace s.matrix.resolution c) where
   as_many : length (acts s.bots next) ≡ length s.bots
   as_many = sym (length-map (acts s.bots next) (λ (a : Act). a.bot)) ∙ ap length (bots_of s next step ready keeps)
@@ -221,7 +217,7 @@ module _ (s : State) (next : List Command) (step : ℕ) (ready : IsReady s) (kee
       → is_full (matrix_after_some s next begun) c ≡ is_full s.matrix c
   all_kept i past h = untouched s (acts s.bots next) (good_is s next step ready keeps) begun c within (λ a j.
       let p = in_place a a (acts s.bots next) j in
-      subst (λ (x : Act). IsKeptBy begun c x) p.2 (h p.0 a (let l = p.1 in let m = acts_many s.bots next in omega (arith, l, m, past)) p.1))
+      subst (λ (x : Act). IsKeptBy begun c x) p.2 (h p.0 a (let l = p.1 in let m = acts_few s.bots next in omega (arith, l, m, past)) p.1))
 
 -- ---- which bids stand in a list
 
