@@ -233,7 +233,7 @@ impl KeptMachine {
     }
 
     /// How many steps can be taken back.
-    pub fn noted(&self) -> usize
+    pub fn steps_noted(&self) -> usize
         ensures { result ≡ length self.now.past }
     {
         self.notes.len()

@@ -76,7 +76,7 @@ pub extern "C" fn nanobot_machine_judge(
         energy: energy_after(energy, answer),
         offset: answer.offset(),
         halts: halts(answer),
-        broken: answer.broken(),
+        broken: answer.broken_rule(),
     };
     handle.put(machine);
     answer.status()

@@ -34,7 +34,7 @@ pub extern "C" fn nanobot_machine_tell(
         active: u32::from(machine.active()),
         resolution: u32::from(machine.matrix().resolution()),
         high: high(machine.harmonics()),
-        noted: machine.noted() as u64,
+        noted: machine.steps_noted() as u64,
     };
     handle.put(machine);
     DONE

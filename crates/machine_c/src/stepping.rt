@@ -41,7 +41,7 @@ impl StepAnswer {
     }
 
     /// The rule that is broken.
-    pub fn broken(self) -> BrokenTold
+    pub fn broken_rule(self) -> BrokenTold
         ensures { result ≡ rule_told self }
     {
         match self {
@@ -120,7 +120,7 @@ pub extern "C" fn nanobot_machine_step(
         offset: answer.offset(),
         steps: machine.steps_done(),
         active: u32::from(machine.active()),
-        broken: answer.broken(),
+        broken: answer.broken_rule(),
     };
     handle.put(machine);
     answer.status()

@@ -137,7 +137,7 @@ fn run<D: Depot, O: Sink, L: Ledger>(
 }
 
 /// Does what the words say (docs/FORMATS.md, "Printed lines"): reads files of the depot, stores at most one, and writes
-/// one line to the sink in one put.
+/// one line, or the text of a session, to the sink in one put.
 pub fn drive<D: Depot, O: Sink, L: Ledger>(
     alloc: Global,
     words: &[String],

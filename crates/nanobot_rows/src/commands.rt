@@ -22,7 +22,8 @@ const TRACE_LIMIT: u64 = 50_000_000;
 /// The commands that the text of a file says. Of a text that is too long no line is read.
 pub fn load_text<D: Depot>(alloc: Global, depot: &mut D, name: &str) -> Result<CommandList, Stop>
     requires { D.may_fetch name.now }
-    ensures reads { Finds (TextOf name.now) (D.files depot.old) (Rose (D.faults depot.old) (D.faults depot.new)) result }
+    ensures reads { Finds (TextOf name.now) (D.files depot.old)
+        (Rose (D.faults depot.old) (D.faults depot.new)) result }
     ensures files { D.files depot.new ≡ D.files depot.old }
     ensures later { D.faults depot.old ≤ D.faults depot.new }
     ensures stores { D.failed_stores depot.new ≡ D.failed_stores depot.old }

@@ -38,7 +38,7 @@ fn keep_plan<'a>(alloc: Global, plan: &Plan, trace: &'a str) -> Result<Effect<'a
     ensures { IfOk result (KeepsPlan trace.now plan.now.commands plan.now.energy plan.now.steps) }
 {
     let bytes = encode_all(alloc, plan.commands.as_slice())?;
-    let report = Report::planned(plan, bytes.as_slice());
+    let report = Report::of_plan(plan, bytes.as_slice());
     Ok(Effect::storing(report, trace, bytes))
 }
 

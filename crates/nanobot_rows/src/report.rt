@@ -135,7 +135,7 @@ impl Report {
     }
 
     /// The report on a file that has these bytes, of so many commands.
-    pub fn stored(commands: &[Command], bytes: &[u8]) -> Report
+    pub fn of_commands(commands: &[Command], bytes: &[u8]) -> Report
         ensures { result ≡ Report.Stored (length commands.now) (length bytes.now) }
     {
         Report::Stored {
@@ -145,7 +145,7 @@ impl Report {
     }
 
     /// The report on a plan whose commands have these bytes.
-    pub fn planned(plan: &Plan, bytes: &[u8]) -> Report
+    pub fn of_plan(plan: &Plan, bytes: &[u8]) -> Report
         ensures { result ≡ Report.Planned plan.now.energy plan.now.steps (length plan.now.commands) (length bytes.now) }
     {
         Report::Planned {

@@ -138,7 +138,7 @@ fn asm<'a, D: Depot>(
 {
     let commands = load_text(alloc, depot, text)?;
     let bytes = encode_all(alloc, commands.as_slice())?;
-    let report = Report::stored(commands.as_slice(), bytes.as_slice());
+    let report = Report::of_commands(commands.as_slice(), bytes.as_slice());
     Ok(Effect::storing(report, trace, bytes))
 }
 
@@ -159,7 +159,7 @@ fn dis<'a, D: Depot>(
 {
     let commands = load_trace(alloc, depot, trace)?;
     let bytes = print_trace(alloc, commands.as_slice())?;
-    let report = Report::stored(commands.as_slice(), bytes.as_slice());
+    let report = Report::of_commands(commands.as_slice(), bytes.as_slice());
     Ok(Effect::storing(report, text, bytes))
 }
 

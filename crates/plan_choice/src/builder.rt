@@ -1,8 +1,9 @@
 //! Models that one bot builds layer by layer from above, up to five voxels at each stop: a voxel is filled once it is attached,
 //! that is on the floor or beside a full one, so that all is grounded after each step. What is proposed here is judged.
 use crate::extent::{Extent, extent_of_layer, is_full_at};
-use crate::ways::{difference, move_by, next_end};
+use crate::ways::{difference, next_end};
 use nano_spec::{Command, CommandList};
+use squad_plans::move_by;
 use std::alloc::Global;
 use vox_geom::{Coord, Diff, Memory, Near};
 use vox_planes::Planes;

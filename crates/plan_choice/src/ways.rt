@@ -1,6 +1,7 @@
 //! Moves of one bot on its way, and the same backwards.
 use nano_spec::{Command, CommandList};
 use plan_tape::{Axis, next_stop};
+use squad_plans::opposite;
 use std::alloc::Global;
 use vox_geom::{Coord, Diff, Long, Memory, Short};
 
@@ -84,25 +85,6 @@ pub(crate) fn next_end(at: Coord, to: Coord) -> Coord {
         };
     }
     to
-}
-
-/// The move by a difference: none where it is neither along one axis nor along x and z.
-pub(crate) fn move_by(d: Diff) -> Option<Command> {
-    if d.dx == 0 || d.dz == 0 {
-        return Some(Command::SMove(Long::of(d)?));
-    }
-    let along_x = Short::of(Diff { dz: 0, ..d })?;
-    let along_z = Short::of(Diff { dx: 0, ..d })?;
-    Some(Command::LMove(along_x, along_z))
-}
-
-/// The difference that leads back.
-fn opposite(d: Diff) -> Diff {
-    Diff {
-        dx: d.dx.wrapping_neg(),
-        dy: d.dy.wrapping_neg(),
-        dz: d.dz.wrapping_neg(),
-    }
 }
 
 /// The command of one bot that undoes another one: none for a Halt.

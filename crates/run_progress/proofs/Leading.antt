@@ -1,9 +1,9 @@
 -- What comes of the commands that are left, by the progress so far.
 use Rattle.std.proofs.Common.{◌≡◌, ℕ, ◌+◌, ◌<◌, refl, sym, ◌∙◌, ap, subst, arith, List, [], ◌∷◌, ◌++◌, Bool, true, false, ◌==◌, length, take, drop, append_assoc, append-nil, length-append, Some}
 use Rattle.std.specs.Prelude.{MatchBool}
-use Rattle.std.proofs.lemmas.Bool.Decides.{nat_tests}
 use Rattle.std.proofs.lemmas.List.{take_all}
 use Rattle.std.proofs.Math.Seq.{take-append_seam, drop-append_seam}
+use Rattle.vox_geom.proofs.Tests.{equal_by_test, unequal_by_test}
 use Rattle.nano_spec.specs.declared.commands.Command.{Command}
 use Rattle.nano_spec.specs.declared.outcomes.Broken.{Broken}
 use Rattle.nano_spec.specs.declared.outcomes.Rule.TheVariants.{AfterHalt}
@@ -83,12 +83,6 @@ module _ (target : Matrix) (p : Progress) (rest : List Command) (v : Verdict) (w
 more : (p : Progress) (command : Command) → length (with_command p command).pending ≡ length p.pending + 1
 more p command = length-append p.pending (command ∷ [])
 
-same_count : (a b : ℕ) → (a == b) ≡ true → a ≡ b
-same_count a b e = grind (arith, nat_tests)
-
-other_count : (a b : ℕ) → (a == b) ≡ false → a ≡ b → ⊥
-other_count a b e = grind (arith, nat_tests)
-
 joined : (target : Matrix) (p q : Progress) (rest : List Command) (v : Verdict) → p.mark ≡ Running → 0 < length p.pending → length p.pending < length p.state.bots + 1
     → Joins p q → Leads target q rest v → Run target p.state (p.pending ++ rest) p.steps v
 joined target p q rest v running some below joins leads = by (length p.pending == length p.state.bots) refl joins
@@ -96,7 +90,7 @@ joined target p q rest v running some below joins leads = by (length p.pending =
     by : (t : Bool) → (length p.pending == length p.state.bots) ≡ t → MatchBool t (MakesStep p q) (q ≡ p)
         → Run target p.state (p.pending ++ rest) p.steps v
     by true e steps =
-        let whole = same_count (length p.pending) (length p.state.bots) e in
+        let whole = equal_by_test (length p.pending) (length p.state.bots) e in
         made target p rest v whole (omega arith) steps.0 steps.1 (subst (λ (x : Progress). Leads target x rest v) steps.2 leads)
     by false e same = subst (λ (m : Mark). LeadsAt m target p rest v) running (subst (λ (x : Progress). Leads target x rest v) same leads)
 
@@ -129,7 +123,7 @@ keeps_joined p q running below joins = by (length p.pending == length p.state.bo
     by : (t : Bool) → (length p.pending == length p.state.bots) ≡ t → MatchBool t (MakesStep p q) (q ≡ p) → Keeps q
     by true e steps = subst Keeps (sym steps.2) (keeps_stepped p steps.0)
     by false e same =
-        let other = other_count (length p.pending) (length p.state.bots) e in
+        let other = unequal_by_test (length p.pending) (length p.state.bots) e in
         let kept : length p.pending < length p.state.bots = omega (arith, other) in
         subst Keeps (sym same) (subst (λ (m : Mark). KeepsAt m p) (sym running) kept)
 

@@ -23,4 +23,5 @@ mod yard;
 
 pub use poled::{Poled, with_poles};
 pub use quads::{Slabs, slabs_by_squads};
+pub use tasks::{move_by, opposite};
 pub use team::{Manner, squads};

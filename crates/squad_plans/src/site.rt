@@ -76,7 +76,7 @@ impl Site {
     }
 
     /// How many voxels the target had.
-    pub(crate) fn wanted(&self) -> u64 {
+    pub(crate) fn wanted_voxels(&self) -> u64 {
         self.wanted
     }
 

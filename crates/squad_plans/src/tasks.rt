@@ -51,7 +51,7 @@ fn along_z(dz: i16) -> Diff {
 }
 
 /// The difference that leads back.
-pub(crate) fn opposite(d: Diff) -> Diff {
+pub fn opposite(d: Diff) -> Diff {
     Diff {
         dx: d.dx.wrapping_neg(),
         dy: d.dy.wrapping_neg(),
@@ -77,8 +77,8 @@ pub(crate) fn undoing(task: Task) -> Task {
     }
 }
 
-/// The move by a difference.
-fn move_by(d: Diff) -> Option<Command> {
+/// The move by a difference: none where it is neither along one axis nor along x and z.
+pub fn move_by(d: Diff) -> Option<Command> {
     if d.dx == 0 || d.dz == 0 {
         return Some(Command::SMove(Long::of(d)?));
     }

@@ -85,7 +85,7 @@ impl Team {
         let count = manner.squads.min(MOST_SQUADS);
         let bots = count.saturating_mul(each);
         let mut yard = Yard::begin(alloc, target, bots, manner.turned, manner.down)?;
-        if yard.site().wanted() > most_filled(manner) {
+        if yard.site().wanted_voxels() > most_filled(manner) {
             return Ok(None);
         }
         let mut poles = Vec::new(alloc);

@@ -33,6 +33,7 @@ use Rattle.step_machine.specs.declared.undo.Undo.{Undo}
 use Rattle.step_machine.proofs.Acting.{stays}
 use Rattle.step_machine.proofs.Changed.{is_changed, one_way, same_edit}
 use Rattle.step_machine.proofs.Regions.{edits_nothing, edits_region}
+use Rattle.step_machine.proofs.Sizes.{acts_few}
 use Rattle.system_state.specs.declared.edited.EditedRegion.{EditedRegion}
 use Rattle.system_state.specs.Edited.{IsEditedRegion}
 use Rattle.step_debugger.specs.Debugging.{Debugging, debugging_of, point_of}
@@ -171,11 +172,6 @@ acts_long (x ∷ bots) [] i l m = absurd (omega arith)
 acts_long (x ∷ bots) (y ∷ commands) zero l m = omega arith
 acts_long (x ∷ bots) (y ∷ commands) (suc i) l m = let place_in_acts = acts_long bots commands i (omega arith) (omega arith) in omega (arith, place_in_acts)
 
-acts_many : (bots : List Bot) (commands : List Command) → length (acts bots commands) ≤ length bots
-acts_many [] commands = omega arith
-acts_many (b ∷ bots) [] = omega arith
-acts_many (b ∷ bots) (k ∷ commands) = let acts_bound = acts_many bots commands in omega arith
-
 module _ (s : State) (next : List Command) (step : ℕ) (ready : IsReady s) (keeps : broken s next step ≡ None) (begun : List ℕ) (c : Coord) (within : IsInSpace s.matrix.resolution c) where
   as_many : length (acts s.bots next) ≡ length s.bots
   as_many = sym (length-map (acts s.bots next) (λ (a : Act). a.bot)) ∙ ap length (bots_of s next step ready keeps)
@@ -223,7 +219,7 @@ module _ (s : State) (next : List Command) (step : ℕ) (ready : IsReady s) (kee
       → is_full (matrix_after_some s next begun) c ≡ is_full s.matrix c
   all_kept i past h = untouched s (acts s.bots next) (good_is s next step ready keeps) begun c within (λ a j.
       let place = in_place a a (acts s.bots next) j in
-      subst (λ (x : Act). IsKeptBy begun c x) place.2 (h place.0 a (let l = place.1 in let acts_bound = acts_many s.bots next in omega (arith, l, acts_bound, past)) place.1))
+      subst (λ (x : Act). IsKeptBy begun c x) place.2 (h place.0 a (let l = place.1 in let acts_bound = acts_few s.bots next in omega (arith, l, acts_bound, past)) place.1))
 
 -- ---- which bids stand in a list
 

@@ -98,7 +98,7 @@ impl Debugger {
     }
 
     /// The leaders of the groups that are begun, in the order in which they were begun.
-    pub fn begun(&self) -> &[u8]
+    pub fn begun_leaders(&self) -> &[u8]
         ensures { result.now ≡ self.now.session.begun }
     {
         self.begun.as_slice()
@@ -266,7 +266,7 @@ impl Debugger {
         if let Some(broken) = self.judge(&mut turns, steps) {
             return Err(DebugFault::Broken(broken));
         }
-        let left = self.left();
+        let left = self.leaders_left();
         let Some(place) = place_of(left.as_slice(), leader) else {
             return Err(DebugFault::NotLeader { leader });
         };
@@ -304,7 +304,7 @@ impl Debugger {
     }
 
     /// The leaders of the groups that are not begun.
-    fn left(&self) -> ArrayVec<u8, MOST_BOTS>
+    fn leaders_left(&self) -> ArrayVec<u8, MOST_BOTS>
         requires stands { self.now.spent ≡ false }
         requires all { length (next_of self.now.commands self.now.session.point)
             ≡ length self.now.session.point.state.bots }

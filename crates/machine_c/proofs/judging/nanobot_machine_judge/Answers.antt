@@ -9,5 +9,5 @@ returns-clause-told c =
     let held : c.args.handle.now.machine ≡ Some c.deref_mut.result.now = search rules in
     let same : to_z w64 (of_z w64 c.energy_after.result) ≡ c.energy_after.result = search rules in
     let energy : c.energy_after.result ≡ energy_by c.deref_mut.result.now.state.energy c.judge_by-answer.result = search rules in
-    subst (λ (h : Option Kept). IsJudged h c.args.commands.now c.args.told.now (record { energy = to_z w64 (of_z w64 c.energy_after.result); offset = c.offset.result; halts = c.halts.result; broken = c.broken.result }) c.status.result) (sym held)
-    (c.judge_by-answer.result, c.judge_by-answer.ensures.answer, (λ i. record { energy = (same ∙ energy) i; offset = c.offset.ensures i; halts = c.halts.ensures i; broken = c.broken.ensures i }), c.status.ensures)
+    subst (λ (h : Option Kept). IsJudged h c.args.commands.now c.args.told.now (record { energy = to_z w64 (of_z w64 c.energy_after.result); offset = c.offset.result; halts = c.halts.result; broken = c.broken_rule.result }) c.status.result) (sym held)
+    (c.judge_by-answer.result, c.judge_by-answer.ensures.answer, (λ i. record { energy = (same ∙ energy) i; offset = c.offset.ensures i; halts = c.halts.ensures i; broken = c.broken_rule.ensures i }), c.status.ensures)

@@ -12,15 +12,15 @@ pub returns-in_default-place_of-clause-session : goal.returns-in_default-place_o
 returns-in_default-place_of-clause-session g c =
     let keeps = sym c.judge.ensures.value ∙ c.in_default.is in
     no_leader c.args.self.now.commands c.args.self.now.session c.args.leader c.in_ok-ready.ensures.some keeps
-    (may_not_begin c.args.self.now.commands c.args.self.now.session c.left-left.result.items c.left-left.ensures.leaders c.left-left.ensures.differ c.args.leader (list_unfound c.as_slice.result.now c.left-left.result.items c.args.leader c.place_of.result c.as_slice.ensures.value c.in_default-place_of.is c.place_of.ensures.none))
+    (may_not_begin c.args.self.now.commands c.args.self.now.session c.leaders_left-left.result.items c.leaders_left-left.ensures.leaders c.leaders_left-left.ensures.differ c.args.leader (list_unfound c.as_slice.result.now c.leaders_left-left.result.items c.args.leader c.place_of.result c.as_slice.ensures.value c.in_default-place_of.is c.place_of.ensures.none))
 
 pub returns-then-as_slice-gt1-clause-session : goal.returns-then-as_slice-gt1-clause-session
 returns-then-as_slice-gt1-clause-session g c =
     let keeps = sym c.judge.ensures.value ∙ c.in_default.is in
     let found = subst (λ (xs : List ℕ). (c.in-Some-place_of.place < length xs) × (get_or xs c.in-Some-place_of.place 0 ≡ c.args.leader)) c.as_slice.ensures.value c.in-Some-place_of.ensures.found in
-    let may = may_begin_is c.args.self.now.commands c.args.self.now.session c.left-left.result.items c.left-left.ensures.leaders c.left-left.ensures.differ c.args.leader c.in-Some-place_of.place found.0 found.1 in
+    let may = may_begin_is c.args.self.now.commands c.args.self.now.session c.leaders_left-left.result.items c.leaders_left-left.ensures.leaders c.leaders_left-left.ensures.differ c.args.leader c.in-Some-place_of.place found.0 found.1 in
     let same = ap length c.as_slice-2.ensures.value in
-    let more = is_not_last c.args.self.now.commands c.args.self.now.session c.left-left.result.items c.left-left.ensures.leaders c.left-left.ensures.differ (let many = c.if-as_slice-gt1.true in omega (arith, same, many)) in
+    let more = is_not_last c.args.self.now.commands c.args.self.now.session c.leaders_left-left.result.items c.leaders_left-left.ensures.leaders c.leaders_left-left.ensures.differ (let many = c.if-as_slice-gt1.true in omega (arith, same, many)) in
     group_begun_at c.args.self.now.commands c.args.self.now.session c.args.leader c.in_ok-ready.ensures.some keeps
     c.begin.new.self.session (ap (λ (d : Debugging). d.session) c.begin.ensures) may more
 
@@ -28,9 +28,9 @@ pub returns-in-Ok-clause-session : goal.returns-in-Ok-clause-session
 returns-in-Ok-clause-session g c =
     let keeps = sym c.judge.ensures.value ∙ c.in_default.is in
     let found = subst (λ (xs : List ℕ). (c.in-Some-place_of.place < length xs) × (get_or xs c.in-Some-place_of.place 0 ≡ c.args.leader)) c.as_slice.ensures.value c.in-Some-place_of.ensures.found in
-    let may = may_begin_is c.args.self.now.commands c.args.self.now.session c.left-left.result.items c.left-left.ensures.leaders c.left-left.ensures.differ c.args.leader c.in-Some-place_of.place found.0 found.1 in
+    let may = may_begin_is c.args.self.now.commands c.args.self.now.session c.leaders_left-left.result.items c.leaders_left-left.ensures.leaders c.leaders_left-left.ensures.differ c.args.leader c.in-Some-place_of.place found.0 found.1 in
     let same = ap length c.as_slice-2.ensures.value in
-    let last = is_last_is c.args.self.now.commands c.args.self.now.session c.left-left.result.items c.left-left.ensures.leaders c.left-left.ensures.differ (let some = found.0 in let few = c.if-as_slice-gt1.false in omega (arith, same, some, few)) in
+    let last = is_last_is c.args.self.now.commands c.args.self.now.session c.leaders_left-left.result.items c.leaders_left-left.ensures.leaders c.leaders_left-left.ensures.differ (let some = found.0 in let few = c.if-as_slice-gt1.false in omega (arith, same, some, few)) in
     last_ok c.args.self.now.commands c.args.self.now.session c.args.leader c.in_ok-ready.ensures.some keeps
     c.make.new.self.session c.in-Ok.ok c.in-Ok.ensures.session may last
 
@@ -38,9 +38,9 @@ pub returns-in-Err-clause-session : goal.returns-in-Err-clause-session
 returns-in-Err-clause-session g c =
     let keeps = sym c.judge.ensures.value ∙ c.in_default.is in
     let found = subst (λ (xs : List ℕ). (c.in-Some-place_of.place < length xs) × (get_or xs c.in-Some-place_of.place 0 ≡ c.args.leader)) c.as_slice.ensures.value c.in-Some-place_of.ensures.found in
-    let may = may_begin_is c.args.self.now.commands c.args.self.now.session c.left-left.result.items c.left-left.ensures.leaders c.left-left.ensures.differ c.args.leader c.in-Some-place_of.place found.0 found.1 in
+    let may = may_begin_is c.args.self.now.commands c.args.self.now.session c.leaders_left-left.result.items c.leaders_left-left.ensures.leaders c.leaders_left-left.ensures.differ c.args.leader c.in-Some-place_of.place found.0 found.1 in
     let same = ap length c.as_slice-2.ensures.value in
-    let last = is_last_is c.args.self.now.commands c.args.self.now.session c.left-left.result.items c.left-left.ensures.leaders c.left-left.ensures.differ (let some = found.0 in let few = c.if-as_slice-gt1.false in omega (arith, same, some, few)) in
+    let last = is_last_is c.args.self.now.commands c.args.self.now.session c.leaders_left-left.result.items c.leaders_left-left.ensures.leaders c.leaders_left-left.ensures.differ (let some = found.0 in let few = c.if-as_slice-gt1.false in omega (arith, same, some, few)) in
     last_err c.args.self.now.commands c.args.self.now.session c.args.leader c.in_ok-ready.ensures.some keeps
     c.make.new.self.session c.in-Err.fault c.in-Err.ensures.session may last
 

@@ -2,7 +2,7 @@ use Rattle.std.proofs.Common.{ap, arith, length, length-append}
 use Rattle.step_debugger.specs.Debugging.{Debugging}
 use Rattle.step_debugger.proofs.Grouping.{differ_seen}
 use Rattle.step_debugger.proofs.Trying.{begun_some, order_fits}
-use Rattle.step_debugger.proofs.debugger.Debugger.left.Goals as goal
+use Rattle.step_debugger.proofs.debugger.Debugger.leaders_left.Goals as goal
 
 pub returns-then-is_empty-clause-differ : goal.returns-then-is_empty-clause-differ
 returns-then-is_empty-clause-differ c = differ_seen c.self.inside.machine.state c.args.self.now (ap (λ (d : Debugging). d.session.point.state) c.self.view_is) c.recall.ensures.ready c.requires.all
