@@ -99,7 +99,13 @@ fn word_across<const D: u8, L: Ledger>(
     ensures touch { steps.new ≤ steps.old + 1 }
 {
     cells.recall();
-    match spot_toward(cells.resolution(), cells.side(), c, Spot { number, index }, D) {
+    match spot_toward(
+        cells.resolution(),
+        cells.side(),
+        c,
+        Spot { number, index },
+        D,
+    ) {
         Some(spot) => cells.word_in_brick(spot.number, spot.index as u16, steps),
         None => 0,
     }

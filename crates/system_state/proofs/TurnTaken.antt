@@ -422,7 +422,7 @@ module _ (s : State) (all : List Act) (good : IsGood s all) (l : Act) (leads : I
           → Come (members all l) ≡ bots_after_turn t.bots l.bot partner l.command
       by (inl h) = ap Come (alone_is s all good l leads h) ∙ alone_bots t.bots l.bot partner l.command h rising (bot_there l itself_in) lone_halt
       by (inr (inl h)) = let couple_here = couple s all good l leads h in
-        ap Come couple_here.3 ∙ couple_bots l.command refl h couple_here.0 couple_here.1 couple_here.3
+          ap Come couple_here.3 ∙ couple_bots l.command refl h couple_here.0 couple_here.1 couple_here.3
       by (inr (inr h)) = group_bots l.command refl h
 
   -- the turn leads where the group's acts do

@@ -130,7 +130,17 @@ impl Machine {
         };
         let bit = self.system.matrix().bit_of(at);
         let forest = &mut self.forest;
-        match settle_at_once(&self.system, &commands, d, at, bit, FULL, step, forest, steps) {
+        match settle_at_once(
+            &self.system,
+            &commands,
+            d,
+            at,
+            bit,
+            FULL,
+            step,
+            forest,
+            steps,
+        ) {
             Some(was) => self.system.edit_alone(at, bit, FULL, was),
             None => return false,
         }
