@@ -5,9 +5,8 @@ ghost use Rattle.vox_geom.specs.declared.coordinate.Coord.{Coord};
 ghost use Rattle.support_forest.specs.Grid.{slot_of, word_at};
 ghost use Rattle.support_forest.specs.Taking.{CanTake, HangsNot, IsNoParent, TakesOrStays};
 
-use crate::across::word_next;
-use crate::beside::word_toward;
-use crate::cells::{BRICK_SIDE, Cells, word_index};
+use crate::beside::{word_near, word_toward};
+use crate::cells::{Cells, word_index};
 use brick_arena::start_in_chunk;
 use std::sync::ledger::Ledger;
 use vox_geom::{Coord, Steps};
@@ -23,7 +22,7 @@ pub fn hangs(word: u32, toward: u32) -> bool
 /// Whether a neighbour has its parent in a voxel whose brick has this slot. Each word beside the voxel is judged as it is read, so
 /// that none is kept.
 #[inline(always)]
-fn is_parent_by<L: Ledger>(cells: &Cells, c: Coord, slot: u32, steps: &mut Steps<L>) -> bool
+fn is_parent<L: Ledger>(cells: &Cells, c: Coord, slot: u32, steps: &mut Steps<L>) -> bool
     requires within { IsInSpace cells.now.resolution c }
     requires slot { slot_of cells.now c ≡ Some slot }
     requires space { (q : Coord) → 0 < word_at cells.now q → IsInSpace cells.now.resolution q }
@@ -33,56 +32,28 @@ fn is_parent_by<L: Ledger>(cells: &Cells, c: Coord, slot: u32, steps: &mut Steps
     cells.recall();
     let chunk = cells.chunk(slot);
     let start = start_in_chunk(slot);
-    let over = word_next::<4, L>(cells, c, slot, chunk, start, steps);
+    let over = word_near(cells, c, slot, chunk, start, 4, steps);
     if hangs(over, 3) {
         return true;
     }
-    let left = word_next::<1, L>(cells, c, slot, chunk, start, steps);
+    let left = word_near(cells, c, slot, chunk, start, 1, steps);
     if hangs(left, 2) {
         return true;
     }
-    let right = word_next::<2, L>(cells, c, slot, chunk, start, steps);
+    let right = word_near(cells, c, slot, chunk, start, 2, steps);
     if hangs(right, 1) {
         return true;
     }
-    let under = word_next::<3, L>(cells, c, slot, chunk, start, steps);
+    let under = word_near(cells, c, slot, chunk, start, 3, steps);
     if hangs(under, 4) {
         return true;
     }
-    let near = word_next::<5, L>(cells, c, slot, chunk, start, steps);
+    let near = word_near(cells, c, slot, chunk, start, 5, steps);
     if hangs(near, 6) {
         return true;
     }
-    let far = word_next::<6, L>(cells, c, slot, chunk, start, steps);
+    let far = word_near(cells, c, slot, chunk, start, 6, steps);
     hangs(far, 5)
-}
-
-/// [`is_parent`] of a voxel that is the highest of its brick.
-#[inline(never)]
-fn is_parent_highest<L: Ledger>(cells: &Cells, c: Coord, slot: u32, steps: &mut Steps<L>) -> bool
-    requires within { IsInSpace cells.now.resolution c }
-    requires slot { slot_of cells.now c ≡ Some slot }
-    requires space { (q : Coord) → 0 < word_at cells.now q → IsInSpace cells.now.resolution q }
-    ensures parent { result ≡ false → IsNoParent (word_at cells.now) c }
-    ensures touches { steps.new ≤ steps.old + 6 }
-{
-    is_parent_by(cells, c, slot, steps)
-}
-
-/// [`is_parent_by`], in two ways: where the first word that is read lies in the voxel's own brick, the compiler keeps the place of
-/// its chunk for those that follow.
-#[inline(always)]
-fn is_parent<L: Ledger>(cells: &Cells, c: Coord, slot: u32, steps: &mut Steps<L>) -> bool
-    requires within { IsInSpace cells.now.resolution c }
-    requires slot { slot_of cells.now c ≡ Some slot }
-    requires space { (q : Coord) → 0 < word_at cells.now q → IsInSpace cells.now.resolution q }
-    ensures parent { result ≡ false → IsNoParent (word_at cells.now) c }
-    ensures touches { steps.new ≤ steps.old + 6 }
-{
-    if c.y % BRICK_SIDE == BRICK_SIDE - 1 {
-        return is_parent_highest(cells, c, slot, steps);
-    }
-    is_parent_by(cells, c, slot, steps)
 }
 
 /// [`take`] on the floor, where each full voxel stands on the floor: that over it is the only one that can hang on it.
