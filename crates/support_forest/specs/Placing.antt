@@ -40,6 +40,10 @@ pub record IsIndexToward (c : Coord) (d index : ℕ) : Type 0 where
   pub same_brick : brick there ≡ brick c
   pub at_index : word_index there ≡ index
 
+-- the voxel of these components
+abbrev pub voxel : ℕ → ℕ → ℕ → Coord
+voxel x y z = record { x = x; y = y; z = z }
+
 -- the voxel is the last of its brick in the direction
 pub record EndsBrick (c : Coord) (d : ℕ) : Type 0 where
   pub left : d ≡ 1 → c.x % 8 ≡ 0

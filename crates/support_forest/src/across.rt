@@ -5,7 +5,7 @@ ghost use Rattle.brick_arena.specs.Slots.{HasSlot, start_in_chunk as start_in_ch
 ghost use Rattle.vox_geom.specs.Space.{IsInSpace};
 ghost use Rattle.vox_geom.specs.declared.coordinate.Coord.{Coord};
 ghost use Rattle.support_forest.specs.Grid.{brick_number as number_of, side as side_of, slot_of, word_at, word_index as word_index_of};
-ghost use Rattle.support_forest.specs.Placing.{EndsBrick, IsSpotToward, IsWordToward, NoneToward};
+ghost use Rattle.support_forest.specs.Placing.{EndsBrick, IsSpotToward, IsWordToward, NoneToward, voxel};
 
 use crate::beside::index_toward;
 use crate::cells::{Cells, word_index};
@@ -80,25 +80,28 @@ fn spot_toward(r: u16, side: u16, c: Coord, own: Spot, d: u8) -> Option<Spot>
 }
 
 /// The word of the neighbour in a direction, which lies in another brick, 0 where there is none. In a call of its own for each
-/// direction the way within a brick stays small.
+/// direction the way within a brick stays small. The voxel comes by its components: a coordinate is handed on through memory.
 #[inline(never)]
 fn word_across<const D: u8, L: Ledger>(
     cells: &Cells,
-    c: Coord,
+    x: u16,
+    y: u16,
+    z: u16,
     number: usize,
     index: usize,
     steps: &mut Steps<L>,
 ) -> u32
     requires direction { (0 < D) × (D ≤ 6) }
-    requires within { IsInSpace cells.now.resolution c }
-    requires number { number ≡ number_of cells.now.resolution c }
-    requires index { index ≡ word_index_of c }
-    requires last { EndsBrick c D }
+    requires within { IsInSpace cells.now.resolution (voxel x y z) }
+    requires number { number ≡ number_of cells.now.resolution (voxel x y z) }
+    requires index { index ≡ word_index_of (voxel x y z) }
+    requires last { EndsBrick (voxel x y z) D }
     requires space { (q : Coord) → 0 < word_at cells.now q → IsInSpace cells.now.resolution q }
-    ensures word { IsWordToward (word_at cells.now) c D result }
+    ensures word { IsWordToward (word_at cells.now) (voxel x y z) D result }
     ensures touch { steps.new ≤ steps.old + 1 }
 {
     cells.recall();
+    let c = Coord { x, y, z };
     match spot_toward(
         cells.resolution(),
         cells.side(),
@@ -136,5 +139,5 @@ pub fn word_next<const D: u8, L: Ledger>(
     if let Some(i) = index_toward(c, index, D) {
         return chunk.word(start + i, steps);
     }
-    word_across::<D, L>(cells, c, cells.brick_number(c), index, steps)
+    word_across::<D, L>(cells, c.x, c.y, c.z, cells.brick_number(c), index, steps)
 }
