@@ -27,6 +27,7 @@ use Rattle.step_groups.specs.Groups.{AreJudged}
 use Rattle.step_groups.specs.Judging.{act, judge_bot, judge_each}
 use Rattle.step_groups.proofs.Joined.{bot_in, in_all}
 use Rattle.step_groups.proofs.Mates.{no_filter}
+use Rattle.step_order.proofs.JudgedRules.{group_shape_is_judged, out_of_space_is_judged}
 
 -- ---- no rule is broken
 
@@ -171,6 +172,6 @@ module _ (bots : List Bot) (commands : List Command) (lengths : length commands 
   judged s step e =
       let all : List Act = acts bots commands in
       record {
-        stays = in_all (λ (a : Act). IsTrue (stays_in_space s.matrix.resolution a)) all (λ a i. not_is_false (stays_in_space s.matrix.resolution a) (here_false a (not (stays_in_space s.matrix.resolution a)) (unbroken s all step all e a OutOfSpace i (inr (inr (inr (inr (inl refl))))))));
-        few = in_all (λ (a : Act). length (members all a) ≤ 8) all (λ a i. few_by s a.bot a.command (unbroken s all step all e a GroupShape i (inr (inr (inr (inr (inr (inr (inr (inr (inr (inl refl))))))))))));
+        stays = in_all (λ (a : Act). IsTrue (stays_in_space s.matrix.resolution a)) all (λ a i. not_is_false (stays_in_space s.matrix.resolution a) (here_false a (not (stays_in_space s.matrix.resolution a)) (unbroken s all step all e a OutOfSpace i out_of_space_is_judged)));
+        few = in_all (λ (a : Act). length (members all a) ≤ 8) all (λ a i. few_by s a.bot a.command (unbroken s all step all e a GroupShape i group_shape_is_judged));
       }

@@ -34,6 +34,7 @@ use Rattle.energy_sum.proofs.Bounds.{extent_far}
 use Rattle.step_machine.proofs.Apart.{Apart, apart_filter, apart_flat}
 use Rattle.step_machine.specs.Edits.{edit_count, edits_total}
 use Rattle.step_groups.specs.Judging.{act}
+use Rattle.step_order.proofs.JudgedRules.{group_shape_is_judged}
 
 -- ---- a region by its dimension
 
@@ -214,7 +215,7 @@ module _ (s : State) (all : List Act) (good : IsGood s all) where
   fits : (l : Act) → In l (leaders all) → Fits l (member_count all l)
   fits l i = (
     none_of_either (λ t. not (length (members all l) == 2 ^ dimension t)) (λ t. repeats (flat_map (λ b. corners_of (position b) b.command) (members all l))) (group_regions (position l) l.command)
-        (here_false l (is_misshapen all l) (good.keeps l GroupShape (lead l i) (inr (inr (inr (inr (inr (inr (inr (inr (inr (inl refl)))))))))))),
+        (here_false l (is_misshapen all l) (good.keeps l GroupShape (lead l i) group_shape_is_judged)),
     some_in l (members all l) (in_filter (are_together l) l all (lead l i) (with_itself l)),
   )
 

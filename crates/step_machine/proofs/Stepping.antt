@@ -20,6 +20,7 @@ use Rattle.nano_spec.specs.Next.{Breaks, Goes, Next, accepts, leaves_floating, u
 use Rattle.nano_spec.specs.Rules.{broken, broken_by, clash, fault, judge_bots, judge_pairs, judge_trace, rules_of_bots}
 use Rattle.nano_spec.specs.State.{IsWellFormed, State, is_high}
 use Rattle.nano_spec.specs.Step.{after, flipped}
+use Rattle.step_order.proofs.JudgedRules.{no_grounding}
 use Rattle.step_order.proofs.Lists.{In, flat_in, in_either, map_in}
 use Rattle.step_machine.specs.Situation.{IsEnergyBounded, IsConsistent, Situation}
 use Rattle.support_forest.specs.Standing.{Standing}
@@ -121,19 +122,6 @@ bots_rule s all step b i =
     let origin = flat_in (λ (x : Act). map (λ rule. broken_by step rule x.bot.bid (fault s all x rule)) rules_of_bots) (Some b) all i in
     let mapped_from = map_in (λ rule. broken_by step rule origin.0.bot.bid (fault s all origin.0 rule)) (Some b) rules_of_bots origin.2 in
     subst (λ (rule : Rule). In rule rules_of_bots) (sym (rule_is step mapped_from.0 origin.0.bot.bid (fault s all origin.0 mapped_from.0) b mapped_from.2)) mapped_from.1
-
-no_grounding : (rule : Rule) → In rule rules_of_bots → rule ≡ Ungrounded → ⊥
-no_grounding rule (inl e) f = cc
-no_grounding rule (inr (inl e)) f = cc
-no_grounding rule (inr (inr (inl e))) f = cc
-no_grounding rule (inr (inr (inr (inl e)))) f = cc
-no_grounding rule (inr (inr (inr (inr (inl e))))) f = cc
-no_grounding rule (inr (inr (inr (inr (inr (inl e)))))) f = cc
-no_grounding rule (inr (inr (inr (inr (inr (inr (inl e))))))) f = cc
-no_grounding rule (inr (inr (inr (inr (inr (inr (inr (inl e)))))))) f = cc
-no_grounding rule (inr (inr (inr (inr (inr (inr (inr (inr (inl e))))))))) f = cc
-no_grounding rule (inr (inr (inr (inr (inr (inr (inr (inr (inr (inl e)))))))))) f = cc
-no_grounding rule (inr (inr (inr (inr (inr (inr (inr (inr (inr (inr i)))))))))) f = absurd i
 
 pub not_grounding : (s : State) (commands : List Command) (step : ℕ) (b : Broken) → broken s commands step ≡ Some b
     → b.rule ≡ Ungrounded → ⊥

@@ -22,6 +22,7 @@ use Rattle.nano_spec.specs.Volatile.{is_volatile_of}
 use Rattle.nano_spec.specs.Work.{Levels, WorkOfActs, WorkOfJudged, WorkOfStep, changed_count, differing, volatile_count, volatile_total, without_voided, work_by_rule}
 use Rattle.support_forest.proofs.Counts.{count_le}
 use Rattle.step_order.proofs.Facts.{IsGood, good_is}
+use Rattle.step_order.proofs.JudgedRules.{no_end}
 use Rattle.step_order.proofs.Lists.{In, both, filter_in, in_any, in_either, in_filter, not_both}
 use Rattle.step_order.proofs.Together.{with_itself}
 use Rattle.step_order.proofs.Voxels.{full_where, in_coordinates}
@@ -134,19 +135,6 @@ module _ (s : State) (commands : List Command) (step : ℕ) (ready : IsReady s) 
       omega (arith, lost, won, length_is, same_length, changes_bound, l, w.1)
 
 -- ---- a step that is broken at its start
-
-no_end : (rule : Rule) → In rule rules_of_bots → rule ≡ TraceEnds → ⊥
-no_end rule (inl e) f = cc
-no_end rule (inr (inl e)) f = cc
-no_end rule (inr (inr (inl e))) f = cc
-no_end rule (inr (inr (inr (inl e)))) f = cc
-no_end rule (inr (inr (inr (inr (inl e))))) f = cc
-no_end rule (inr (inr (inr (inr (inr (inl e)))))) f = cc
-no_end rule (inr (inr (inr (inr (inr (inr (inl e))))))) f = cc
-no_end rule (inr (inr (inr (inr (inr (inr (inr (inl e)))))))) f = cc
-no_end rule (inr (inr (inr (inr (inr (inr (inr (inr (inl e))))))))) f = cc
-no_end rule (inr (inr (inr (inr (inr (inr (inr (inr (inr (inl e)))))))))) f = cc
-no_end rule (inr (inr (inr (inr (inr (inr (inr (inr (inr (inr i)))))))))) f = absurd i
 
 -- the trace ends within the step only where a bot has no command
 ends_early : (s : State) (commands : List Command) (step : ℕ) (b : Broken) → broken s commands step ≡ Some b

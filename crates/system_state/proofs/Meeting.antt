@@ -18,6 +18,7 @@ use Rattle.bot_crew.specs.Crew.{bot_at, bot_of, stands_at}
 use Rattle.bot_crew.proofs.Heirs.{found_in, stood}
 use Rattle.step_order.proofs.Lists.{In, all_in}
 use Rattle.system_state.specs.Effects.{IsFreeFor}
+use Rattle.step_order.proofs.JudgedRules.{out_of_space_is_judged, seeds_are_judged}
 
 -- ---- what is known of a group in the state that it meets
 
@@ -38,10 +39,10 @@ module _ (t : State) (group : List Act) (keeps : keeps_rules t group ≡ true) (
   is_there = both_of.0
 
   pub stays : stays_in_space t.matrix.resolution a ≡ true
-  stays = not_is_false (stays_in_space t.matrix.resolution a) (here_false a (not (stays_in_space t.matrix.resolution a)) (kept_rule OutOfSpace (inr (inr (inr (inr (inl refl)))))))
+  stays = not_is_false (stays_in_space t.matrix.resolution a) (here_false a (not (stays_in_space t.matrix.resolution a)) (kept_rule OutOfSpace out_of_space_is_judged))
 
   pub seeded : lacks_seeds (seed_list a.bot.seeds) a.command ≡ false
-  seeded = here_false a (lacks_seeds (seed_list a.bot.seeds) a.command) (kept_rule Seeds (inr (inr (inr (inr (inr (inr (inl refl))))))))
+  seeded = here_false a (lacks_seeds (seed_list a.bot.seeds) a.command) (kept_rule Seeds seeds_are_judged)
 
   pub halts_alone : a.command ≡ Halt → nat_lt 1 (length t.bots) ≡ false
   halts_alone e = sym (ap (λ c. is_halt c && nat_lt 1 (length t.bots)) e) ∙ here_false a (is_halt a.command && nat_lt 1 (length t.bots)) (kept_rule HaltAlone (inr (inl refl)))

@@ -20,6 +20,7 @@ use Rattle.step_order.proofs.Groups.{differ_acts, filter_only}
 use Rattle.step_order.proofs.Lists.{In, all_in, any_in, filter_in, in_filter, in_map, not_both}
 use Rattle.step_order.proofs.Together.{Together, itself, partners, shares, is_together, one_partner, together_is}
 use Rattle.step_order.proofs.Kin.{not_itself}
+use Rattle.step_order.proofs.JudgedRules.{partner_is_judged}
 
 -- two bots of a group command
 abbrev pub is_group : Command → Bool
@@ -97,7 +98,7 @@ module _ (s : State) (all : List Act) (good : IsGood s all) (l : Act) (leads : I
           back false e = cc
 
       partner_is : list_any (are_partners l) all ≡ true
-      partner_is = stays (sym (ap (λ b. b && not (list_any (are_partners l) all)) h) ∙ here_false l (is_fusion l.command && not (list_any (are_partners l) all)) (good.keeps l Partner leader_in (inr (inr (inr (inr (inr (inr (inr (inr (inl refl)))))))))))
+      partner_is = stays (sym (ap (λ b. b && not (list_any (are_partners l) all)) h) ∙ here_false l (is_fusion l.command && not (list_any (are_partners l) all)) (good.keeps l Partner leader_in partner_is_judged))
 
       apart : (b : Act) → In b all → are_partners l b ≡ true → l.bot.bid ≡ b.bot.bid → ⊥
       apart b i e k = same (one_of_two (is_pair l l) (is_pair l l) (ap (are_partners l) (good.apart.bids l b leader_in i k) ∙ e))
