@@ -22,5 +22,5 @@ pub use deed::{Deed, deed_of};
 pub use groups::{Group, Groups, judge_groups};
 pub use leading::leaders;
 pub use numbers::number_groups;
-pub use single::{judge_edit, judge_move, judge_single, moves_at_once};
+pub use single::{edit, judge_edit, judge_move, judge_single, moves_at_once};
 pub use step::Step;

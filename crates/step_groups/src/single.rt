@@ -110,9 +110,9 @@ pub fn judge_edit(
     }
 }
 
-/// The command that fills, or else voids.
+/// The command that fills, or else voids, the voxel at the difference.
 #[inline(always)]
-fn edit(d: Near, full: bool) -> Command
+pub fn edit(d: Near, full: bool) -> Command
     ensures { result ≡ edit_of full d }
 {
     if full {

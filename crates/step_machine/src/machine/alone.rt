@@ -16,6 +16,7 @@ use super::{Machine, StepFault, recall_step};
 use crate::support::{settle_at_once, settle_one};
 use nano_spec::{Command, Harmonics};
 use std::sync::ledger::Ledger;
+use step_groups::edit;
 use vox_geom::{Long, Near, Steps};
 
 /// What a try to make a step came to: it is made, or refused, or to be made as every other, and then nothing is changed.
@@ -290,17 +291,5 @@ impl Machine {
             }
             _ => Tried::Declined,
         }
-    }
-}
-
-/// The command that fills, or else voids.
-#[inline(always)]
-fn edit(d: Near, full: bool) -> Command
-    ensures { result ≡ edit_of full d }
-{
-    if full {
-        Command::Fill(d)
-    } else {
-        Command::Void(d)
     }
 }
