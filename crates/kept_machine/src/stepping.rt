@@ -51,28 +51,6 @@ pub(crate) fn start_over<L: Ledger>(
     }
 }
 
-/// Another machine in the state of the one that is given.
-fn anew<L: Ledger>(
-    alloc: Global,
-    machine: &Machine,
-    steps: &mut Steps<L>,
-) -> Result<Machine, Memory>
-    requires { IsWellFormed machine.now.state }
-    ensures { IfOk result (λ m. m ≡ record machine.now { spent = false }) }
-{
-    let matrix = machine.matrix().copy(alloc)?;
-    Machine::at(
-        alloc,
-        matrix,
-        machine.crew().copy(),
-        machine.harmonics(),
-        machine.energy(),
-        machine.steps_done(),
-        machine.profile(),
-        steps,
-    )
-}
-
 /// Another machine in the state of the one that is given, and room for as many notes.
 pub(crate) fn copy_of<L: Ledger>(
     alloc: Global,
@@ -88,7 +66,7 @@ pub(crate) fn copy_of<L: Ledger>(
     ensures notes { IfOk result (λ made. made.1 ≡ buffer [] room) }
 {
     let mut steps = Steps::<L>::new(blank);
-    let copy = anew(alloc, machine, &mut steps)?;
+    let copy = machine.anew(alloc, &mut steps)?;
     match HeapCircularBuffer::with_capacity(alloc, room) {
         Ok(notes) => Ok((copy, notes)),
         Err(_) => Err(Memory),
@@ -108,7 +86,7 @@ pub(crate) fn stand_again<L: Ledger>(
     if !machine.spent() {
         return Ok(());
     }
-    let made = anew(alloc, machine, steps)?;
+    let made = machine.anew(alloc, steps)?;
     *machine = made;
     Ok(())
 }

@@ -6,7 +6,6 @@ pub mod Notes
 pub mod Ordering
 pub mod Restoring
 pub mod Returning
-pub mod Standing
 pub mod TouchedBack
 pub mod TouchedOn
 pub mod Trying

@@ -62,29 +62,6 @@ pub(crate) fn place_of(bids: &[u8], bid: u8) -> Option<usize>
     None
 }
 
-/// Another machine in the state of the one that is given.
-pub(crate) fn anew<L: Ledger>(
-    alloc: Global,
-    machine: &Machine,
-    steps: &mut Steps<L>,
-) -> Result<Machine, Memory>
-    requires { IsWellFormed machine.now.state }
-    ensures value { IfOk result (λ m. m ≡ record machine.now { spent = false }) }
-    ensures touches { IfOk result (λ _. steps.new ≤ steps.old + 91 * volume machine.now.state.matrix.resolution) }
-{
-    let matrix = machine.matrix().copy(alloc)?;
-    Machine::at(
-        alloc,
-        matrix,
-        machine.crew().copy(),
-        machine.harmonics(),
-        machine.energy(),
-        machine.steps_done(),
-        machine.profile(),
-        steps,
-    )
-}
-
 /// The machine is made anew in its state. For want of memory it stays. In a function of its own a machine is dropped at one place.
 pub(crate) fn renew<L: Ledger>(
     alloc: Global,
@@ -96,7 +73,7 @@ pub(crate) fn renew<L: Ledger>(
     ensures stays { IfErr result (λ _. machine.new ≡ machine.old) }
     ensures touches { IfOk result (λ _. steps.new ≤ steps.old + 91 * volume machine.old.state.matrix.resolution) }
 {
-    let made = anew(alloc, machine, steps)?;
+    let made = machine.anew(alloc, steps)?;
     *machine = made;
     Ok(())
 }

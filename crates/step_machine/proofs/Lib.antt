@@ -11,6 +11,7 @@ pub mod Reaching
 pub mod Refitting
 pub mod Regions
 pub mod Sizes
+mod Standing
 pub mod Stepping
 pub mod Turning
 pub mod Weighing

@@ -177,6 +177,25 @@ impl Machine {
         })
     }
 
+    /// Another machine in the state of this one, after as many steps, which is not spent. At most 91 touches for each voxel.
+    pub fn anew<L: Ledger>(&self, alloc: Global, steps: &mut Steps<L>) -> Result<Machine, Memory>
+        requires { IsWellFormed self.now.state }
+        ensures value { IfOk result (λ m. m ≡ record self.now { spent = false }) }
+        ensures touches { IfOk result (λ _. steps.new ≤ steps.old + 91 * volume self.now.state.matrix.resolution) }
+    {
+        let matrix = self.matrix().copy(alloc)?;
+        Machine::at(
+            alloc,
+            matrix,
+            self.crew().copy(),
+            self.harmonics(),
+            self.energy(),
+            self.steps_done(),
+            self.profile(),
+            steps,
+        )
+    }
+
     /// One step: the i-th command is for the i-th bot. Memory may be refused only where some command fills or voids.
     pub fn step<L: Ledger>(
         &mut self,
