@@ -1,5 +1,5 @@
 //! How the pair writes: one voxel by one bot, or the voxels of a row by both.
-ghost use Rattle.std.specs.Prelude.{◌≡◌, ◌≢◌, ◌+◌, ◌-◌, ◌<◌, ◌≤◌, OnOk, pos, neg_ℤ, ◌≤ℤ◌, ◌-ℤ◌};
+ghost use Rattle.std.specs.Prelude.{◌≡◌, ◌≢◌, ◌+◌, ◌-◌, ◌<◌, ◌≤◌, OnOk, pos, ◌-ℤ◌};
 ghost use Rattle.vox_geom.specs.declared.TheConstants.{MOST_R};
 ghost use Rattle.group_planner.specs.Pair.{IsPair, Sets, front as front_of, rear as rear_of};
 ghost use Rattle.group_planner.specs.Stamping.{WritesRun, most_work, work_at};
@@ -7,23 +7,9 @@ ghost use Rattle.group_planner.specs.Writing.{ahead, all_below as all_below_of, 
 
 use crate::pair::{front, front_goes, rear, rear_goes, spread};
 use nano_spec::Command;
-use plan_tape::Tape;
+use plan_tape::{Tape, signed_gap};
 use step_order::bots_act;
 use vox_geom::{Diff, Far, Memory, Near};
-
-/// What leads along z from one end of a run to the other.
-fn gap(from: u16, to: u16) -> i16
-    requires differ { from ≢ to }
-    requires from { from ≤ MOST_R }
-    requires to { to ≤ MOST_R }
-    requires near { (to ≤ from + 30) × (from ≤ to + 30) }
-    ensures value { result ≡ pos to -ℤ pos from }
-    ensures some { result ≢ pos 0 }
-    ensures low { neg_ℤ (pos 30) ≤ℤ result }
-    ensures high { result ≤ℤ pos 30 }
-{
-    to as i16 - from as i16
-}
 
 /// The difference along z from one end of a run to the other.
 fn across(from: u16, to: u16) -> Far
@@ -33,7 +19,7 @@ fn across(from: u16, to: u16) -> Far
     requires near { (to ≤ from + 30) × (from ≤ to + 30) }
     ensures { result ≡ ahead (pos to -ℤ pos from) }
 {
-    let dz = gap(from, to);
+    let dz = signed_gap(from, to);
     let Some(far) = Far::of(Diff { dx: 0, dy: 0, dz }) else {
         unreachable!()
     };

@@ -100,17 +100,12 @@ pub fn next_stop(at: u16, to: u16) -> u16
 }
 
 /// What leads from one component to another.
-fn step(at: u16, next: u16) -> i16
-    requires differ { at ≢ next }
-    requires at { at ≤ MOST_R }
-    requires next { next ≤ MOST_R }
-    requires near { (next ≤ at + 15) × (at ≤ next + 15) }
-    ensures value { result ≡ pos next -ℤ pos at }
-    ensures some { result ≢ pos 0 }
-    ensures low { neg_ℤ (pos 15) ≤ℤ result }
-    ensures high { result ≤ℤ pos 15 }
+pub fn signed_gap(from: u16, to: u16) -> i16
+    requires from { from ≤ MOST_R }
+    requires to { to ≤ MOST_R }
+    ensures { result ≡ pos to -ℤ pos from }
 {
-    next as i16 - at as i16
+    to as i16 - from as i16
 }
 
 /// The difference along an axis.
@@ -137,7 +132,7 @@ pub fn towards(axis: Axis, at: u16, next: u16) -> Long
     requires near { (next ≤ at + 15) × (at ≤ next + 15) }
     ensures { result ≡ along axis (pos next -ℤ pos at) }
 {
-    let Some(long) = Long::of(difference(axis, step(at, next))) else {
+    let Some(long) = Long::of(difference(axis, signed_gap(at, next))) else {
         unreachable!()
     };
     long

@@ -12,7 +12,7 @@ mod laws;
 mod several;
 mod tape;
 
-pub use axis::{Axis, ahead, behind, component, next_stop, towards, with_component};
+pub use axis::{Axis, ahead, behind, component, next_stop, signed_gap, towards, with_component};
 pub use difference::lowest_difference;
 pub use frame::{close, rise};
 pub use halting::halt_alone;
