@@ -1,6 +1,6 @@
 -- What a step leaves in which the last two bots of a line fuse.
-use Rattle.std.proofs.Common.{◌≡◌, ℕ, suc, ◌+◌, ◌-◌, ◌<◌, ◌≤◌, refl, sym, ◌∙◌, ap, subst, inl, inr, arith, true, ◌&&◌, List, [], ◌∷◌, ◌++◌, length, replicate, append_assoc}
-use Rattle.std.specs.Prelude.{pos, IsTrue, flat_map}
+use Rattle.std.proofs.Common.{◌≡◌, ℕ, suc, ◌+◌, ◌<◌, ◌≤◌, refl, sym, ◌∙◌, ap, subst, inl, inr, arith, true, ◌&&◌, List, [], ◌∷◌, ◌++◌, length}
+use Rattle.std.specs.Prelude.{IsTrue, flat_map}
 use Rattle.std.specs.List.{AllByRecursion, Contains}
 use Rattle.vox_geom.specs.declared.coordinate.Coord.{Coord}
 use Rattle.vox_geom.specs.Point.{Point, plus, point, same_point}
@@ -26,7 +26,6 @@ use Rattle.swarm_planner.specs.Crew.{places}
 use Rattle.swarm_planner.specs.Lineup.{AreLined, InLine, next_along_x, free_column, without_last, last_column, left, pair_ends, right}
 use Rattle.swarm_planner.proofs.Fences.{AreFenced, untangled}
 use Rattle.swarm_planner.proofs.Filling.{just_in}
-use Rattle.swarm_planner.proofs.Lines.{waits_then_two}
 use Rattle.swarm_planner.proofs.Splitting.{right_is}
 
 -- ---- two bots side by side
@@ -163,15 +162,6 @@ fused_places : (bots : List Bot) (r y z low : ℕ)
     → last_column (places bots) ≡ free_column low (places bots)
     → places (bots_fused bots (pair_ends (FusionP right) (FusionS left) bots)) ≡ without_last (places bots)
 fused_places bots r y z low law k e = ap places (become (acts bots (pair_ends (FusionP right) (FusionS left) bots)) law bots r y z low (λ a i. i) k e) ∙ places_merged bots
-
--- the commands by what is read of the tape
-pub pair_ends_are : (bots read : List Bot) (waits first ks : List Command) (k l : Command) → read ≡ bots
-    → 1 < length bots → waits ≡ replicate (length read - 2) Wait → first ≡ waits ++ k ∷ [] → ks ≡ first ++ l ∷ []
-    → ks ≡ pair_ends k l bots
-pair_ends_are bots read waits first ks k l eb two ew ef ek =
-    ek ∙ (ap (λ w. w ++ l ∷ []) ef
-    ∙ (append_assoc waits (k ∷ []) (l ∷ [])
-    ∙ (ap (λ w. w ++ k ∷ l ∷ []) (ew ∙ ap (λ (bs : List Bot). replicate (length bs - 2) Wait) eb) ∙ waits_then_two k l bots two)))
 
 -- ---- the tape
 

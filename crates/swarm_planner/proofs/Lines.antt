@@ -1,6 +1,7 @@
 -- Lines of places, and bots of which the last goes along the line.
-use Rattle.std.proofs.Common.{◌≡◌, ℕ, suc, ◌+◌, ◌-◌, ◌<◌, ◌≤◌, refl, sym, ◌∙◌, ap, subst, arith, cond, max, List, [], ◌∷◌, ◌++◌, length, get_or, replicate}
+use Rattle.std.proofs.Common.{◌≡◌, ℕ, suc, ◌+◌, ◌-◌, ◌<◌, ◌≤◌, refl, sym, ◌∙◌, ap, subst, arith, cond, max, List, [], ◌∷◌, ◌++◌, length, get_or, replicate, slice_set, take, append_assoc}
 use Rattle.std.specs.Prelude.{pos, ◌-ℤ◌}
+use Rattle.std.proofs.lemmas.List.{length-replicate, length-set, take-replicate, take_more_set}
 use Rattle.vox_geom.specs.declared.coordinate.Coord.{Coord}
 use Rattle.vox_geom.specs.declared.difference.Diff.{Diff}
 use Rattle.nano_spec.specs.declared.commands.Command.{Command}
@@ -144,10 +145,45 @@ last_at (b ∷ c ∷ more) d h =
     ap (λ k. (get_or (b ∷ c ∷ more) k d).pos.x) same_length ∙ last_at (c ∷ more) d (omega arith)
 
 -- the commands by which the last bot goes to a column
-pub last_led : (bots read : List Bot) (waits ks : List Command) (d : Diff) (at x : ℕ) → read ≡ bots → 0 < length bots
-    → waits ≡ replicate (length read - 1) Wait → at ≡ last_column (places bots) → d ≡ along X (pos x -ℤ pos at)
-    → ks ≡ waits ++ SMove d ∷ [] → (last_column (places bots) ≡ x → ⊥) → ks ≡ led X bots (sent (places bots) x)
-last_led bots read waits ks d at x eb some ew ea ed ek differ =
-    let waits_is : waits ≡ replicate (length bots - 1) Wait = ew ∙ ap (λ (bs : List Bot). replicate (length bs - 1) Wait) eb in
+-- ---- commands among Waits
+
+-- so many Waits, and the command that was put behind them
+put_behind : (waits : List Command) (n : ℕ) (k : Command) → waits ≡ replicate 40 Wait → n < 40
+    → take (n + 1) (slice_set waits n k) ≡ replicate n Wait ++ k ∷ []
+put_behind waits n k e l =
+    let length_is : length waits ≡ 40 = ap length e ∙ length-replicate 40 Wait in
+    take_more_set waits n k (omega arith) ∙ ap (λ ks. ks ++ k ∷ []) (ap (take n) e ∙ take-replicate n 40 Wait (omega arith))
+
+-- all wait but the last
+pub ends_are : (bots read : List Bot) (waits : List Command) (k : Command) → read ≡ bots → 0 < length bots
+    → length bots ≤ 40 → waits ≡ replicate 40 Wait
+    → take (length read - 1 + 1) (slice_set waits (length read - 1) k) ≡ ends k bots
+ends_are bots read waits k eb some few ew =
+    let same_length = ap length eb in
+    put_behind waits (length read - 1) k ew (omega arith)
+    ∙ (ap (λ (bs : List Bot). replicate (length bs - 1) Wait ++ k ∷ []) eb ∙ waits_then k bots some)
+
+-- all wait but the last two
+pub pair_ends_are : (bots read : List Bot) (waits : List Command) (k l : Command) → read ≡ bots → 1 < length bots
+    → length bots ≤ 40 → waits ≡ replicate 40 Wait
+    → take (length read - 1 + 1) (slice_set (slice_set waits (length read - 1 - 1) k) (length read - 1) l)
+    ≡ pair_ends k l bots
+pair_ends_are bots read waits k l eb two few ew =
+    let same_length = ap length eb in
+    let length_is : length waits ≡ 40 = ap length ew ∙ length-replicate 40 Wait in
+    let length_kept = length-set waits (length read - 1 - 1) k in
+    let one_more : length read - 1 ≡ length read - 1 - 1 + 1 = omega arith in
+    let before_both : length read - 1 - 1 ≡ length bots - 2 = omega arith in
+    take_more_set (slice_set waits (length read - 1 - 1) k) (length read - 1) l (omega arith)
+    ∙ (ap (λ ks. ks ++ l ∷ []) (ap (λ n. take n (slice_set waits (length read - 1 - 1) k)) one_more ∙ put_behind waits (length read - 1 - 1) k ew (omega arith))
+    ∙ (append_assoc (replicate (length read - 1 - 1) Wait) (k ∷ []) (l ∷ [])
+    ∙ (ap (λ n. replicate n Wait ++ k ∷ l ∷ []) before_both ∙ waits_then_two k l bots two)))
+
+-- all wait but the last, which goes along x
+pub last_led : (bots read : List Bot) (waits : List Command) (d : Diff) (at x : ℕ) → read ≡ bots → 0 < length bots
+    → length bots ≤ 40 → waits ≡ replicate 40 Wait → at ≡ last_column (places bots) → d ≡ along X (pos x -ℤ pos at)
+    → (last_column (places bots) ≡ x → ⊥)
+    → take (length read - 1 + 1) (slice_set waits (length read - 1) (SMove d)) ≡ led X bots (sent (places bots) x)
+last_led bots read waits d at x eb some few ew ea ed differ =
     let d_is : d ≡ along X (pos x -ℤ pos (last_column (places bots))) = ed ∙ ap (λ v. along X (pos x -ℤ pos v)) ea in
-    ek ∙ ((λ i. waits_is i ++ SMove (d_is i) ∷ []) ∙ (waits_then (SMove (along X (pos x -ℤ pos (last_column (places bots))))) bots some ∙ ends_led bots x differ))
+    ends_are bots read waits (SMove d) eb some few ew ∙ (ap (λ v. ends (SMove v) bots) d_is ∙ ends_led bots x differ)

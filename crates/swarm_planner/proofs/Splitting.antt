@@ -1,6 +1,6 @@
 -- What a step leaves in which the last bot of a line splits.
-use Rattle.std.proofs.Common.{◌≡◌, ℕ, zero, suc, ◌+◌, ◌-◌, ◌<◌, ◌≤◌, refl, sym, ◌∙◌, ap, subst, inl, inr, ◌⊎◌, arith, true, List, [], ◌∷◌, ◌++◌, length, take, drop, replicate}
-use Rattle.std.specs.Prelude.{pos, IsTrue, flat_map, slice_index}
+use Rattle.std.proofs.Common.{◌≡◌, ℕ, zero, suc, ◌+◌, ◌-◌, ◌<◌, ◌≤◌, refl, sym, ◌∙◌, ap, subst, inl, inr, ◌⊎◌, arith, true, List, [], ◌∷◌, length, take, drop}
+use Rattle.std.specs.Prelude.{IsTrue, flat_map, slice_index}
 use Rattle.std.specs.List.{AllByRecursion}
 use Rattle.vox_geom.specs.declared.coordinate.Coord.{Coord}
 use Rattle.vox_geom.specs.Point.{plus, point}
@@ -27,7 +27,6 @@ use Rattle.swarm_planner.specs.Crew.{IsSwarm, places}
 use Rattle.swarm_planner.specs.Lineup.{AreLined, InLine, Regroups, next_along_x, ends, last_column, lined_up, right, seeds_after, split}
 use Rattle.swarm_planner.proofs.Fences.{AreFenced, untangled}
 use Rattle.swarm_planner.proofs.Filling.{just_in}
-use Rattle.swarm_planner.proofs.Lines.{waits_then}
 use Rattle.swarm_planner.proofs.Rows.{length-places}
 
 -- ---- the place beside
@@ -209,11 +208,6 @@ pub places-lined_up : (bid : ℕ) (cs : List Coord) → places (lined_up bid cs)
 places-lined_up bid [] = refl
 places-lined_up bid (c ∷ []) = refl
 places-lined_up bid (c ∷ d ∷ more) = ap (λ ds. c ∷ ds) (places-lined_up (bid + 1) (d ∷ more))
-
--- the commands by what is read of the tape
-pub ends_are : (bots read : List Bot) (waits ks : List Command) (k : Command) → read ≡ bots → 0 < length bots
-    → waits ≡ replicate (length read - 1) Wait → ks ≡ waits ++ k ∷ [] → ks ≡ ends k bots
-ends_are bots read waits ks k eb some ew ek = ek ∙ (ap (λ w. w ++ k ∷ []) (ew ∙ ap (λ (bs : List Bot). replicate (length bs - 1) Wait) eb) ∙ waits_then k bots some)
 
 -- ---- the tape
 

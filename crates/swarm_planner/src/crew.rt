@@ -10,11 +10,10 @@ use crate::paint::{first_place, go};
 use crate::steps::{fuse_last, last_column, move_last, split_last};
 use crate::strips::{strip_count, strip_width};
 use plan_tape::{Tape, next_stop};
-use std::alloc::Global;
 use vox_geom::{Coord, Memory};
 
 /// The last bot goes along x, past the others, by the fewest moves.
-fn send_last(alloc: Global, tape: &mut Tape, to: u16) -> Result<(), Memory>
+fn send_last(tape: &mut Tape, to: u16) -> Result<(), Memory>
     requires line { InLine tape.old }
     requires free { free_column 1 (places tape.old.bots) ≤ to }
     requires within { to < tape.old.matrix.resolution }
@@ -26,13 +25,13 @@ fn send_last(alloc: Global, tape: &mut Tape, to: u16) -> Result<(), Memory>
     let mut at = last_column(tape);
     while at != to {
         at = next_stop(at, to);
-        move_last(alloc, tape, at)?;
+        move_last(tape, at)?;
     }
     Ok(())
 }
 
 /// The last bot splits, and the new bot goes to the first column of its strip.
-fn spread_one(alloc: Global, tape: &mut Tape, count: u16) -> Result<(), Memory>
+fn spread_one(tape: &mut Tape, count: u16) -> Result<(), Memory>
     requires spread { IsSpreadOver tape.old count }
     requires some { 1 ≤ count }
     requires more { count < count_of tape.old.matrix.resolution }
@@ -40,18 +39,18 @@ fn spread_one(alloc: Global, tape: &mut Tape, count: u16) -> Result<(), Memory>
     ensures { OnOk result (SpreadsOver tape.old tape.new (count + 1) 20) }
 {
     let to = last_column(tape) + strip_width(tape.matrix().resolution());
-    split_last(alloc, tape, (19 - count) as u8)?;
-    send_last(alloc, tape, to)
+    split_last(tape, (19 - count) as u8)?;
+    send_last(tape, to)
 }
 
 /// The bots split and spread, until there is one in the first column of each strip.
-pub fn spread(alloc: Global, tape: &mut Tape) -> Result<(), Memory>
+pub fn spread(tape: &mut Tape) -> Result<(), Memory>
     requires spread { IsSpreadOver tape.old 1 }
     requires limit { tape.old.steps + 400 ≤ 1073741824 }
     ensures { OnOk result (SpreadsOver tape.old tape.new (count_of tape.old.matrix.resolution) 400) }
 {
     for count in 1..strip_count(tape.matrix().resolution()) {
-        spread_one(alloc, tape, count)?;
+        spread_one(tape, count)?;
     }
     Ok(())
 }
@@ -67,7 +66,7 @@ fn free_place(tape: &Tape) -> u16
 }
 
 /// The last bot goes to the one before it, and fuses with it.
-fn gather_one(alloc: Global, tape: &mut Tape) -> Result<(), Memory>
+fn gather_one(tape: &mut Tape) -> Result<(), Memory>
     requires line { InLine tape.old }
     requires two { 2 ≤ length tape.old.bots }
     requires limit { tape.old.steps + gap (last_column_of (places tape.old.bots)) (free_column 1 (places tape.old.bots))
@@ -77,13 +76,13 @@ fn gather_one(alloc: Global, tape: &mut Tape) -> Result<(), Memory>
         (gap (last_column_of (places tape.old.bots)) (free_column 1 (places tape.old.bots)) + 1)) }
 {
     let to = free_place(tape);
-    send_last(alloc, tape, to)?;
-    fuse_last(alloc, tape)?;
+    send_last(tape, to)?;
+    fuse_last(tape)?;
     Ok(())
 }
 
 /// All bots go to z = 0, and fuse one after another.
-pub fn gather(alloc: Global, tape: &mut Tape) -> Result<(), Memory>
+pub fn gather(tape: &mut Tape) -> Result<(), Memory>
     requires swarm { IsSwarm tape.old }
     requires row { InRow tape.old }
     requires void { IsVoidFrom tape.old.matrix (spot tape.old.bots).y }
@@ -91,9 +90,9 @@ pub fn gather(alloc: Global, tape: &mut Tape) -> Result<(), Memory>
     ensures { OnOk result (HasGathered tape.old tape.new ((spot tape.old.bots).z + 420)) }
 {
     let at = first_place(tape);
-    go(alloc, tape, Coord { z: 0, ..at })?;
+    go(tape, Coord { z: 0, ..at })?;
     for _merged in 1..strip_count(tape.matrix().resolution()) {
-        gather_one(alloc, tape)?;
+        gather_one(tape)?;
     }
     Ok(())
 }

@@ -11,7 +11,6 @@ ghost use Rattle.vox_geom.specs.Point.{coord};
 use crate::steps::{fill_below, is_wanted, move_row};
 use crate::strips::{strip_count, strip_width};
 use plan_tape::{Axis, Tape, component, next_stop, with_component};
-use std::alloc::Global;
 use vox_geom::{Coord, Memory};
 use vox_planes::Planes;
 
@@ -25,7 +24,7 @@ pub fn first_place(tape: &Tape) -> Coord
 }
 
 /// The row goes along an axis, by the fewest moves.
-fn go_along(alloc: Global, tape: &mut Tape, axis: Axis, to: u16) -> Result<(), Memory>
+fn go_along(tape: &mut Tape, axis: Axis, to: u16) -> Result<(), Memory>
     requires swarm { IsSwarm tape.old }
     requires row { InRow tape.old }
     requires void { IsVoidFrom tape.old.matrix (spot tape.old.bots).y }
@@ -40,13 +39,13 @@ fn go_along(alloc: Global, tape: &mut Tape, axis: Axis, to: u16) -> Result<(), M
     let mut at = component(axis, from);
     while at != to {
         at = next_stop(at, to);
-        move_row(alloc, tape, axis, with_component(axis, from, at))?;
+        move_row(tape, axis, with_component(axis, from, at))?;
     }
     Ok(())
 }
 
 /// The row goes along x, then y, then z, so that the first bot comes there.
-pub fn go(alloc: Global, tape: &mut Tape, to: Coord) -> Result<(), Memory>
+pub fn go(tape: &mut Tape, to: Coord) -> Result<(), Memory>
     requires swarm { IsSwarm tape.old }
     requires row { InRow tape.old }
     requires void { IsVoidFrom tape.old.matrix (spot tape.old.bots).y }
@@ -55,9 +54,9 @@ pub fn go(alloc: Global, tape: &mut Tape, to: Coord) -> Result<(), Memory>
     requires limit { tape.old.steps + distance (spot tape.old.bots) to ≤ 1073741824 }
     ensures { OnOk result (RowGoes tape.old tape.new to (distance (spot tape.old.bots) to)) }
 {
-    go_along(alloc, tape, Axis::X, to.x)?;
-    go_along(alloc, tape, Axis::Y, to.y)?;
-    go_along(alloc, tape, Axis::Z, to.z)
+    go_along(tape, Axis::X, to.x)?;
+    go_along(tape, Axis::Y, to.y)?;
+    go_along(tape, Axis::Z, to.z)
 }
 
 /// Whether a bot has a voxel to fill, once the row has gone there.
@@ -83,14 +82,7 @@ fn has_wanted(tape: &Tape, target: &Planes, to: Coord) -> bool
 }
 
 /// Builds in all strips the voxel of y and z that the row meets where its first bot is at x.
-fn paint_cell(
-    alloc: Global,
-    tape: &mut Tape,
-    target: &Planes,
-    x: u16,
-    y: u16,
-    z: u16,
-) -> Result<(), Memory>
+fn paint_cell(tape: &mut Tape, target: &Planes, x: u16, y: u16, z: u16) -> Result<(), Memory>
     requires ready { CanFillLayer tape.old target.now y }
     requires first { 1 ≤ x }
     requires wide { x ≤ width tape.old.matrix.resolution }
@@ -104,12 +96,12 @@ fn paint_cell(
     if !has_wanted(tape, target, to) {
         return Ok(());
     }
-    go(alloc, tape, to)?;
-    fill_below(alloc, tape, target)
+    go(tape, to)?;
+    fill_below(tape, target)
 }
 
 /// Builds in all strips the line of y that the row meets where its first bot is at x.
-fn paint_line(alloc: Global, tape: &mut Tape, target: &Planes, x: u16, y: u16) -> Result<(), Memory>
+fn paint_line(tape: &mut Tape, target: &Planes, x: u16, y: u16) -> Result<(), Memory>
     requires ready { CanFillLayer tape.old target.now y }
     requires first { 1 ≤ x }
     requires wide { x ≤ width tape.old.matrix.resolution }
@@ -119,13 +111,13 @@ fn paint_line(alloc: Global, tape: &mut Tape, target: &Planes, x: u16, y: u16) -
         (coord x (y + 1) tape.old.matrix.resolution) (2 * tape.old.matrix.resolution)) }
 {
     for z in 0..target.resolution() {
-        paint_cell(alloc, tape, target, x, y, z)?;
+        paint_cell(tape, target, x, y, z)?;
     }
     Ok(())
 }
 
 /// Builds the layer of y.
-fn paint_layer(alloc: Global, tape: &mut Tape, target: &Planes, y: u16) -> Result<(), Memory>
+fn paint_layer(tape: &mut Tape, target: &Planes, y: u16) -> Result<(), Memory>
     requires ready { CanFillLayer tape.old target.now y }
     requires limit { crew_steps_to tape.old (coord 1 (y + 1) 0)
         + width tape.old.matrix.resolution * line_steps tape.old.matrix.resolution
@@ -137,13 +129,13 @@ fn paint_layer(alloc: Global, tape: &mut Tape, target: &Planes, y: u16) -> Resul
         (width tape.old.matrix.resolution * line_steps tape.old.matrix.resolution)) }
 {
     for x in 0..strip_width(target.resolution()) {
-        paint_line(alloc, tape, target, x + 1, y)?;
+        paint_line(tape, target, x + 1, y)?;
     }
     Ok(())
 }
 
 /// Builds all layers, from the floor up.
-pub fn build(alloc: Global, tape: &mut Tape, target: &Planes) -> Result<(), Memory>
+pub fn build(tape: &mut Tape, target: &Planes) -> Result<(), Memory>
     requires ready { CanBuild tape.old target.now }
     requires void { IsVoidFrom tape.old.matrix 0 }
     requires low { (spot tape.old.bots).y ≤ 1 }
@@ -156,7 +148,7 @@ pub fn build(alloc: Global, tape: &mut Tape, target: &Planes) -> Result<(), Memo
         ((tape.old.matrix.resolution - 1) * swarm_layer_steps tape.old.matrix.resolution)) }
 {
     for y in 0..target.resolution() - 1 {
-        paint_layer(alloc, tape, target, y)?;
+        paint_layer(tape, target, y)?;
     }
     Ok(())
 }

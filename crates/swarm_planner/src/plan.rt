@@ -30,7 +30,7 @@ fn open(alloc: Global, nothing: Planes) -> Result<Tape, Memory>
 }
 
 /// Spreads the crew, builds the target, and gathers the crew again.
-fn erect(alloc: Global, tape: &mut Tape, target: &Planes) -> Result<(), Memory>
+fn erect(tape: &mut Tape, target: &Planes) -> Result<(), Memory>
     requires opened { SwarmIsOpened tape.old tape.old.source }
     requires target { IsLegal target.now }
     requires same { target.now.resolution ≡ tape.old.source.resolution }
@@ -38,9 +38,9 @@ fn erect(alloc: Global, tape: &mut Tape, target: &Planes) -> Result<(), Memory>
     ensures erected { OnOk result (IsErected tape.new target.now) }
 {
     target.recall();
-    spread(alloc, tape)?;
-    build(alloc, tape, target)?;
-    gather(alloc, tape)?;
+    spread(tape)?;
+    build(tape, target)?;
+    gather(tape)?;
     tape.recall_whole();
     Ok(())
 }
@@ -62,7 +62,7 @@ fn plan_from(alloc: Global, nothing: Planes, target: &Planes) -> Result<Plan, Me
     nothing.recall();
     target.recall();
     let mut tape = open(alloc, nothing)?;
-    erect(alloc, &mut tape, target)?;
+    erect(&mut tape, target)?;
     close(tape)
 }
 

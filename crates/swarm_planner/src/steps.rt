@@ -1,6 +1,7 @@
 //! Steps of the crew.
 ghost use Rattle.std.specs.List.{AllByRecursion};
-ghost use Rattle.std.specs.Prelude.{◌≡◌, ◌-◌, ◌+◌, ◌++◌, ◌≤◌, ◌<◌, ◌≢◌, [], ◌∷◌, replicate, IfOk, OnErr, OnOk, length, vec_capacity, vec_len};
+ghost use Rattle.std.specs.Prelude.{◌≡◌, ◌-◌, ◌+◌, ◌≤◌, ◌<◌, ◌≢◌, OnOk, length, replicate, take};
+ghost use Rattle.bot_crew.specs.declared.crew.TheConstants.{MOST_BOTS};
 ghost use Rattle.plan_tape.specs.Leg.{component_of, gap};
 ghost use Rattle.plan_tape.specs.Progress.{spot, IsVoidFrom};
 ghost use Rattle.vox_geom.specs.Space.{IsInSpace};
@@ -9,20 +10,18 @@ ghost use Rattle.swarm_planner.specs.Crew.{AreAlong, AreNear, CrewGoes, InRow, I
 ghost use Rattle.swarm_planner.specs.Lineup.{InLine, Regroups, free_column, without_last, last_column as last_column_of, lined_up, sent, split};
 
 use crate::strips::strip_width;
+use bot_crew::MOST_BOTS;
 use nano_spec::{Bot, Command};
 use plan_tape::{Axis, Tape, ahead, behind, component, towards};
-use std::alloc::Global;
 use vox_geom::{Coord, Memory, Near};
 use vox_planes::Planes;
 use voxel_reads::is_full;
 
-/// Adds a command.
-fn put(commands: &mut Vec<Command>, command: Command) -> Result<(), Memory>
-    ensures { OnOk result (commands.new.items ≡ commands.old.items ++ command ∷ []) }
+/// As many Waits as a crew has bots at most, so that the commands of a step take no memory.
+fn waits() -> [Command; MOST_BOTS]
+    ensures { result ≡ replicate MOST_BOTS Command.Wait }
 {
-    commands.reserve(1)?;
-    commands.push_reserved(command);
-    Ok(())
+    [Command::Wait; MOST_BOTS]
 }
 
 /// The command that leads a bot along an axis from one place to another.
@@ -40,36 +39,29 @@ fn lead(axis: Axis, from: Coord, to: Coord) -> Command
 }
 
 /// The commands that lead bots along an axis to a row of places, the first of them there, each a width further along x, and
-/// none past the last column.
-fn leads(
-    alloc: Global,
-    bots: &[Bot],
-    axis: Axis,
-    to: Coord,
-    width: u16,
-    last: u16,
-) -> Result<Vec<Command>, Memory>
+/// none past the last column. Waits are behind them.
+fn leads(bots: &[Bot], axis: Axis, to: Coord, width: u16, last: u16) -> [Command; MOST_BOTS]
     requires near { AreNear axis width last bots.now to }
-    requires few { length bots.now ≤ 40 }
+    requires few { length bots.now ≤ MOST_BOTS }
     requires first { to.x ≤ 400 }
     requires narrow { width ≤ 20 }
-    ensures { IfOk result (λ commands. commands.items ≡ row_led axis width last bots.now to) }
+    ensures { take (length bots.now) result ≡ row_led axis width last bots.now to }
 {
-    let mut commands = Vec::new(alloc);
+    let mut commands = waits();
     let mut x = to.x;
-    for bot in bots {
+    for i in 0..bots.len() {
         let place = Coord {
             x: x.min(last),
             ..to
         };
-        put(&mut commands, lead(axis, bot.pos, place))?;
+        commands[i] = lead(axis, bots[i].pos, place);
         x += width;
     }
-    Ok(commands)
+    commands
 }
 
 /// All bots of the row go along an axis.
-pub fn move_row(alloc: Global, tape: &mut Tape, axis: Axis, to: Coord) -> Result<(), Memory>
+pub fn move_row(tape: &mut Tape, axis: Axis, to: Coord) -> Result<(), Memory>
     requires swarm { IsSwarm tape.old }
     requires row { InRow tape.old }
     requires void { IsVoidFrom tape.old.matrix (spot tape.old.bots).y }
@@ -81,19 +73,10 @@ pub fn move_row(alloc: Global, tape: &mut Tape, axis: Axis, to: Coord) -> Result
     ensures { OnOk result (RowGoes tape.old tape.new to 1) }
 {
     let r = tape.matrix().resolution();
-    let commands = leads(alloc, tape.crew().bots(), axis, to, strip_width(r), r - 2)?;
-    tape.move_all(&commands)
-}
-
-/// So many Waits.
-fn waits(alloc: Global, count: usize) -> Result<Vec<Command>, Memory>
-    ensures { IfOk result (λ commands. commands.items ≡ replicate count Command.Wait) }
-{
-    let mut commands = Vec::new(alloc);
-    for _done in 0..count {
-        put(&mut commands, Command::Wait)?;
-    }
-    Ok(commands)
+    let bots = tape.crew().bots();
+    let count = bots.len();
+    let commands = leads(bots, axis, to, strip_width(r), r - 2);
+    tape.move_all(&commands[..count])
 }
 
 /// Where the last bot is.
@@ -107,7 +90,7 @@ pub fn last_column(tape: &Tape) -> u16
 }
 
 /// The last bot goes along x, past the others, and they wait.
-pub fn move_last(alloc: Global, tape: &mut Tape, to: u16) -> Result<(), Memory>
+pub fn move_last(tape: &mut Tape, to: u16) -> Result<(), Memory>
     requires line { InLine tape.old }
     requires free { free_column 1 (places tape.old.bots) ≤ to }
     requires within { to < tape.old.matrix.resolution }
@@ -117,9 +100,10 @@ pub fn move_last(alloc: Global, tape: &mut Tape, to: u16) -> Result<(), Memory>
     ensures { OnOk result (CrewGoes tape.old tape.new (sent (places tape.old.bots) to) 1) }
 {
     let at = last_column(tape);
-    let mut commands = waits(alloc, tape.crew().bots().len() - 1)?;
-    put(&mut commands, Command::SMove(towards(Axis::X, at, to)))?;
-    tape.move_all(&commands)
+    let last = tape.crew().bots().len() - 1;
+    let mut commands = waits();
+    commands[last] = Command::SMove(towards(Axis::X, at, to));
+    tape.move_all(&commands[..last + 1])
 }
 
 /// Whether the voxel below a place is full in the target and not yet here.
@@ -136,31 +120,28 @@ pub fn is_wanted(planes: &Planes, target: &Planes, place: Coord) -> bool
     is_full(target, below) && !is_full(planes, below)
 }
 
-/// The commands by which each bot fills the voxel below it, where it is wanted, and waits elsewhere.
-fn fills(
-    alloc: Global,
-    bots: &[Bot],
-    planes: &Planes,
-    target: &Planes,
-) -> Result<Vec<Command>, Memory>
+/// The commands by which each bot fills the voxel below it, where it is wanted, and waits elsewhere. Waits are behind
+/// them.
+fn fills(bots: &[Bot], planes: &Planes, target: &Planes) -> [Command; MOST_BOTS]
+    requires few { length bots.now ≤ MOST_BOTS }
     requires same { target.now.resolution ≡ planes.now.resolution }
     requires within { AllByRecursion (λ b. IsInSpace planes.now.resolution b.pos × (1 ≤ b.pos.y)) bots.now }
-    ensures { IfOk result (λ commands. commands.items ≡ fills_of planes.now target.now bots.now) }
+    ensures { take (length bots.now) result ≡ fills_of planes.now target.now bots.now }
 {
-    let mut commands = Vec::new(alloc);
-    for bot in bots {
-        let command = if is_wanted(planes, target, bot.pos) {
+    let mut commands = waits();
+    for i in 0..bots.len() {
+        let command = if is_wanted(planes, target, bots[i].pos) {
             Command::Fill(Near::down())
         } else {
             Command::Wait
         };
-        put(&mut commands, command)?;
+        commands[i] = command;
     }
-    Ok(commands)
+    commands
 }
 
 /// Each bot fills the voxel below it, where it is wanted.
-pub fn fill_below(alloc: Global, tape: &mut Tape, target: &Planes) -> Result<(), Memory>
+pub fn fill_below(tape: &mut Tape, target: &Planes) -> Result<(), Memory>
     requires swarm { IsSwarm tape.old }
     requires row { InRow tape.old }
     requires same { target.now.resolution ≡ tape.old.matrix.resolution }
@@ -168,12 +149,14 @@ pub fn fill_below(alloc: Global, tape: &mut Tape, target: &Planes) -> Result<(),
     requires limit { tape.old.steps < 1073741824 }
     ensures { OnOk result (Fills tape.old tape.new target.now) }
 {
-    let commands = fills(alloc, tape.crew().bots(), tape.matrix(), target)?;
-    tape.fill_all(&commands)
+    let bots = tape.crew().bots();
+    let count = bots.len();
+    let commands = fills(bots, tape.matrix(), target);
+    tape.fill_all(&commands[..count])
 }
 
 /// The last bot splits: the new bot is in the next column, and takes all seeds that are left.
-pub fn split_last(alloc: Global, tape: &mut Tape, seeds: u8) -> Result<(), Memory>
+pub fn split_last(tape: &mut Tape, seeds: u8) -> Result<(), Memory>
     requires line { InLine tape.old }
     requires bots { tape.old.bots ≡ lined_up 1 (places tape.old.bots) }
     requires seeds { seeds + 1 + length tape.old.bots ≡ 20 }
@@ -182,13 +165,14 @@ pub fn split_last(alloc: Global, tape: &mut Tape, seeds: u8) -> Result<(), Memor
     ensures regroups { OnOk result (Regroups tape.old tape.new) }
     ensures bots { OnOk result (tape.new.bots ≡ lined_up 1 (split (places tape.old.bots))) }
 {
-    let mut commands = waits(alloc, tape.crew().bots().len() - 1)?;
-    put(&mut commands, Command::Fission(ahead(Axis::X), seeds))?;
-    tape.split_all(&commands)
+    let last = tape.crew().bots().len() - 1;
+    let mut commands = waits();
+    commands[last] = Command::Fission(ahead(Axis::X), seeds);
+    tape.split_all(&commands[..last + 1])
 }
 
 /// The last bot fuses into the one before it.
-pub fn fuse_last(alloc: Global, tape: &mut Tape) -> Result<(), Memory>
+pub fn fuse_last(tape: &mut Tape) -> Result<(), Memory>
     requires line { InLine tape.old }
     requires two { 2 ≤ length tape.old.bots }
     requires beside { last_column_of (places tape.old.bots) ≡ free_column 1 (places tape.old.bots) }
@@ -196,8 +180,9 @@ pub fn fuse_last(alloc: Global, tape: &mut Tape) -> Result<(), Memory>
     ensures regroups { OnOk result (Regroups tape.old tape.new) }
     ensures places { OnOk result (places tape.new.bots ≡ without_last (places tape.old.bots)) }
 {
-    let mut commands = waits(alloc, tape.crew().bots().len() - 2)?;
-    put(&mut commands, Command::FusionP(ahead(Axis::X)))?;
-    put(&mut commands, Command::FusionS(behind(Axis::X)))?;
-    tape.fuse_all(&commands)
+    let last = tape.crew().bots().len() - 1;
+    let mut commands = waits();
+    commands[last - 1] = Command::FusionP(ahead(Axis::X));
+    commands[last] = Command::FusionS(behind(Axis::X));
+    tape.fuse_all(&commands[..last + 1])
 }

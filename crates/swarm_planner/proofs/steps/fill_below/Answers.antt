@@ -1,4 +1,4 @@
-use Rattle.std.proofs.Common.{◌≡◌, ◌≤◌, refl, sym, ◌∙◌, ap, subst, length, List}
+use Rattle.std.proofs.Common.{◌≡◌, ◌≤◌, refl, sym, ◌∙◌, ap, subst, length, take, List}
 use Rattle.std.specs.List.{AllByRecursion}
 use Rattle.std.proofs.lemmas.Result.{on_ok_weaker}
 use Rattle.vox_geom.specs.Space.{IsInSpace}
@@ -22,39 +22,39 @@ within : (m n : Matrix) (bots old : List Bot) → m ≡ n → bots ≡ old
     → AllByRecursion (λ b. IsInSpace m.resolution b.pos × (1 ≤ b.pos.y)) bots
 within m n bots old em eb h = subst (λ (k : Matrix). AllByRecursion (λ b. IsInSpace k.resolution b.pos × (1 ≤ b.pos.y)) bots) (sym em) (subst (λ (bs : List Bot). AllByRecursion (λ b. IsInSpace n.resolution b.pos × (1 ≤ b.pos.y)) bs) (sym eb) h)
 
-pub fills-requires-clause-within : goal.fills-requires-clause-within
-fills-requires-clause-within c =
+pub fills-commands-requires-clause-within : goal.fills-commands-requires-clause-within
+fills-commands-requires-clause-within c =
     let tape = c.args.tape.now in
-    within c.matrix.result.now tape.matrix c.bots.result.now tape.bots c.matrix.ensures.value (c.bots.ensures.value ∙ c.crew.ensures.value) (bots_within tape c.requires.swarm c.requires.row c.requires.up)
+    within c.matrix.result.now tape.matrix c.bots-bots.result.now tape.bots c.matrix.ensures.value (c.bots-bots.ensures.value ∙ c.crew.ensures.value) (bots_within tape c.requires.swarm c.requires.row c.requires.up)
 
 pub fill_all-requires-clause-commands : goal.fill_all-requires-clause-commands
 fill_all-requires-clause-commands c =
     let tape = c.args.tape.now in
-    ap length (c.deref.ensures.value ∙ (c.in_ok-commands.ensures ∙ are tape c.matrix.result.now c.args.target.now c.bots.result.now c.matrix.ensures.value (c.bots.ensures.value ∙ c.crew.ensures.value))) ∙ fills_length tape.matrix c.args.target.now tape.bots
+    ap length (c.fills-commands.ensures ∙ are tape c.matrix.result.now c.args.target.now c.bots-bots.result.now c.matrix.ensures.value (c.bots-bots.ensures.value ∙ c.crew.ensures.value)) ∙ fills_length tape.matrix c.args.target.now tape.bots
 
 pub fill_all-requires-clause-fills : goal.fill_all-requires-clause-fills
 fill_all-requires-clause-fills c =
     let tape = c.args.tape.now in
-    only_fills tape c.requires.swarm c.requires.row c.requires.up c.args.target.now c.deref.result.now
-    (c.deref.ensures.value ∙ (c.in_ok-commands.ensures ∙ are tape c.matrix.result.now c.args.target.now c.bots.result.now c.matrix.ensures.value (c.bots.ensures.value ∙ c.crew.ensures.value)))
+    only_fills tape c.requires.swarm c.requires.row c.requires.up c.args.target.now (take (length c.bots-bots.result.now) c.fills-commands.result)
+    (c.fills-commands.ensures ∙ are tape c.matrix.result.now c.args.target.now c.bots-bots.result.now c.matrix.ensures.value (c.bots-bots.ensures.value ∙ c.crew.ensures.value))
 
 pub fill_all-requires-clause-free : goal.fill_all-requires-clause-free
 fill_all-requires-clause-free c =
     let tape = c.args.tape.now in
-    fills_are_free tape c.requires.swarm c.requires.row c.requires.up c.args.target.now c.deref.result.now
-    (c.deref.ensures.value ∙ (c.in_ok-commands.ensures ∙ are tape c.matrix.result.now c.args.target.now c.bots.result.now c.matrix.ensures.value (c.bots.ensures.value ∙ c.crew.ensures.value)))
+    fills_are_free tape c.requires.swarm c.requires.row c.requires.up c.args.target.now (take (length c.bots-bots.result.now) c.fills-commands.result)
+    (c.fills-commands.ensures ∙ are tape c.matrix.result.now c.args.target.now c.bots-bots.result.now c.matrix.ensures.value (c.bots-bots.ensures.value ∙ c.crew.ensures.value))
 
 pub fill_all-requires-clause-held : goal.fill_all-requires-clause-held
 fill_all-requires-clause-held c =
     let tape = c.args.tape.now in
-    held_under_high (record (state_of tape) { matrix = with_fills tape.matrix (acts tape.bots c.deref.result.now) }) tape.harmonics refl c.requires.swarm.high
+    held_under_high (record (state_of tape) { matrix = with_fills tape.matrix (acts tape.bots (take (length c.bots-bots.result.now) c.fills-commands.result)) }) tape.harmonics refl c.requires.swarm.high
 
 pub returns : goal.returns
 returns c =
     let tape = c.args.tape.now in
-    let commands = c.deref.result.now in
-    let deref_is = c.deref.ensures.value ∙ (c.in_ok-commands.ensures ∙ are tape c.matrix.result.now c.args.target.now c.bots.result.now c.matrix.ensures.value (c.bots.ensures.value ∙ c.crew.ensures.value)) in
+    let commands = take (length c.bots-bots.result.now) c.fills-commands.result in
+    let commands_are = c.fills-commands.ensures ∙ are tape c.matrix.result.now c.args.target.now c.bots-bots.result.now c.matrix.ensures.value (c.bots-bots.ensures.value ∙ c.crew.ensures.value) in
     on_ok_weaker c.fill_all.result
     (λ (s : AllStep tape c.fill_all.new.self commands (with_fills tape.matrix (acts tape.bots commands)) tape.harmonics tape.bots).
-    has_filled tape c.requires.swarm c.requires.row c.requires.up c.args.target.now c.deref.result.now deref_is c.fill_all.new.self c.requires.same s)
+    has_filled tape c.requires.swarm c.requires.row c.requires.up c.args.target.now commands commands_are c.fill_all.new.self c.requires.same s)
     c.fill_all.ensures.ok

@@ -17,5 +17,5 @@ head_near axis w l i bots c h n = let near = subst (λ (bs : List Bot). AreNear 
 
 pub lead-requires : goal.lead-requires
 lead-requires c =
-    subst (λ v. IsNearOn c.args.axis (get_or c.args.bots.now c.loop-bot.bot-index nobody).pos (coord v c.args.to.y c.args.to.z)) (sym c.min.ensures)
-    (head_near c.args.axis c.args.width c.args.last c.loop-bot.bot-index c.args.bots.now (coord c.loop-bot.x c.args.to.y c.args.to.z) c.loop-bot-test.true c.loop-bot.invariant.near)
+    subst (λ v. IsNearOn c.args.axis (get_or c.args.bots.now c.loop-i.i nobody).pos (coord v c.args.to.y c.args.to.z)) (sym c.min.ensures)
+    (head_near c.args.axis c.args.width c.args.last c.loop-i.i c.args.bots.now (coord c.loop-i.x c.args.to.y c.args.to.z) c.loop-i-test.true c.loop-i.invariant.near)
