@@ -4,7 +4,7 @@ use Rattle.std.specs.Prelude.{slice_index_or}
 use Rattle.std.proofs.lemmas.Bool.{cases_lt, cases_eq}
 use Rattle.vox_geom.specs.declared.coordinate.Coord.{Coord}
 use Rattle.vox_geom.proofs.Points.{same_or_not}
-use Rattle.support_forest.specs.Directions.{Toward}
+use Rattle.support_forest.specs.Directions.{Toward, lies_left, lies_right, lies_under, lies_over, lies_near, lies_far}
 use Rattle.support_forest.specs.Grid.{Grid, word_at}
 use Rattle.support_forest.specs.Losing.{CanRemove}
 use Rattle.support_forest.specs.Stretches.{AreCleared, IsPast, IsStretch, IsTaking, RowIsFree, TakesMore, further}
@@ -17,23 +17,22 @@ use Rattle.support_forest.proofs.Taking.{exact_without}
 
 free_now : (old now : Grid) (c : Coord) (k n before steps : ℕ) → RowIsFree (word_at old) c n
     → AreCleared old now c (k + 1) n before steps → k < n → IsNoParent (word_at now) (further c k)
-unfolding Toward
 free_now old now c k n before steps f a l q h t = by t
   where
     by : Toward (word_at now q % 8) q (further c k) → ⊥
-    by (inl d) =
+    by (lies_left d) =
         let same_word : word_at now q ≡ word_at old q = a.kept q (λ j b m s. let same_x : q.x ≡ c.x = ap (λ (p : Coord). p.x) s in absurd (omega arith)) in
-        f.right k q l (inr (inl (refl, omega arith, omega arith, omega arith))) (omega arith) (omega arith)
-    by (inr (inl d)) =
+        f.right k q l (lies_right (refl, omega arith, omega arith, omega arith)) (omega arith) (omega arith)
+    by (lies_right d) =
         let same_word : word_at now q ≡ word_at old q = a.kept q (λ j b m s. let same_x : q.x ≡ c.x = ap (λ (p : Coord). p.x) s in absurd (omega arith)) in
-        f.left k q l (inl (refl, omega arith, omega arith, omega arith)) (omega arith) (omega arith)
-    by (inr (inr (inl d))) =
+        f.left k q l (lies_left (refl, omega arith, omega arith, omega arith)) (omega arith) (omega arith)
+    by (lies_under d) =
         let same_word : word_at now q ≡ word_at old q = a.kept q (λ j b m s. let same_y : q.y ≡ c.y = ap (λ (p : Coord). p.y) s in absurd (omega arith)) in
-        f.over k q l (inr (inr (inr (inl (refl, omega arith, omega arith, omega arith))))) (omega arith) (omega arith)
-    by (inr (inr (inr (inl d)))) =
+        f.over k q l (lies_over (refl, omega arith, omega arith, omega arith)) (omega arith) (omega arith)
+    by (lies_over d) =
         let same_word : word_at now q ≡ word_at old q = a.kept q (λ j b m s. let same_y : q.y ≡ c.y = ap (λ (p : Coord). p.y) s in absurd (omega arith)) in
-        f.under k q l (inr (inr (inl (refl, omega arith, omega arith, omega arith)))) (omega arith) (omega arith)
-    by (inr (inr (inr (inr (inl d))))) = elim (cases_lt (k + 1) n) [
+        f.under k q l (lies_under (refl, omega arith, omega arith, omega arith)) (omega arith) (omega arith)
+    by (lies_near d) = elim (cases_lt (k + 1) n) [
       | inl m ↦
           let z_is : q.z ≡ c.z + (k + 1) = omega arith in
           let same_x : q.x ≡ c.x = omega arith in
@@ -45,7 +44,7 @@ free_now old now c k n before steps f a l q h t = by t
           let same_word : word_at now q ≡ word_at old q = a.kept q (λ j b i s. let z_is : q.z ≡ c.z + j = ap (λ (p : Coord). p.z) s in absurd (omega arith)) in
           f.far q (omega arith) (omega arith) (omega arith) (omega arith) (omega arith)
     ]
-    by (inr (inr (inr (inr (inr d))))) =
+    by (lies_far d) =
         let same_word_at : word_at now q ≡ word_at old q = a.kept q (λ j b i s. let z_is : q.z ≡ c.z + j = ap (λ (p : Coord). p.z) s in absurd (omega arith)) in
         elim (cases_lt 0 k) [
           | inl m ↦
@@ -55,7 +54,7 @@ free_now old now c k n before steps f a l q h t = by t
               let q_is : q ≡ further c (k - 1) = λ j. record { x = same_x j; y = same_y j; z = z_is j } in
               let same_word : word_at old q ≡ word_at old (further c (k - 1)) = ap (word_at old) q_is in
               f.own (k - 1) (omega arith) (omega arith) (omega arith)
-          | inr m ↦ f.near 0 q (omega arith) (inr (inr (inr (inr (inl (refl, omega arith, omega arith, omega arith)))))) (omega arith) (omega arith)
+          | inr m ↦ f.near 0 q (omega arith) (lies_near (refl, omega arith, omega arith, omega arith)) (omega arith) (omega arith)
         ]
 
 pub cleared_more : (old now new : Grid) (c : Coord) (k n before steps after : ℕ) → RowIsFree (word_at old) c n

@@ -10,7 +10,7 @@ use Rattle.vox_geom.proofs.Points.{same_or_not}
 use Rattle.support_forest.specs.declared.candidate.Candidate.{Candidate}
 use Rattle.support_forest.specs.declared.beside.Beside.{Beside}
 use Rattle.support_forest.specs.declared.place.Around.{Around}
-use Rattle.support_forest.specs.Directions.{Toward, AreBeside}
+use Rattle.support_forest.specs.Directions.{Toward, AreBeside, lies_left, lies_right, lies_under, lies_over, lies_near, lies_far}
 use Rattle.support_forest.specs.Grid.{Grid, word_at}
 use Rattle.support_forest.specs.Placing.{AreBesideWords, HavePlaced, IsAround, IsWordToward, LeavesRoom, MayLieUnder, MayStand}
 use Rattle.support_forest.specs.Waiting.{CanAdd, HaveAdded}
@@ -89,21 +89,15 @@ beside_back : (a b : Coord) → AreBeside a b → AreBeside b a
 beside_back a b n = let back_here = back n.direction a b n.toward in record { direction = back_here.direction; toward = back_here.toward }
 
 not_beside : (d : ℕ) (a b : Coord) → a ≡ b → Toward d a b → ⊥
-unfolding Toward
 not_beside d a b e h = apart (ap (λ (c : Coord). c.x) e) (ap (λ (c : Coord). c.y) e) (ap (λ (c : Coord). c.z) e) h
   where
-    apart : a.x ≡ b.x → a.y ≡ b.y → a.z ≡ b.z → ((d ≡ 1) × (a.x ≡ b.x + 1) × (a.y ≡ b.y) × (a.z ≡ b.z))
-        ⊎ (((d ≡ 2) × (b.x ≡ a.x + 1) × (a.y ≡ b.y) × (a.z ≡ b.z))
-        ⊎ (((d ≡ 3) × (a.x ≡ b.x) × (a.y ≡ b.y + 1) × (a.z ≡ b.z))
-        ⊎ (((d ≡ 4) × (a.x ≡ b.x) × (b.y ≡ a.y + 1) × (a.z ≡ b.z))
-        ⊎ (((d ≡ 5) × (a.x ≡ b.x) × (a.y ≡ b.y) × (a.z ≡ b.z + 1))
-        ⊎ ((d ≡ 6) × (a.x ≡ b.x) × (a.y ≡ b.y) × (b.z ≡ a.z + 1)))))) → ⊥
-    apart x y z (inl k) = omega arith
-    apart x y z (inr (inl k)) = omega arith
-    apart x y z (inr (inr (inl k))) = omega arith
-    apart x y z (inr (inr (inr (inl k)))) = omega arith
-    apart x y z (inr (inr (inr (inr (inl k))))) = omega arith
-    apart x y z (inr (inr (inr (inr (inr k))))) = omega arith
+    apart : a.x ≡ b.x → a.y ≡ b.y → a.z ≡ b.z → Toward d a b → ⊥
+    apart x y z (lies_left k) = omega arith
+    apart x y z (lies_right k) = omega arith
+    apart x y z (lies_under k) = omega arith
+    apart x y z (lies_over k) = omega arith
+    apart x y z (lies_near k) = omega arith
+    apart x y z (lies_far k) = omega arith
 
 -- what the neighbours allow the voxel's word to be
 pub record Fits (r : ℕ) (w : Coord → ℕ) (c : Coord) (word : ℕ) : Type 0 where
@@ -246,15 +240,14 @@ fits_over r w c b k m =
 -- a full neighbour of a voxel on the floor has height 1 too, or lies over it
 floor_near : (r : ℕ) (w : Coord → ℕ) (c a : Coord) (d over : ℕ) → AreExact r w → c.y ≡ 0 → IsWordToward w c 4 over
     → MayLieUnder over → 0 < w a → Toward d c a → (8 ≤ w a) × (height w a ≤ 8 / 8 + 1)
-unfolding Toward
-floor_near r w c a d over e y k m f (inl h) = let w_is : w a ≡ 8 = e.floor a f (omega arith) in (omega arith, omega arith)
-floor_near r w c a d over e y k m f (inr (inl h)) = let w_is : w a ≡ 8 = e.floor a f (omega arith) in (omega arith, omega arith)
-floor_near r w c a d over e y k m f (inr (inr (inl h))) = absurd (omega arith)
-floor_near r w c a d over e y k m f (inr (inr (inr (inl h)))) =
-    let w_is : w a ≡ over = k.each a (inr (inr (inr (inl (refl, omega arith, omega arith, omega arith))))) in
+floor_near r w c a d over e y k m f (lies_left h) = let w_is : w a ≡ 8 = e.floor a f (omega arith) in (omega arith, omega arith)
+floor_near r w c a d over e y k m f (lies_right h) = let w_is : w a ≡ 8 = e.floor a f (omega arith) in (omega arith, omega arith)
+floor_near r w c a d over e y k m f (lies_under h) = absurd (omega arith)
+floor_near r w c a d over e y k m f (lies_over h) =
+    let w_is : w a ≡ over = k.each a (lies_over (refl, omega arith, omega arith, omega arith)) in
     elim m [ inl z ↦ absurd (omega arith) | inr b ↦ (omega (arith, b.0), omega (arith, b.1)) ]
-floor_near r w c a d over e y k m f (inr (inr (inr (inr (inl h))))) = let w_is : w a ≡ 8 = e.floor a f (omega arith) in (omega arith, omega arith)
-floor_near r w c a d over e y k m f (inr (inr (inr (inr (inr h))))) = let w_is : w a ≡ 8 = e.floor a f (omega arith) in (omega arith, omega arith)
+floor_near r w c a d over e y k m f (lies_near h) = let w_is : w a ≡ 8 = e.floor a f (omega arith) in (omega arith, omega arith)
+floor_near r w c a d over e y k m f (lies_far h) = let w_is : w a ≡ 8 = e.floor a f (omega arith) in (omega arith, omega arith)
 
 fits_on_floor : (r : ℕ) (w : Coord → ℕ) (c : Coord) (over : ℕ) → AreExact r w → c.y ≡ 0 → IsWordToward w c 4 over
     → MayLieUnder over → Fits r w c 8
@@ -337,12 +330,12 @@ pub placed_on_floor : (old new : Grid) (c : Coord) (over before mid after : ℕ)
 placed_on_floor old new c over before mid after e s z y i m k r l t = placed_with old new c 8 before mid after e s z (fits_on_floor old.resolution (word_at old) c over e y i m) k r (omega arith) t
 
 -- a voxel has a small height where one stands on it
-pub under_small : (r : ℕ) (w : Coord → ℕ) (c : Coord) (b : Beside) → AreExact r w → r * r * r ≤ 64000000
-    → AreBesideWords w c b → MayStand b → b.under / 8 ≤ 64000000
-under_small r w c b e few k m =
-    let down = k.under.some (let under = m.under in omega arith) in
-    let same : w down.0 ≡ b.under = k.under.each down.0 down.1 in
-    let low = exact_low r w down.0 e (let under = m.under in omega arith) in
+pub under_small : (r : ℕ) (w : Coord → ℕ) (c : Coord) (under : ℕ) → AreExact r w → r * r * r ≤ 64000000
+    → IsWordToward w c 3 under → 8 ≤ under → under / 8 ≤ 64000000
+under_small r w c under e few k some =
+    let down = k.some (omega arith) in
+    let same : w down.0 ≡ under = k.each down.0 down.1 in
+    let low = exact_low r w down.0 e (omega arith) in
     omega arith
 
 -- ---- the only cell

@@ -9,7 +9,7 @@ use Rattle.vox_geom.proofs.Firsts.{place_below}
 use Rattle.vox_geom.proofs.Places.{coordinate_at-place}
 use Rattle.nano_spec.specs.Model.{volume}
 use Rattle.brick_arena.specs.Slots.{Slots, with_row, words_of}
-use Rattle.support_forest.specs.Directions.{Toward}
+use Rattle.support_forest.specs.Directions.{Toward, lies_left, lies_right, lies_under, lies_over, lies_near, lies_far}
 use Rattle.support_forest.specs.Grid.{Grid, IsStore, NoneFloatsBelow, floating_count, slot_of, word_at, word_index}
 use Rattle.support_forest.specs.Stretches.{AreCleared, AreWritten, LieInRow, RowIsFree, further}
 use Rattle.support_forest.specs.Words.{AreExact, IsWritten}
@@ -150,27 +150,26 @@ row_others old new c d word w h = ap (λ (g : Grid). word_at g d) (sym w.last) �
 -- no voxel out of the row has its parent in it
 no_parent : (w : Coord → ℕ) (c q : Coord) (n k : ℕ) → RowIsFree w c n → k < n → ((j : ℕ) → j < n → q ≡ further c j → ⊥)
     → 8 ≤ w q → Toward (w q % 8) q (further c k) → ⊥
-unfolding Toward
 no_parent w c q n k f l out h t = by t
   where
     by : Toward (w q % 8) q (further c k) → ⊥
-    by (inl d) = f.right k q l (inr (inl (refl, omega arith, omega arith, omega arith))) h (omega arith)
-    by (inr (inl d)) = f.left k q l (inl (refl, omega arith, omega arith, omega arith)) h (omega arith)
-    by (inr (inr (inl d))) = f.over k q l (inr (inr (inr (inl (refl, omega arith, omega arith, omega arith))))) h (omega arith)
-    by (inr (inr (inr (inl d)))) = f.under k q l (inr (inr (inl (refl, omega arith, omega arith, omega arith)))) h (omega arith)
-    by (inr (inr (inr (inr (inl d))))) =
+    by (lies_left d) = f.right k q l (lies_right (refl, omega arith, omega arith, omega arith)) h (omega arith)
+    by (lies_right d) = f.left k q l (lies_left (refl, omega arith, omega arith, omega arith)) h (omega arith)
+    by (lies_under d) = f.over k q l (lies_over (refl, omega arith, omega arith, omega arith)) h (omega arith)
+    by (lies_over d) = f.under k q l (lies_under (refl, omega arith, omega arith, omega arith)) h (omega arith)
+    by (lies_near d) =
         let same_x : q.x ≡ c.x = omega arith in
         let same_y : q.y ≡ c.y = omega arith in
         elim (cases_lt (k + 1) n) [
           | inl m ↦ let z_is : q.z ≡ c.z + (k + 1) = omega arith in out (k + 1) m (λ j. record { x = same_x j; y = same_y j; z = z_is j })
           | inr m ↦ f.far q same_x same_y (omega arith) h (omega arith)
         ]
-    by (inr (inr (inr (inr (inr d))))) =
+    by (lies_far d) =
         let same_x : q.x ≡ c.x = omega arith in
         let same_y : q.y ≡ c.y = omega arith in
         elim (cases_lt 0 k) [
           | inl m ↦ let z_is : q.z ≡ c.z + (k - 1) = omega arith in out (k - 1) (omega arith) (λ j. record { x = same_x j; y = same_y j; z = z_is j })
-          | inr m ↦ f.near 0 q (omega arith) (inr (inr (inr (inr (inl (refl, omega arith, omega arith, omega arith)))))) h (omega arith)
+          | inr m ↦ f.near 0 q (omega arith) (lies_near (refl, omega arith, omega arith, omega arith)) h (omega arith)
         ]
 
 exact_without_row : (r n : ℕ) (w v : Coord → ℕ) (c : Coord) → AreExact r w → RowIsFree w c n → ((j : ℕ) → j < n → v (further c j) ≡ 0) →

@@ -1,13 +1,13 @@
 -- The spots of neighbours that lie in another brick.
-use Rattle.std.proofs.Common.{◌≡◌, ℕ, zero, suc, ◌+◌, ◌-◌, ◌*◌, ◌/◌, ◌%◌, ◌<◌, ◌≤◌, inl, inr, refl, sym, ◌∙◌, ap, arith, List, Option, None, Some, length}
+use Rattle.std.proofs.Common.{◌≡◌, ℕ, zero, suc, ◌+◌, ◌-◌, ◌*◌, ◌/◌, ◌%◌, ◌<◌, ◌≤◌, refl, sym, ◌∙◌, ap, arith, Option, None, Some}
 use Rattle.std.specs.Prelude.{MatchOption}
 use Rattle.std.proofs.Math.Nat.{add-mul, suc-mul}
 use Rattle.vox_geom.specs.declared.coordinate.Coord.{Coord}
-use Rattle.vox_geom.specs.Space.{IsInSpace, place}
+use Rattle.vox_geom.specs.Space.{place}
 use Rattle.vox_geom.proofs.Firsts.{place_below}
-use Rattle.support_forest.specs.Directions.{Toward}
-use Rattle.support_forest.specs.Grid.{Grid, IsStore, StandsIn, brick, brick_number, side, slot_at, slot_of, word_at, word_in, word_index}
-use Rattle.support_forest.specs.Placing.{EndsBrick, IsSpotToward, NoneToward}
+use Rattle.support_forest.specs.Directions.{lies_left, lies_right, lies_under, lies_over, lies_near, lies_far}
+use Rattle.support_forest.specs.Grid.{Grid, IsStore, StandsIn, brick, brick_number, side, slot_at, word_at, word_in, word_index}
+use Rattle.support_forest.specs.Placing.{EndsBrick, IsOwnSpot, IsSpotToward, NoneToward}
 use Rattle.support_forest.proofs.Sides.{goes}
 use Rattle.support_forest.proofs.Store.{brick_inside, cube_of_bricks}
 
@@ -64,12 +64,6 @@ stands_below r number index c s = let below = place_below (side r) (brick c) s.w
 
 -- ---- where the neighbour stands
 
--- what is known of a voxel and its own spot
-pub record IsOwnSpot (r : ℕ) (c : Coord) (number index : ℕ) : Type 0 where
-  pub within : IsInSpace r c
-  pub in_brick : number ≡ brick_number r c
-  pub at_index : index ≡ word_index c
-
 -- so many bricks are before it where it is not in the first of them
 pub own_below : (r : ℕ) (c : Coord) (number index : ℕ) → IsOwnSpot r c number index → side r ≤ 50 → number < 125000
 unfolding brick_number
@@ -96,7 +90,7 @@ one_before_own r c number index own last some = let in_brick = own.in_brick in o
 
 pub spot_left : (r : ℕ) (c : Coord) (d own place number index : ℕ) → IsOwnSpot r c own place → d ≡ 1 → c.x % 8 ≡ 0
     → 0 < c.x → number + side r * side r ≡ own → index ≡ place + 448 → IsSpotToward r c d number index
-unfolding Toward brick_number word_index
+unfolding brick_number word_index
 spot_left r c d own place number index own_spot e last some n i =
     let bricks = brick_inside r c own_spot.within in
     let in_x = bricks.x in
@@ -104,7 +98,7 @@ spot_left r c d own place number index own_spot e last some n i =
     let before : (c.x - 1) / 8 ≡ c.x / 8 - 1 = omega arith in
     record {
       there = record { x = c.x - 1; y = c.y; z = c.z };
-      toward = inl (e, omega arith, refl, refl);
+      toward = lies_left (e, omega arith, refl, refl);
       stands = record {
         within = record { x = omega arith; y = bricks.y; z = bricks.z };
         in_brick = ap (λ (k : ℕ). k * side r * side r + c.y / 8 * side r + c.z / 8) before ∙ wall_before (side r) (c.x / 8) (c.y / 8) (c.z / 8) number own (omega arith) n own_spot.in_brick;
@@ -114,14 +108,14 @@ spot_left r c d own place number index own_spot e last some n i =
 
 pub spot_right : (r : ℕ) (c : Coord) (d own place number index : ℕ) → IsOwnSpot r c own place → d ≡ 2 → c.x % 8 ≡ 7
     → c.x + 1 < r → number ≡ own + side r * side r → index + 448 ≡ place → IsSpotToward r c d number index
-unfolding Toward brick_number word_index side
+unfolding brick_number word_index side
 spot_right r c d own place number index own_spot e last some n i =
     let bricks = brick_inside r c own_spot.within in
     let at = own_spot.at_index in
     let behind : (c.x + 1) / 8 ≡ c.x / 8 + 1 = omega arith in
     record {
       there = record { x = c.x + 1; y = c.y; z = c.z };
-      toward = inr (inl (e, omega arith, refl, refl));
+      toward = lies_right (e, omega arith, refl, refl);
       stands = record {
         within = record { x = omega arith; y = bricks.y; z = bricks.z };
         in_brick = ap (λ (k : ℕ). k * side r * side r + c.y / 8 * side r + c.z / 8) behind ∙ wall_behind (side r) (c.x / 8) (c.y / 8) (c.z / 8) number own n own_spot.in_brick;
@@ -131,7 +125,7 @@ spot_right r c d own place number index own_spot e last some n i =
 
 pub spot_under : (r : ℕ) (c : Coord) (d own place number index : ℕ) → IsOwnSpot r c own place → d ≡ 3 → c.y % 8 ≡ 0
     → 0 < c.y → number + side r ≡ own → index ≡ place + 56 → IsSpotToward r c d number index
-unfolding Toward brick_number word_index
+unfolding brick_number word_index
 spot_under r c d own place number index own_spot e last some n i =
     let bricks = brick_inside r c own_spot.within in
     let in_y = bricks.y in
@@ -139,7 +133,7 @@ spot_under r c d own place number index own_spot e last some n i =
     let before : (c.y - 1) / 8 ≡ c.y / 8 - 1 = omega arith in
     record {
       there = record { x = c.x; y = c.y - 1; z = c.z };
-      toward = inr (inr (inl (e, refl, omega arith, refl)));
+      toward = lies_under (e, refl, omega arith, refl);
       stands = record {
         within = record { x = bricks.x; y = omega arith; z = bricks.z };
         in_brick = ap (λ (k : ℕ). c.x / 8 * side r * side r + k * side r + c.z / 8) before ∙ row_before (side r) (c.x / 8) (c.y / 8) (c.z / 8) number own (omega arith) n own_spot.in_brick;
@@ -149,14 +143,14 @@ spot_under r c d own place number index own_spot e last some n i =
 
 pub spot_over : (r : ℕ) (c : Coord) (d own place number index : ℕ) → IsOwnSpot r c own place → d ≡ 4 → c.y % 8 ≡ 7
     → c.y + 1 < r → number ≡ own + side r → index + 56 ≡ place → IsSpotToward r c d number index
-unfolding Toward brick_number word_index side
+unfolding brick_number word_index side
 spot_over r c d own place number index own_spot e last some n i =
     let bricks = brick_inside r c own_spot.within in
     let at = own_spot.at_index in
     let behind : (c.y + 1) / 8 ≡ c.y / 8 + 1 = omega arith in
     record {
       there = record { x = c.x; y = c.y + 1; z = c.z };
-      toward = inr (inr (inr (inl (e, refl, omega arith, refl))));
+      toward = lies_over (e, refl, omega arith, refl);
       stands = record {
         within = record { x = bricks.x; y = omega arith; z = bricks.z };
         in_brick = ap (λ (k : ℕ). c.x / 8 * side r * side r + k * side r + c.z / 8) behind ∙ row_behind (side r) (c.x / 8) (c.y / 8) (c.z / 8) number own n own_spot.in_brick;
@@ -166,7 +160,7 @@ spot_over r c d own place number index own_spot e last some n i =
 
 pub spot_near : (r : ℕ) (c : Coord) (d own place number index : ℕ) → IsOwnSpot r c own place → d ≡ 5 → c.z % 8 ≡ 0
     → 0 < c.z → number + 1 ≡ own → index ≡ place + 7 → IsSpotToward r c d number index
-unfolding Toward brick_number word_index
+unfolding brick_number word_index
 spot_near r c d own place number index own_spot e last some n i =
     let bricks = brick_inside r c own_spot.within in
     let in_z = bricks.z in
@@ -174,20 +168,20 @@ spot_near r c d own place number index own_spot e last some n i =
     let in_brick = own_spot.in_brick in
     record {
       there = record { x = c.x; y = c.y; z = c.z - 1 };
-      toward = inr (inr (inr (inr (inl (e, refl, refl, omega arith)))));
+      toward = lies_near (e, refl, refl, omega arith);
       stands = record { within = record { x = bricks.x; y = bricks.y; z = omega arith }; in_brick = omega arith; at_index = omega arith };
     }
 
 pub spot_far : (r : ℕ) (c : Coord) (d own place number index : ℕ) → IsOwnSpot r c own place → d ≡ 6 → c.z % 8 ≡ 7
     → c.z + 1 < r → number ≡ own + 1 → index + 7 ≡ place → IsSpotToward r c d number index
-unfolding Toward brick_number word_index side
+unfolding brick_number word_index side
 spot_far r c d own place number index own_spot e last some n i =
     let bricks = brick_inside r c own_spot.within in
     let at = own_spot.at_index in
     let in_brick = own_spot.in_brick in
     record {
       there = record { x = c.x; y = c.y; z = c.z + 1 };
-      toward = inr (inr (inr (inr (inr (e, refl, refl, omega arith)))));
+      toward = lies_far (e, refl, refl, omega arith);
       stands = record { within = record { x = bricks.x; y = bricks.y; z = omega arith }; in_brick = omega arith; at_index = omega arith };
     }
 

@@ -16,7 +16,7 @@ use Rattle.nano_spec.specs.Model.{volume}
 use Rattle.vox_planes.specs.Places.{voxel_at}
 use Rattle.vox_planes.specs.Voxel.{IsWhole}
 use Rattle.vox_planes.proofs.Voxels.{get_or-where, length-where}
-use Rattle.support_forest.specs.Directions.{Toward}
+use Rattle.support_forest.specs.Directions.{Toward, lies_left, lies_right, lies_under, lies_over, lies_near, lies_far}
 use Rattle.support_forest.specs.Grid.{Grid, brick, brick_number, slot_at, slot_of, word_at}
 use Rattle.support_forest.specs.Heap.{AreBits, AreBrickSlots, CanStack, HaveStacked, AreHeapWords, IsHeaped, IsSeen, IsSomeHeap, RowStands}
 use Rattle.support_forest.specs.Standing.{matrix_of}
@@ -35,13 +35,12 @@ use Rattle.vox_geom.proofs.Points.{same_or_not}
 
 -- neighbours lie at most one level apart
 near_level : (d : ℕ) (a b : Coord) → Toward d a b → (a.y ≤ b.y + 1) × (b.y ≤ a.y + 1)
-unfolding Toward
-near_level d a b (inl h) = (omega arith, omega arith)
-near_level d a b (inr (inl h)) = (omega arith, omega arith)
-near_level d a b (inr (inr (inl h))) = (omega arith, omega arith)
-near_level d a b (inr (inr (inr (inl h)))) = (omega arith, omega arith)
-near_level d a b (inr (inr (inr (inr (inl h))))) = (omega arith, omega arith)
-near_level d a b (inr (inr (inr (inr (inr h))))) = (omega arith, omega arith)
+near_level d a b (lies_left h) = (omega arith, omega arith)
+near_level d a b (lies_right h) = (omega arith, omega arith)
+near_level d a b (lies_under h) = (omega arith, omega arith)
+near_level d a b (lies_over h) = (omega arith, omega arith)
+near_level d a b (lies_near h) = (omega arith, omega arith)
+near_level d a b (lies_far h) = (omega arith, omega arith)
 
 -- the neighbours in a heap allow the word that has the level of y
 fits_level : (r : ℕ) (w : Coord → ℕ) (c : Coord) (word : ℕ) → AreHeapWords w → word / 8 ≡ c.y + 1 → (c.y ≡ 0 → word ≡ 8) →
@@ -84,8 +83,7 @@ stacked_on_floor old new c before after s y k r t a =
     (omega arith) k r t (omega arith) a
 
 toward_under : (c : Coord) → (c.y ≡ 0 → ⊥) → Toward 3 c (under c)
-unfolding Toward
-toward_under c n = let some_y : 0 < c.y = elim (cases_lt 0 c.y) [ inl l ↦ l | inr l ↦ absurd (n (omega arith)) ] in inr (inr (inl (refl, refl, omega arith, refl)))
+toward_under c n = let some_y : 0 < c.y = elim (cases_lt 0 c.y) [ inl l ↦ l | inr l ↦ absurd (n (omega arith)) ] in lies_under (refl, refl, omega arith, refl)
 
 pub stacked_on_another : (old new : Grid) (c : Coord) (before mid after : ℕ) → CanStack old c → (c.y ≡ 0 → ⊥) → (word_at old (under c) ≡ 0 → ⊥) →
     IsWritten (word_at old) (word_at new) c (8 * c.y + 11) →

@@ -5,7 +5,7 @@ use Rattle.std.proofs.lemmas.Bool.{cases_lt}
 use Rattle.std.proofs.lemmas.List.{get_or_default}
 use Rattle.vox_geom.specs.declared.coordinate.Coord.{Coord}
 use Rattle.vox_geom.specs.Space.{IsInSpace}
-use Rattle.support_forest.specs.Directions.{Toward}
+use Rattle.support_forest.specs.Directions.{Toward, lies_left, lies_right, lies_under, lies_over, lies_near, lies_far}
 use Rattle.brick_arena.specs.Slots.{HasSlot, start_in_chunk, words_of}
 use Rattle.support_forest.specs.Grid.{Grid, IsStore, StandsAt, brick, side, slot_of, word_at, word_index}
 use Rattle.support_forest.specs.Placing.{IsIndexToward, IsWordToward}
@@ -13,6 +13,7 @@ use Rattle.support_forest.specs.Stretches.{EndsAreFree, IsBrickRow, LieInRow, Is
 use Rattle.support_forest.specs.Taking.{HangsNot}
 use Rattle.support_forest.specs.Words.{AreExact}
 use Rattle.support_forest.proofs.Nearby.{same_slot, stands_beside}
+use Rattle.support_forest.proofs.Sides.{one_toward}
 use Rattle.support_forest.proofs.Store.{brick_inside, index_below}
 use Rattle.support_forest.proofs.Writes.{reads_index, reads_none}
 
@@ -132,45 +133,26 @@ row_in_slot g chunk slot index from n c P s b r e h i f w k l =
 
 -- ---- the words at a side
 
+-- what lies beside a voxel lies so, as much later, beside a later one
+toward_further : (d k : ℕ) (c q : Coord) → d ≤ 4 → Toward d c q → Toward d (further c k) (further q k)
+toward_further d k c q r (lies_left h) = lies_left (h.0, h.1, h.2, omega arith)
+toward_further d k c q r (lies_right h) = lies_right (h.0, h.1, h.2, omega arith)
+toward_further d k c q r (lies_under h) = lies_under (h.0, h.1, h.2, omega arith)
+toward_further d k c q r (lies_over h) = lies_over (h.0, h.1, h.2, omega arith)
+toward_further d k c q r (lies_near h) = absurd (omega arith)
+toward_further d k c q r (lies_far h) = absurd (omega arith)
+
 -- the neighbour of a later voxel is the later one of the first one's neighbour
-pub beside_further : (d k : ℕ) (c q p : Coord) → (0 < d) × (d ≤ 4) → Toward d c q → Toward d (further c k) p
-    → p ≡ further q k
-unfolding Toward
-beside_further d k c q p r (inl h) (inl t) = let same_x : p.x ≡ q.x = omega arith in let same_y : p.y ≡ q.y = omega arith in let z_is : p.z ≡ q.z + k = omega arith in λ j. record { x = same_x j; y = same_y j; z = z_is j }
-beside_further d k c q p r (inr (inl h)) (inr (inl t)) = let same_x : p.x ≡ q.x = omega arith in let same_y : p.y ≡ q.y = omega arith in let z_is : p.z ≡ q.z + k = omega arith in λ j. record { x = same_x j; y = same_y j; z = z_is j }
-beside_further d k c q p r (inr (inr (inl h))) (inr (inr (inl t))) = let same_x : p.x ≡ q.x = omega arith in let same_y : p.y ≡ q.y = omega arith in let z_is : p.z ≡ q.z + k = omega arith in λ j. record { x = same_x j; y = same_y j; z = z_is j }
-beside_further d k c q p r (inr (inr (inr (inl h)))) (inr (inr (inr (inl t)))) = let same_x : p.x ≡ q.x = omega arith in let same_y : p.y ≡ q.y = omega arith in let z_is : p.z ≡ q.z + k = omega arith in λ j. record { x = same_x j; y = same_y j; z = z_is j }
-beside_further d k c q p r (inl h) (inr (inl t)) = absurd (omega arith)
-beside_further d k c q p r (inl h) (inr (inr (inl t))) = absurd (omega arith)
-beside_further d k c q p r (inl h) (inr (inr (inr (inl t)))) = absurd (omega arith)
-beside_further d k c q p r (inl h) (inr (inr (inr (inr (inl t))))) = absurd (omega arith)
-beside_further d k c q p r (inl h) (inr (inr (inr (inr (inr t))))) = absurd (omega arith)
-beside_further d k c q p r (inr (inl h)) (inl t) = absurd (omega arith)
-beside_further d k c q p r (inr (inl h)) (inr (inr (inl t))) = absurd (omega arith)
-beside_further d k c q p r (inr (inl h)) (inr (inr (inr (inl t)))) = absurd (omega arith)
-beside_further d k c q p r (inr (inl h)) (inr (inr (inr (inr (inl t))))) = absurd (omega arith)
-beside_further d k c q p r (inr (inl h)) (inr (inr (inr (inr (inr t))))) = absurd (omega arith)
-beside_further d k c q p r (inr (inr (inl h))) (inl t) = absurd (omega arith)
-beside_further d k c q p r (inr (inr (inl h))) (inr (inl t)) = absurd (omega arith)
-beside_further d k c q p r (inr (inr (inl h))) (inr (inr (inr (inl t)))) = absurd (omega arith)
-beside_further d k c q p r (inr (inr (inl h))) (inr (inr (inr (inr (inl t))))) = absurd (omega arith)
-beside_further d k c q p r (inr (inr (inl h))) (inr (inr (inr (inr (inr t))))) = absurd (omega arith)
-beside_further d k c q p r (inr (inr (inr (inl h)))) (inl t) = absurd (omega arith)
-beside_further d k c q p r (inr (inr (inr (inl h)))) (inr (inl t)) = absurd (omega arith)
-beside_further d k c q p r (inr (inr (inr (inl h)))) (inr (inr (inl t))) = absurd (omega arith)
-beside_further d k c q p r (inr (inr (inr (inl h)))) (inr (inr (inr (inr (inl t))))) = absurd (omega arith)
-beside_further d k c q p r (inr (inr (inr (inl h)))) (inr (inr (inr (inr (inr t))))) = absurd (omega arith)
-beside_further d k c q p r (inr (inr (inr (inr (inl h))))) t = absurd (omega arith)
-beside_further d k c q p r (inr (inr (inr (inr (inr h))))) t = absurd (omega arith)
+pub beside_further : (d k : ℕ) (c q p : Coord) → d ≤ 4 → Toward d c q → Toward d (further c k) p → p ≡ further q k
+beside_further d k c q p r h t = one_toward d (further c k) p (further q k) t (toward_further d k c q r h)
 
 same_height : (d : ℕ) (c q : Coord) → d ≤ 4 → Toward d c q → q.z ≡ c.z
-unfolding Toward
-same_height d c q r (inl h) = omega arith
-same_height d c q r (inr (inl h)) = omega arith
-same_height d c q r (inr (inr (inl h))) = omega arith
-same_height d c q r (inr (inr (inr (inl h)))) = omega arith
-same_height d c q r (inr (inr (inr (inr (inl h))))) = absurd (omega arith)
-same_height d c q r (inr (inr (inr (inr (inr h))))) = absurd (omega arith)
+same_height d c q r (lies_left h) = omega arith
+same_height d c q r (lies_right h) = omega arith
+same_height d c q r (lies_under h) = omega arith
+same_height d c q r (lies_over h) = omega arith
+same_height d c q r (lies_near h) = absurd (omega arith)
+same_height d c q r (lies_far h) = absurd (omega arith)
 
 pub side_row : (g : Grid) (c q : Coord) (n d : ℕ) → (0 < d) × (d ≤ 4) → LieInRow g c n → Toward d c q
     → IsInSpace g.resolution q → LieInRow g q n
@@ -182,17 +164,16 @@ side_row g c q n d r h t s = let same_z : q.z ≡ c.z = same_height d c q r.1 t 
 
 pub side_free : (w : Coord → ℕ) (c q : Coord) (n d toward : ℕ) → (0 < d) × (d ≤ 4) → Toward d c q
     → RowHangsNot w q n toward → SideHangsNot w c n d toward
-side_free w c q n d toward r t h k p l u = subst (λ (x : Coord). HangsNot (w x) toward) (sym (beside_further d k c q p r t u)) (h k l)
+side_free w c q n d toward r t h k p l u = subst (λ (x : Coord). HangsNot (w x) toward) (sym (beside_further d k c q p r.1 t u)) (h k l)
 
 side_back : (d k : ℕ) (c p : Coord) → d ≤ 4 → Toward d (further c k) p
     → Toward d c (record { x = p.x; y = p.y; z = c.z })
-unfolding Toward
-side_back d k c p r (inl h) = inl (h.0, h.1, h.2, refl)
-side_back d k c p r (inr (inl h)) = inr (inl (h.0, h.1, h.2, refl))
-side_back d k c p r (inr (inr (inl h))) = inr (inr (inl (h.0, h.1, h.2, refl)))
-side_back d k c p r (inr (inr (inr (inl h)))) = inr (inr (inr (inl (h.0, h.1, h.2, refl))))
-side_back d k c p r (inr (inr (inr (inr (inl h))))) = absurd (omega arith)
-side_back d k c p r (inr (inr (inr (inr (inr h))))) = absurd (omega arith)
+side_back d k c p r (lies_left h) = lies_left (h.0, h.1, h.2, refl)
+side_back d k c p r (lies_right h) = lies_right (h.0, h.1, h.2, refl)
+side_back d k c p r (lies_under h) = lies_under (h.0, h.1, h.2, refl)
+side_back d k c p r (lies_over h) = lies_over (h.0, h.1, h.2, refl)
+side_back d k c p r (lies_near h) = absurd (omega arith)
+side_back d k c p r (lies_far h) = absurd (omega arith)
 
 pub side_none : (g : Grid) (r : ℕ) (c : Coord) (n d toward : ℕ) → (0 < d) × (d ≤ 4) → LieInRow g c n → r ≡ g.resolution
     → ((q : Coord) → 0 < word_at g q → IsInSpace g.resolution q) → ((q : Coord) → Toward d c q → IsInSpace r q → ⊥)
@@ -230,8 +211,7 @@ end_free w c d toward word t h k p l u =
 
 pub far_free : (w : Coord → ℕ) (c : Coord) (n : ℕ) → 0 < n → SideHangsNot w (further c (n - 1)) 1 6 5 → (p : Coord)
     → p.x ≡ c.x → p.y ≡ c.y → p.z ≡ c.z + n → HangsNot (w p) 5
-unfolding Toward
-far_free w c n s h p x y z = h 0 p (omega arith) (inr (inr (inr (inr (inr (refl, omega arith, omega arith, omega arith))))))
+far_free w c n s h p x y z = h 0 p (omega arith) (lies_far (refl, omega arith, omega arith, omega arith))
 
 -- ---- the voxels of a stretch
 

@@ -5,7 +5,7 @@ use Rattle.std.proofs.lemmas.List.{get_or_default}
 use Rattle.vox_geom.specs.declared.coordinate.Coord.{Coord}
 use Rattle.vox_geom.proofs.Points.{same_or_not}
 use Rattle.support_forest.specs.declared.beside.Beside.{Beside}
-use Rattle.support_forest.specs.Directions.{Toward}
+use Rattle.support_forest.specs.Directions.{Toward, lies_left, lies_right, lies_under, lies_over, lies_near, lies_far}
 use Rattle.support_forest.specs.Grid.{Grid, word_at}
 use Rattle.support_forest.specs.Losing.{CanRemove, HaveRemoved}
 use Rattle.support_forest.specs.Placing.{AreBesideWords, IsWordToward}
@@ -14,16 +14,15 @@ use Rattle.support_forest.specs.Words.{AreExact, IsWritten}
 use Rattle.support_forest.proofs.Placing.{only_one}
 
 pub none_hangs : (w : Coord → ℕ) (c : Coord) (b : Beside) → AreBesideWords w c b → NoneHangs b → IsNoParent w c
-unfolding Toward
 none_hangs w c b k n q h t = by t
   where
     by : Toward (w q % 8) q c → ⊥
-    by (inl d) = let w_is : w q ≡ b.right = k.right.each q (inr (inl (refl, omega arith, omega arith, omega arith))) in n.right (omega arith) (omega arith)
-    by (inr (inl d)) = let w_is : w q ≡ b.left = k.left.each q (inl (refl, omega arith, omega arith, omega arith)) in n.left (omega arith) (omega arith)
-    by (inr (inr (inl d))) = let w_is : w q ≡ b.over = k.over.each q (inr (inr (inr (inl (refl, omega arith, omega arith, omega arith))))) in n.over (omega arith) (omega arith)
-    by (inr (inr (inr (inl d)))) = let w_is : w q ≡ b.under = k.under.each q (inr (inr (inl (refl, omega arith, omega arith, omega arith)))) in n.under (omega arith) (omega arith)
-    by (inr (inr (inr (inr (inl d))))) = let w_is : w q ≡ b.far = k.far.each q (inr (inr (inr (inr (inr (refl, omega arith, omega arith, omega arith)))))) in n.far (omega arith) (omega arith)
-    by (inr (inr (inr (inr (inr d))))) = let w_is : w q ≡ b.near = k.near.each q (inr (inr (inr (inr (inl (refl, omega arith, omega arith, omega arith)))))) in n.near (omega arith) (omega arith)
+    by (lies_left d) = let w_is : w q ≡ b.right = k.right.each q (lies_right (refl, omega arith, omega arith, omega arith)) in n.right (omega arith) (omega arith)
+    by (lies_right d) = let w_is : w q ≡ b.left = k.left.each q (lies_left (refl, omega arith, omega arith, omega arith)) in n.left (omega arith) (omega arith)
+    by (lies_under d) = let w_is : w q ≡ b.over = k.over.each q (lies_over (refl, omega arith, omega arith, omega arith)) in n.over (omega arith) (omega arith)
+    by (lies_over d) = let w_is : w q ≡ b.under = k.under.each q (lies_under (refl, omega arith, omega arith, omega arith)) in n.under (omega arith) (omega arith)
+    by (lies_near d) = let w_is : w q ≡ b.far = k.far.each q (lies_far (refl, omega arith, omega arith, omega arith)) in n.far (omega arith) (omega arith)
+    by (lies_far d) = let w_is : w q ≡ b.near = k.near.each q (lies_near (refl, omega arith, omega arith, omega arith)) in n.near (omega arith) (omega arith)
 
 pub exact_without : (r : ℕ) (w v : Coord → ℕ) (c : Coord) → AreExact r w → IsNoParent w c → IsWritten w v c 0
     → AreExact r v
@@ -64,16 +63,15 @@ taken old new c before mid next after e n w r l m t = taken_by old new c before 
 -- what stands on the floor beside it hangs on no voxel
 none_hangs_on_floor : (r : ℕ) (w : Coord → ℕ) (c : Coord) (over : ℕ) → AreExact r w → c.y ≡ 0 → IsWordToward w c 4 over
     → HangsNot over 3 → IsNoParent w c
-unfolding Toward
 none_hangs_on_floor r w c over e y k n q h t = by t
   where
     by : Toward (w q % 8) q c → ⊥
-    by (inl d) = let w_is : w q ≡ 8 = e.floor q (omega arith) (omega arith) in omega arith
-    by (inr (inl d)) = let w_is : w q ≡ 8 = e.floor q (omega arith) (omega arith) in omega arith
-    by (inr (inr (inl d))) = let w_is : w q ≡ over = k.each q (inr (inr (inr (inl (refl, omega arith, omega arith, omega arith))))) in n (omega arith) (omega arith)
-    by (inr (inr (inr (inl d)))) = omega arith
-    by (inr (inr (inr (inr (inl d))))) = let w_is : w q ≡ 8 = e.floor q (omega arith) (omega arith) in omega arith
-    by (inr (inr (inr (inr (inr d))))) = let w_is : w q ≡ 8 = e.floor q (omega arith) (omega arith) in omega arith
+    by (lies_left d) = let w_is : w q ≡ 8 = e.floor q (omega arith) (omega arith) in omega arith
+    by (lies_right d) = let w_is : w q ≡ 8 = e.floor q (omega arith) (omega arith) in omega arith
+    by (lies_under d) = let w_is : w q ≡ over = k.each q (lies_over (refl, omega arith, omega arith, omega arith)) in n (omega arith) (omega arith)
+    by (lies_over d) = omega arith
+    by (lies_near d) = let w_is : w q ≡ 8 = e.floor q (omega arith) (omega arith) in omega arith
+    by (lies_far d) = let w_is : w q ≡ 8 = e.floor q (omega arith) (omega arith) in omega arith
 
 pub taken_from_floor : (old new : Grid) (c : Coord) (over before mid after : ℕ) → AreExact old.resolution (word_at old)
     → c.y ≡ 0 → IsWordToward (word_at old) c 4 over → HangsNot over 3 → IsWritten (word_at old) (word_at new) c 0

@@ -6,7 +6,7 @@ use Rattle.vox_geom.specs.Space.{IsInSpace}
 use Rattle.support_forest.specs.declared.beside.Beside.{Beside}
 use Rattle.support_forest.specs.declared.place.Around.{Around}
 use Rattle.support_forest.specs.Directions.{Toward, AreBeside}
-use Rattle.support_forest.specs.Grid.{Grid, StandsIn, brick, word_at, word_index}
+use Rattle.support_forest.specs.Grid.{Grid, StandsIn, brick, brick_number, word_at, word_index}
 use Rattle.support_forest.specs.Waiting.{CanAdd}
 use Rattle.support_forest.specs.Words.{height, AreExact, IsSound}
 
@@ -41,8 +41,8 @@ pub record IsIndexToward (c : Coord) (d index : ℕ) : Type 0 where
   pub at_index : word_index there ≡ index
 
 -- the voxel of these components
-abbrev pub voxel : ℕ → ℕ → ℕ → Coord
-voxel x y z = record { x = x; y = y; z = z }
+abbrev pub voxel_of : ℕ → ℕ → ℕ → Coord
+voxel_of x y z = record { x = x; y = y; z = z }
 
 -- the voxel is the last of its brick in the direction
 pub record EndsBrick (c : Coord) (d : ℕ) : Type 0 where
@@ -52,6 +52,12 @@ pub record EndsBrick (c : Coord) (d : ℕ) : Type 0 where
   pub over : d ≡ 4 → c.y % 8 ≡ 7
   pub near : d ≡ 5 → c.z % 8 ≡ 0
   pub far : d ≡ 6 → c.z % 8 ≡ 7
+
+-- the voxel is in space, and its word stands at that index of the brick of that number
+pub record IsOwnSpot (r : ℕ) (c : Coord) (number index : ℕ) : Type 0 where
+  pub within : IsInSpace r c
+  pub in_brick : number ≡ brick_number r c
+  pub at_index : index ≡ word_index c
 
 -- the neighbour in the direction stands at that index of the brick of that number
 pub record IsSpotToward (r : ℕ) (c : Coord) (d number index : ℕ) : Type 0 where
@@ -115,6 +121,11 @@ pub record HavePlaced (old new : Grid) (c : Coord) (before after : ℕ) : Type 0
 -- the voxel became full, or all stays
 abbrev pub PlacesOrStays : Bool → Grid → Grid → Coord → ℕ → ℕ → Type 0
 PlacesOrStays done old new c before after = MatchBool done (HavePlaced old new c before after) ((new ≡ old) × (after ≤ before + 6))
+
+-- the same where a voxel that became full has a height
+pub record StandsOrStays (done : Bool) (old new : Grid) (c : Coord) (before after : ℕ) : Type 0 where
+  pub placed : PlacesOrStays done old new c before after
+  pub held : done ≡ true → 8 ≤ word_at new c
 
 -- those of the voxels that change no other level became full, one after another, and the rest may still be added
 pub record ArePlaced (old new : Grid) (cells rest : List Coord) (before after : ℕ) : Type 0 where

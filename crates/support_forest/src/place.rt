@@ -2,11 +2,11 @@
 ghost use Rattle.std.specs.Prelude.{◌≡◌, ℕ, ◌+◌, ◌<◌, ◌≤◌, IfOk, Some, true};
 ghost use Rattle.vox_geom.specs.declared.coordinate.Coord.{Coord};
 ghost use Rattle.support_forest.specs.Grid.{slot_of, word_at};
-ghost use Rattle.support_forest.specs.Placing.{AreBesideWords, CanPlace, IsAround, IsWordToward, LeavesRoom, MayLieUnder, MayStand, PlacesOrStays};
+ghost use Rattle.support_forest.specs.Placing.{AreBesideWords, CanPlace, IsAround, IsWordToward, LeavesRoom, MayLieUnder, MayStand, PlacesOrStays, StandsOrStays};
 
-use crate::across::word_next;
-use crate::beside::{Beside, word_toward, words_beyond, words_in};
-use crate::cells::{BRICK_SIDE, Cells, word_index};
+use crate::beside::{Beside, words_beyond, words_in};
+use crate::cells::{BRICK_SIDE, Cells};
+use crate::toward::{word_over_floor, word_toward};
 use brick_arena::start_in_chunk;
 use std::alloc::AllocError;
 use std::sync::ledger::Ledger;
@@ -151,10 +151,9 @@ fn place_on_floor<L: Ledger>(cells: &mut Cells, c: Coord, slot: u32, steps: &mut
     requires can { CanPlace cells.old c }
     requires floor { c.y ≡ 0 }
     requires slot { slot_of cells.old c ≡ Some slot }
-    ensures placed { PlacesOrStays result cells.old cells.new c steps.old steps.new }
-    ensures held { result ≡ true → 8 ≤ word_at cells.new c }
+    ensures { StandsOrStays result cells.old cells.new c steps.old steps.new }
 {
-    let over = word_toward(cells, c, Some(slot), word_index(c), 4, steps);
+    let over = word_over_floor(cells, c, slot, steps);
     if !may_lie_under(over) {
         return false;
     }
@@ -209,34 +208,33 @@ pub fn place<L: Ledger>(
 fn stand_by<L: Ledger>(cells: &mut Cells, c: Coord, slot: u32, steps: &mut Steps<L>) -> bool
     requires can { CanPlace cells.old c }
     requires slot { slot_of cells.old c ≡ Some slot }
-    ensures placed { PlacesOrStays result cells.old cells.new c steps.old steps.new }
-    ensures held { result ≡ true → 8 ≤ word_at cells.new c }
+    ensures { StandsOrStays result cells.old cells.new c steps.old steps.new }
 {
     cells.recall();
     let chunk = cells.chunk(slot);
     let start = start_in_chunk(slot);
-    let under = word_next::<3, L>(cells, c, slot, chunk, start, steps);
+    let under = word_toward::<3, true, L>(cells, c, slot, chunk, start, steps);
     let height = under / 8;
     if height == 0 {
         return false;
     }
-    let left = word_next::<1, L>(cells, c, slot, chunk, start, steps);
+    let left = word_toward::<1, true, L>(cells, c, slot, chunk, start, steps);
     if !leaves_room(left, height) {
         return false;
     }
-    let right = word_next::<2, L>(cells, c, slot, chunk, start, steps);
+    let right = word_toward::<2, true, L>(cells, c, slot, chunk, start, steps);
     if !leaves_room(right, height) {
         return false;
     }
-    let over = word_next::<4, L>(cells, c, slot, chunk, start, steps);
+    let over = word_toward::<4, true, L>(cells, c, slot, chunk, start, steps);
     if !leaves_room(over, height) {
         return false;
     }
-    let near = word_next::<5, L>(cells, c, slot, chunk, start, steps);
+    let near = word_toward::<5, true, L>(cells, c, slot, chunk, start, steps);
     if !leaves_room(near, height) {
         return false;
     }
-    let far = word_next::<6, L>(cells, c, slot, chunk, start, steps);
+    let far = word_toward::<6, true, L>(cells, c, slot, chunk, start, steps);
     if !leaves_room(far, height) {
         return false;
     }
@@ -249,8 +247,7 @@ fn stand_by<L: Ledger>(cells: &mut Cells, c: Coord, slot: u32, steps: &mut Steps
 fn stand_lowest<L: Ledger>(cells: &mut Cells, c: Coord, slot: u32, steps: &mut Steps<L>) -> bool
     requires can { CanPlace cells.old c }
     requires slot { slot_of cells.old c ≡ Some slot }
-    ensures placed { PlacesOrStays result cells.old cells.new c steps.old steps.new }
-    ensures held { result ≡ true → 8 ≤ word_at cells.new c }
+    ensures { StandsOrStays result cells.old cells.new c steps.old steps.new }
 {
     stand_by(cells, c, slot, steps)
 }
@@ -261,8 +258,7 @@ fn stand_lowest<L: Ledger>(cells: &mut Cells, c: Coord, slot: u32, steps: &mut S
 fn stand_in<L: Ledger>(cells: &mut Cells, c: Coord, slot: u32, steps: &mut Steps<L>) -> bool
     requires can { CanPlace cells.old c }
     requires slot { slot_of cells.old c ≡ Some slot }
-    ensures placed { PlacesOrStays result cells.old cells.new c steps.old steps.new }
-    ensures held { result ≡ true → 8 ≤ word_at cells.new c }
+    ensures { StandsOrStays result cells.old cells.new c steps.old steps.new }
 {
     if c.y % BRICK_SIDE == 0 {
         return stand_lowest(cells, c, slot, steps);
@@ -275,8 +271,7 @@ fn stand_in<L: Ledger>(cells: &mut Cells, c: Coord, slot: u32, steps: &mut Steps
 #[inline(always)]
 pub fn stand<L: Ledger>(cells: &mut Cells, c: Coord, steps: &mut Steps<L>) -> bool
     requires { CanPlace cells.old c }
-    ensures placed { PlacesOrStays result cells.old cells.new c steps.old steps.new }
-    ensures held { result ≡ true → 8 ≤ word_at cells.new c }
+    ensures { StandsOrStays result cells.old cells.new c steps.old steps.new }
 {
     let Some(slot) = cells.slot(c) else {
         return false;

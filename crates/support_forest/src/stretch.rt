@@ -9,10 +9,10 @@ ghost use Rattle.support_forest.specs.Grid.{Grid, word_at};
 ghost use Rattle.support_forest.specs.Stretches.{AreCleared, EndsAreFree, IsBrickRow, IsStretch, LieInRow, RowHangsNot, RowIsFree, SideHangsNot, SidesAreFree, TakesMore, WordsHangNot, whole_row_start};
 ghost use Rattle.support_forest.specs.Words.{AreExact};
 
-use crate::beside::{index_toward, word_near};
 use crate::cells::{BRICK_SIDE, Cells, word_index};
 use crate::directions::neighbor;
 use crate::take::{hangs, take};
+use crate::toward::{index_toward, word_toward};
 use brick_arena::{Chunk, start_in_chunk};
 use std::alloc::AllocError;
 use std::sync::ledger::Ledger;
@@ -169,10 +169,16 @@ fn ends_are_free<L: Ledger>(
     cells.recall();
     let chunk = cells.chunk(own);
     let start = start_in_chunk(own);
-    if hangs(word_near(cells, first, own, chunk, start, 5, steps), 6) {
+    if hangs(
+        word_toward::<5, false, L>(cells, first, own, chunk, start, steps),
+        6,
+    ) {
         return false;
     }
-    !hangs(word_near(cells, last, own, chunk, start, 6, steps), 5)
+    !hangs(
+        word_toward::<6, false, L>(cells, last, own, chunk, start, steps),
+        5,
+    )
 }
 
 /// Whether no neighbour has its parent in a voxel of the row, but for the next voxel of the row.

@@ -3,10 +3,11 @@ ghost use Rattle.std.specs.Prelude.{◌≡◌, ◌+◌, ◌<◌, ◌≤◌, Some
 ghost use Rattle.vox_geom.specs.Space.{IsInSpace};
 ghost use Rattle.vox_geom.specs.declared.coordinate.Coord.{Coord};
 ghost use Rattle.support_forest.specs.Grid.{slot_of, word_at};
+ghost use Rattle.support_forest.specs.Placing.{voxel_of};
 ghost use Rattle.support_forest.specs.Taking.{CanTake, HangsNot, IsNoParent, TakesOrStays};
 
-use crate::beside::{word_near, word_toward};
-use crate::cells::{Cells, word_index};
+use crate::cells::{BRICK_SIDE, Cells};
+use crate::toward::{word_over_floor, word_toward};
 use brick_arena::start_in_chunk;
 use std::sync::ledger::Ledger;
 use vox_geom::{Coord, Steps};
@@ -22,7 +23,7 @@ pub fn hangs(word: u32, toward: u32) -> bool
 /// Whether a neighbour has its parent in a voxel whose brick has this slot. Each word beside the voxel is judged as it is read, so
 /// that none is kept.
 #[inline(always)]
-fn is_parent<L: Ledger>(cells: &Cells, c: Coord, slot: u32, steps: &mut Steps<L>) -> bool
+fn is_parent_in<L: Ledger>(cells: &Cells, c: Coord, slot: u32, steps: &mut Steps<L>) -> bool
     requires within { IsInSpace cells.now.resolution c }
     requires slot { slot_of cells.now c ≡ Some slot }
     requires space { (q : Coord) → 0 < word_at cells.now q → IsInSpace cells.now.resolution q }
@@ -32,28 +33,63 @@ fn is_parent<L: Ledger>(cells: &Cells, c: Coord, slot: u32, steps: &mut Steps<L>
     cells.recall();
     let chunk = cells.chunk(slot);
     let start = start_in_chunk(slot);
-    let over = word_near(cells, c, slot, chunk, start, 4, steps);
+    let over = word_toward::<4, true, L>(cells, c, slot, chunk, start, steps);
     if hangs(over, 3) {
         return true;
     }
-    let left = word_near(cells, c, slot, chunk, start, 1, steps);
+    let left = word_toward::<1, true, L>(cells, c, slot, chunk, start, steps);
     if hangs(left, 2) {
         return true;
     }
-    let right = word_near(cells, c, slot, chunk, start, 2, steps);
+    let right = word_toward::<2, true, L>(cells, c, slot, chunk, start, steps);
     if hangs(right, 1) {
         return true;
     }
-    let under = word_near(cells, c, slot, chunk, start, 3, steps);
+    let under = word_toward::<3, true, L>(cells, c, slot, chunk, start, steps);
     if hangs(under, 4) {
         return true;
     }
-    let near = word_near(cells, c, slot, chunk, start, 5, steps);
+    let near = word_toward::<5, true, L>(cells, c, slot, chunk, start, steps);
     if hangs(near, 6) {
         return true;
     }
-    let far = word_near(cells, c, slot, chunk, start, 6, steps);
+    let far = word_toward::<6, true, L>(cells, c, slot, chunk, start, steps);
     hangs(far, 5)
+}
+
+/// [`is_parent`] of a voxel that is the highest of its brick. It comes by its components: a coordinate is handed on through memory.
+#[inline(never)]
+fn is_parent_highest<L: Ledger>(
+    cells: &Cells,
+    x: u16,
+    y: u16,
+    z: u16,
+    slot: u32,
+    steps: &mut Steps<L>,
+) -> bool
+    requires within { IsInSpace cells.now.resolution (voxel_of x y z) }
+    requires slot { slot_of cells.now (voxel_of x y z) ≡ Some slot }
+    requires space { (q : Coord) → 0 < word_at cells.now q → IsInSpace cells.now.resolution q }
+    ensures parent { result ≡ false → IsNoParent (word_at cells.now) (voxel_of x y z) }
+    ensures touches { steps.new ≤ steps.old + 6 }
+{
+    is_parent_in(cells, Coord { x, y, z }, slot, steps)
+}
+
+/// [`is_parent_in`], in two ways: where the first word that is read lies in the voxel's own brick, the compiler keeps the place of
+/// its chunk for those that follow.
+#[inline(always)]
+fn is_parent<L: Ledger>(cells: &Cells, c: Coord, slot: u32, steps: &mut Steps<L>) -> bool
+    requires within { IsInSpace cells.now.resolution c }
+    requires slot { slot_of cells.now c ≡ Some slot }
+    requires space { (q : Coord) → 0 < word_at cells.now q → IsInSpace cells.now.resolution q }
+    ensures parent { result ≡ false → IsNoParent (word_at cells.now) c }
+    ensures touches { steps.new ≤ steps.old + 6 }
+{
+    if c.y % BRICK_SIDE == BRICK_SIDE - 1 {
+        return is_parent_highest(cells, c.x, c.y, c.z, slot, steps);
+    }
+    is_parent_in(cells, c, slot, steps)
 }
 
 /// [`take`] on the floor, where each full voxel stands on the floor: that over it is the only one that can hang on it.
@@ -64,7 +100,7 @@ fn take_from_floor<L: Ledger>(cells: &mut Cells, c: Coord, slot: u32, steps: &mu
     requires slot { slot_of cells.old c ≡ Some slot }
     ensures { TakesOrStays result cells.old cells.new c steps.old steps.new }
 {
-    let over = word_toward(cells, c, Some(slot), word_index(c), 4, steps);
+    let over = word_over_floor(cells, c, slot, steps);
     if hangs(over, 3) {
         return false;
     }

@@ -7,7 +7,7 @@ use Rattle.support_forest.proofs.place.place_in.Goals as goal
 pub overflow_add-beside : goal.overflow_add-beside
 overflow_add-beside g c =
     let cube = most_cube c.args.cells.now.resolution c.recall.ensures.few in
-    let low = under_small c.args.cells.now.resolution (word_at c.args.cells.now) c.args.c c.words_in-beside.result c.requires.can.exact cube c.words_in-beside.ensures.words (c.if-may_stand.ensures refl) in
+    let low = under_small c.args.cells.now.resolution (word_at c.args.cells.now) c.args.c c.words_in-beside.result.under c.requires.can.exact cube c.words_in-beside.ensures.words.under (c.if-may_stand.ensures refl).under in
     omega arith
 
 pub returns-then-may_stand : goal.returns-then-may_stand

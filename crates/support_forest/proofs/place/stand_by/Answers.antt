@@ -12,36 +12,19 @@ chunk-chunk-requires g c = c.recall.ensures.store.live _ c.args.slot c.requires.
 pub overflow_add-height : goal.overflow_add-height
 overflow_add-height g c =
     let cube = most_cube c.args.cells.now.resolution c.recall.ensures.few in
-    let beside : Beside = record { left = c.word_next-left.result; right = c.word_next-right.result; under = c.word_next-under.result; over = c.word_next-over.result; near = c.word_next-near.result; far = c.word_next-far.result } in
-    let words : AreBesideWords (word_at c.args.cells.now) c.args.c beside = record {
-      left = c.word_next-left.ensures.word;
-      right = c.word_next-right.ensures.word;
-      under = c.word_next-under.ensures.word;
-      over = c.word_next-over.ensures.word;
-      near = c.word_next-near.ensures.word;
-      far = c.word_next-far.ensures.word;
-    } in
-    let stands : MayStand beside = record {
-      under = omega (arith, c.if-height-eq0.false);
-      left = c.if-not-leaves_room.ensures refl;
-      right = c.if-not-leaves_room-2.ensures refl;
-      over = c.if-not-leaves_room-3.ensures refl;
-      near = c.if-not-leaves_room-4.ensures refl;
-      far = c.if-not-leaves_room-5.ensures refl;
-    } in
-    let low = under_small c.args.cells.now.resolution (word_at c.args.cells.now) c.args.c beside c.requires.can.exact cube words stands in
+    let low = under_small c.args.cells.now.resolution (word_at c.args.cells.now) c.args.c c.word_toward-under.result c.requires.can.exact cube c.word_toward-under.ensures.word (omega (arith, c.if-height-eq0.false)) in
     omega arith
 
-pub returns-clause-placed : goal.returns-clause-placed
-returns-clause-placed g c =
-    let beside : Beside = record { left = c.word_next-left.result; right = c.word_next-right.result; under = c.word_next-under.result; over = c.word_next-over.result; near = c.word_next-near.result; far = c.word_next-far.result } in
+pub returns : goal.returns
+returns g c =
+    let beside : Beside = record { left = c.word_toward-left.result; right = c.word_toward-right.result; under = c.word_toward-under.result; over = c.word_toward-over.result; near = c.word_toward-near.result; far = c.word_toward-far.result } in
     let words : AreBesideWords (word_at c.args.cells.now) c.args.c beside = record {
-      left = c.word_next-left.ensures.word;
-      right = c.word_next-right.ensures.word;
-      under = c.word_next-under.ensures.word;
-      over = c.word_next-over.ensures.word;
-      near = c.word_next-near.ensures.word;
-      far = c.word_next-far.ensures.word;
+      left = c.word_toward-left.ensures.word;
+      right = c.word_toward-right.ensures.word;
+      under = c.word_toward-under.ensures.word;
+      over = c.word_toward-over.ensures.word;
+      near = c.word_toward-near.ensures.word;
+      far = c.word_toward-far.ensures.word;
     } in
     let stands : MayStand beside = record {
       under = omega (arith, c.if-height-eq0.false);
@@ -51,6 +34,9 @@ returns-clause-placed g c =
       near = c.if-not-leaves_room-4.ensures refl;
       far = c.if-not-leaves_room-5.ensures refl;
     } in
-    let touches : c.word_next-far.new.steps ≤ c.args.steps.now + 6 = omega (arith, c.word_next-under.ensures.touch, c.word_next-left.ensures.touch, c.word_next-right.ensures.touch, c.word_next-over.ensures.touch, c.word_next-near.ensures.touch, c.word_next-far.ensures.touch) in
-    placed_over c.args.cells.now c.write.new.self c.args.c beside c.args.steps.now c.word_next-far.new.steps c.write.new.steps
-    c.requires.can.exact c.requires.can.within c.requires.can.void words stands c.write.ensures.written c.write.ensures.resolution touches c.write.ensures.touch
+    let touches : c.word_toward-far.new.steps ≤ c.args.steps.now + 6 = omega (arith, c.word_toward-under.ensures.touch, c.word_toward-left.ensures.touch, c.word_toward-right.ensures.touch, c.word_toward-over.ensures.touch, c.word_toward-near.ensures.touch, c.word_toward-far.ensures.touch) in
+    record {
+      placed = placed_over c.args.cells.now c.write.new.self c.args.c beside c.args.steps.now c.word_toward-far.new.steps c.write.new.steps
+          c.requires.can.exact c.requires.can.within c.requires.can.void words stands c.write.ensures.written c.write.ensures.resolution touches c.write.ensures.touch;
+      held = λ _. omega (arith, c.write.ensures.written.here);
+    }

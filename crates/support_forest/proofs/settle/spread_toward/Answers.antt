@@ -1,9 +1,24 @@
 use Rattle.std.proofs.Common.{ℕ, ◌⊎◌, ◌+◌, ◌-◌, ◌<◌, ◌/◌, arith, refl, sym, subst, inr}
 use Rattle.vox_geom.specs.Space.{IsInSpace}
+use Rattle.vox_geom.proofs.Sums.{most_cube}
 use Rattle.support_forest.specs.Grid.{word_at}
 use Rattle.support_forest.proofs.Nearby.{stay_after}
 use Rattle.support_forest.proofs.SettlingSteps.{direction_void, direction_idle, direction_offered}
 use Rattle.support_forest.proofs.settle.spread_toward.Goals as goal
+
+pub overflow_add-beyond : goal.overflow_add-beyond
+overflow_add-beyond g c =
+    let high = c.requires.can.is.here.0 in
+    let same = c.requires.can.is.same.resolution in
+    let cube = most_cube c.requires.can.old.resolution (omega (arith, c.resolution-r.ensures.value, c.resolution-r.ensures.few)) in
+    omega arith
+
+pub accept-requires-clause-small : goal.accept-requires-clause-small
+accept-requires-clause-small g c =
+    let high = c.requires.can.is.here.0 in
+    let same = c.requires.can.is.same.resolution in
+    let cube = most_cube c.requires.can.old.resolution (omega (arith, c.resolution-r.ensures.value, c.resolution-r.ensures.few)) in
+    omega arith
 
 pub accept-requires-clause-stands : goal.accept-requires-clause-stands
 accept-requires-clause-stands g c = sym (c.requires.word.each _ c.in-Some.ensures.0)

@@ -1,4 +1,4 @@
-use Rattle.std.proofs.Common.{◌≤◌, arith}
+use Rattle.std.proofs.Common.{arith}
 use Rattle.support_forest.proofs.Store.{few_bricks}
 use Rattle.support_forest.proofs.cells.Cells.side.Goals as goal
 

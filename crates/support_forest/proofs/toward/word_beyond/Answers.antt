@@ -3,7 +3,7 @@ use Rattle.std.proofs.lemmas.Bool.{cases_lt}
 use Rattle.vox_geom.specs.Space.{IsInSpace}
 use Rattle.support_forest.specs.Grid.{word_at}
 use Rattle.support_forest.proofs.Sides.{one_toward}
-use Rattle.support_forest.proofs.beside.word_beyond.Goals as goal
+use Rattle.support_forest.proofs.toward.word_beyond.Goals as goal
 
 pub returns-in-Some-clause-word : goal.returns-in-Some-clause-word
 returns-in-Some-clause-word g c = record {

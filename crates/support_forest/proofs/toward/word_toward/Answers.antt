@@ -4,7 +4,7 @@ use Rattle.support_forest.proofs.Nearby.{stands_beside}
 use Rattle.support_forest.proofs.Sides.{one_toward}
 use Rattle.support_forest.proofs.Store.{index_below}
 use Rattle.support_forest.proofs.Writes.{reads_index}
-use Rattle.support_forest.proofs.across.word_next.Goals as goal
+use Rattle.support_forest.proofs.toward.word_toward.Goals as goal
 
 pub overflow_add-start : goal.overflow_add-start
 overflow_add-start g c =

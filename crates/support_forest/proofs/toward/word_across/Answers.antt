@@ -1,12 +1,12 @@
-use Rattle.std.proofs.Common.{◌≡◌, ℕ, ◌+◌, ◌*◌, ◌<◌, ◌∙◌, ap, arith, inl, inr, length, subst, sym}
+use Rattle.std.proofs.Common.{ℕ, ◌∙◌, ap, arith, inl, inr, subst, sym}
 use Rattle.std.proofs.lemmas.Bool.{cases_lt}
 use Rattle.vox_geom.specs.Space.{IsInSpace}
 use Rattle.support_forest.specs.Grid.{StandsIn, word_at}
-use Rattle.support_forest.specs.Placing.{voxel}
+use Rattle.support_forest.specs.Placing.{voxel_of}
 use Rattle.support_forest.proofs.Sides.{one_toward}
 use Rattle.support_forest.proofs.Spots.{stands_below}
 use Rattle.support_forest.proofs.Store.{index_below}
-use Rattle.support_forest.proofs.across.word_across.Goals as goal
+use Rattle.support_forest.proofs.toward.word_across.Goals as goal
 
 pub overflow_cast-spot : goal.overflow_cast-spot
 overflow_cast-spot g c = let some_ensured = c.in-Some.ensures in let below = index_below some_ensured.there in let at_index = some_ensured.stands.at_index in omega arith
@@ -27,7 +27,7 @@ returns-in-Some-clause-word g c =
     let some_ensured = c.in-Some.ensures in
     let stands : StandsIn c.args.cells.now.resolution c.in-Some.spot.number c.in-Some.spot.index some_ensured.there = subst (λ (r : ℕ). StandsIn r c.in-Some.spot.number c.in-Some.spot.index some_ensured.there) c.resolution.ensures.value some_ensured.stands in
     record {
-      each = λ q k. ap (word_at c.args.cells.now) (one_toward g.row.D (voxel c.args.x c.args.y c.args.z) q some_ensured.there k some_ensured.toward) ∙ c.word_in_brick.ensures.value some_ensured.there stands;
+      each = λ q k. ap (word_at c.args.cells.now) (one_toward g.row.D (voxel_of c.args.x c.args.y c.args.z) q some_ensured.there k some_ensured.toward) ∙ c.word_in_brick.ensures.value some_ensured.there stands;
       some = λ f. (some_ensured.there, some_ensured.toward);
     }
 

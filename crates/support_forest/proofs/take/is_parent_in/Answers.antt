@@ -1,7 +1,7 @@
 use Rattle.support_forest.specs.Grid.{word_at}
 use Rattle.support_forest.proofs.Taking.{none_hangs}
 use Rattle.std.proofs.Common.{refl}
-use Rattle.support_forest.proofs.take.is_parent.Goals as goal
+use Rattle.support_forest.proofs.take.is_parent_in.Goals as goal
 
 pub chunk-chunk-requires : goal.chunk-chunk-requires
 chunk-chunk-requires g c = c.recall.ensures.store.live _ c.args.slot c.requires.slot
@@ -9,6 +9,6 @@ chunk-chunk-requires g c = c.recall.ensures.store.live _ c.args.slot c.requires.
 pub returns-clause-parent : goal.returns-clause-parent
 returns-clause-parent g c = λ e.
     none_hangs (word_at c.args.cells.now) c.args.c
-    (record { left = c.word_near-left.result; right = c.word_near-right.result; under = c.word_near-under.result; over = c.word_near-over.result; near = c.word_near-near.result; far = c.word_near-far.result })
-    (record { left = c.word_near-left.ensures.word; right = c.word_near-right.ensures.word; under = c.word_near-under.ensures.word; over = c.word_near-over.ensures.word; near = c.word_near-near.ensures.word; far = c.word_near-far.ensures.word })
+    (record { left = c.word_toward-left.result; right = c.word_toward-right.result; under = c.word_toward-under.result; over = c.word_toward-over.result; near = c.word_toward-near.result; far = c.word_toward-far.result })
+    (record { left = c.word_toward-left.ensures.word; right = c.word_toward-right.ensures.word; under = c.word_toward-under.ensures.word; over = c.word_toward-over.ensures.word; near = c.word_toward-near.ensures.word; far = c.word_toward-far.ensures.word })
     (record { over = c.if-hangs.ensures refl; left = c.if-hangs-2.ensures refl; right = c.if-hangs-3.ensures refl; under = c.if-hangs-4.ensures refl; near = c.if-hangs-5.ensures refl; far = c.hangs-6.ensures e })
