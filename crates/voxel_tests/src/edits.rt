@@ -1,5 +1,5 @@
 //! Edits of a forest of `support_forest` whose conditions a test looks after, by the words of the voxels.
-ghost use Rattle.std.specs.Prelude.{◌≡◌, false, IfOk};
+ghost use Rattle.std.specs.Prelude.{◌≡◌, ◌≢◌, false, IfOk};
 ghost use Rattle.vox_geom.specs.Space.{IsInSpace};
 ghost use Rattle.support_forest.specs.Standing.{Says};
 
@@ -15,6 +15,20 @@ pub(crate) fn inside(rt: &impl Abort, c: Coord, r: u16)
     assert!(rt; c.x < r);
     assert!(rt; c.y < r);
     assert!(rt; c.z < r);
+}
+
+/// The coordinates are two.
+fn apart(rt: &impl Abort, a: Coord, b: Coord)
+    ensures { a ≢ b }
+{
+    assert!(rt; a != b);
+}
+
+/// The word is not that of a void voxel.
+fn full(rt: &impl Abort, word: u32)
+    ensures { word ≢ 0 }
+{
+    assert!(rt; word != 0);
 }
 
 /// The word of a voxel in the arena, 0 where its brick has no slot.
@@ -192,7 +206,6 @@ pub(crate) fn remove_full<L: Ledger>(
 }
 
 /// Removes two voxels whose words say that they are full.
-#[tactic(auto, using(crate::proofs::OneOrTwo::may_remove_two))]
 pub(crate) fn remove_two<L: Ledger>(
     rt: &impl Abort,
     forest: &mut Forest,
@@ -208,9 +221,9 @@ pub(crate) fn remove_two<L: Ledger>(
 {
     let first = word_of(forest, a, steps);
     let second = word_of(forest, b, steps);
-    assert!(rt; a != b);
-    assert!(rt; first != 0);
-    assert!(rt; second != 0);
+    apart(rt, a, b);
+    full(rt, first);
+    full(rt, second);
     let cells = [a, b];
     forest.remove(&cells, steps)
 }
