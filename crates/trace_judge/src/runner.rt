@@ -39,6 +39,8 @@ pub struct Runner {
     machine: Machine,
     pending: Pending,
     mark: Mark,
+    // What the last refusal was: a place for one that is not made anew at each command.
+    fault: StepFault,
 }
 
 impl Model for Runner {
@@ -85,6 +87,7 @@ impl Runner {
             machine,
             pending,
             mark: Mark::Running,
+            fault: StepFault::Spent,
         })
     }
 
@@ -115,12 +118,11 @@ impl Runner {
                 return Ok(());
             }
         }
-        let mut fault = StepFault::Spent;
         match take(
             &mut self.machine,
             &mut self.pending,
             command,
-            &mut fault,
+            &mut self.fault,
             steps,
         ) {
             Taken::Waits => Ok(()),
@@ -129,7 +131,7 @@ impl Runner {
                 self.mark = Mark::Halted;
                 Ok(())
             }
-            Taken::Refused => match fault {
+            Taken::Refused => match self.fault {
                 StepFault::Broken(broken) => {
                     self.mark = Mark::Refused(broken);
                     Ok(())
@@ -168,12 +170,11 @@ impl Runner {
         ensures memory { IfErr result (λ _. MakesEdits self.old.progress command) }
         ensures steps { self.new.progress.steps ≤ self.old.progress.steps + 1 }
     {
-        let mut fault = StepFault::Spent;
-        match self.machine.step_frequent(&command, &mut fault, steps) {
+        match self.machine.step_frequent(&command, &mut self.fault, steps) {
             Tried::Made => Ok(true),
             Tried::Refused => {
                 self.pending.push(command);
-                match fault {
+                match self.fault {
                     StepFault::Broken(broken) => {
                         self.mark = Mark::Refused(broken);
                         Ok(false)
