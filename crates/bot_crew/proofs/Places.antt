@@ -126,7 +126,9 @@ set_is (x ∷ xs) bid (suc i) new r l e n =
     let one : with_bot new (x ∷ ws) ≡ x ∷ with_bot new ws = rw after refl in
     rw (is_kept bid x (λ f. omega arith)) (ap (λ ys. x ∷ ys) rest ∙ (sym one ∙ ap (λ ys. with_bot new ys) (sym (rising_itself (x ∷ ws) rises))))
 
-insert_with : (bots : List Bot) (i : ℕ) (new : Bot) → i ≤ length bots → ((k : ℕ) (d : Bot) → k < i → (get_or bots k d).bid < new.bid) → ((d : Bot) → i < length bots → new.bid < (get_or bots i d).bid) → insert bots i new ≡ with_bot new bots
+insert_with : (bots : List Bot) (i : ℕ) (new : Bot) → i ≤ length bots
+    → ((k : ℕ) (d : Bot) → k < i → (get_or bots k d).bid < new.bid)
+    → ((d : Bot) → i < length bots → new.bid < (get_or bots i d).bid) → insert bots i new ≡ with_bot new bots
 insert_with [] zero new l b f = refl
 insert_with [] (suc i) new l b f = absurd (omega arith)
 insert_with (x ∷ xs) zero new l b f = let is_less : nat_lt new.bid x.bid ≡ true = test_less new.bid x.bid (f x (omega arith)) in rw is_less refl

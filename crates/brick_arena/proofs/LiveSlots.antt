@@ -86,7 +86,8 @@ module _ (m : ℕ → ℕ) (fs : List ℕ) where
   ]
 
 -- at a number where nothing changes
-pub same_slot : (m m' : ℕ → ℕ) (fs fs' : List ℕ) (n n' q : ℕ) → (q < n' → q < n) → (q < n → q < n') → is_listed q fs' ≡ is_listed q fs → (q < n → slot_words m' q ≡ slot_words m q)
+pub same_slot : (m m' : ℕ → ℕ) (fs fs' : List ℕ) (n n' q : ℕ) → (q < n' → q < n) → (q < n → q < n')
+    → is_listed q fs' ≡ is_listed q fs → (q < n → slot_words m' q ≡ slot_words m q)
     → get (live_slots m' fs' n') q ≡ get (live_slots m fs n) q
 same_slot m m' fs fs' n n' q in_old in_new among words = elim (cases_lt q n) [
   | inr past ↦ get_past m' fs' n' q (elim (cases_lt q n') [ inl lt ↦ absurd (let lt' = in_old lt in omega (arith, lt', past)) | inr ge ↦ ge ]) ∙ sym (get_past m fs n q past)

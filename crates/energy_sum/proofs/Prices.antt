@@ -34,8 +34,10 @@ module _ (m : Matrix) (within : Coord → Bool) where
   abbrev pub fulls : List Coord → ℕ
   fulls xs = count_by (λ c. within c && is_full m c) xs
 
-  one_filled : (p f : Bool) (x : Coord) (ys : List Coord) (v g : ℕ) → is_full m x ≡ f → total (map (λ c. cond (is_full m c) (pos 6) (pos 12)) ys) ≡ filling_cost v g
-      → total (map (λ c. cond (is_full m c) (pos 6) (pos 12)) (cond p (x ∷ ys) ys)) ≡ filling_cost (cond (p && not f) 1 0 + v) (cond (p && f) 1 0 + g)
+  one_filled : (p f : Bool) (x : Coord) (ys : List Coord) (v g : ℕ) → is_full m x ≡ f
+      → total (map (λ c. cond (is_full m c) (pos 6) (pos 12)) ys) ≡ filling_cost v g
+      → total (map (λ c. cond (is_full m c) (pos 6) (pos 12)) (cond p (x ∷ ys) ys))
+      ≡ filling_cost (cond (p && not f) 1 0 + v) (cond (p && f) 1 0 + g)
   one_filled true true x ys v g e h = rw (e, h) (omega (arith, ints))
   one_filled true false x ys v g e h = rw (e, h) (omega (arith, ints))
   one_filled false f x ys v g e h = h ∙ omega (arith, ints)
@@ -47,8 +49,10 @@ module _ (m : Matrix) (within : Coord → Bool) where
       one_filled (within x) (is_full m x) x (filter within xs) (voids xs) (fulls xs) refl (filled_total xs)
       ∙ (λ i. filling_cost (sym (count-cons (λ c. within c && not (is_full m c)) x xs) i) (sym (count-cons (λ c. within c && is_full m c) x xs) i))
 
-  one_voided : (p f : Bool) (x : Coord) (ys : List Coord) (v g : ℕ) → is_full m x ≡ f → total (map (λ c. cond (is_full m c) (negsuc 11) (pos 3)) ys) ≡ voiding_cost v g
-      → total (map (λ c. cond (is_full m c) (negsuc 11) (pos 3)) (cond p (x ∷ ys) ys)) ≡ voiding_cost (cond (p && not f) 1 0 + v) (cond (p && f) 1 0 + g)
+  one_voided : (p f : Bool) (x : Coord) (ys : List Coord) (v g : ℕ) → is_full m x ≡ f
+      → total (map (λ c. cond (is_full m c) (negsuc 11) (pos 3)) ys) ≡ voiding_cost v g
+      → total (map (λ c. cond (is_full m c) (negsuc 11) (pos 3)) (cond p (x ∷ ys) ys))
+      ≡ voiding_cost (cond (p && not f) 1 0 + v) (cond (p && f) 1 0 + g)
   one_voided true true x ys v g e h = rw (e, h) (full_voided v g)
   one_voided true false x ys v g e h = rw (e, h) (void_voided v g)
   one_voided false f x ys v g e h = h ∙ none_voided v g

@@ -70,7 +70,8 @@ module _ (m : Matrix) (x y : ℕ) where
   no_more a b l void = sum_below-gap (λ k. one_if (begins_run m x y k)) a b l (λ k p q. void_begin (is_full_at m x y k) (full_before m x y k % 31 == 0) (void k p q))
 
   -- full voxels after the first begin no run, if they are fewer than 31
-  inside : (first end : ℕ) → end ≤ first + 31 → full_before m x y first % 31 ≡ 0 → IsAll m x y first end true → (k : ℕ) → first + 1 ≤ k → k < end → one_if (begins_run m x y k) ≡ 0
+  inside : (first end : ℕ) → end ≤ first + 31 → full_before m x y first % 31 ≡ 0 → IsAll m x y first end true → (k : ℕ)
+      → first + 1 ≤ k → k < end → one_if (begins_run m x y k) ≡ 0
   inside first end most cut full k l p =
       let first_is : first + (k - first) ≡ k = omega arith in
       let counted_before = before_full m x y first (k - first) (λ j a b. full j a (omega arith)) in

@@ -41,8 +41,8 @@ record Writer (k : Command) (full : Bool) : Type 0 where
   few_last : length (spellings (Wait ∷ k ∷ [])) ≤ 4
   unsplit_first : count_by is_fission (k ∷ Wait ∷ []) ≡ 0
   unsplit_last : count_by is_fission (Wait ∷ k ∷ []) ≡ 0
-  marks : (p c : Point) (old : Bool)
-      → ((list_any (λ s. is_within s c) (filled p k) || false) || (old && not (list_any (λ s. is_within s c) (voided p k) || false)))
+  marks : (p c : Point) (old : Bool) → ((list_any (λ s. is_within s c) (filled p k) || false)
+      || (old && not (list_any (λ s. is_within s c) (voided p k) || false)))
       ≡ cond (is_within (just (plus p down)) c) full old
 
 fills : (t old : Bool) → (((t || false) || false) || (old && not (false || false))) ≡ cond t true old

@@ -49,8 +49,9 @@ one_differs (suc zero) (suc zero) h k = refl
 one_differs (suc (suc a)) b h k = absurd (omega arith)
 one_differs a (suc (suc b)) h k = absurd (omega arith)
 
-pub more_below : (m t : Matrix) (from some here there : ℕ) → m.resolution ≡ t.resolution → from + some ≤ volume m.resolution
-    → ((k : ℕ) → k < some → bit here k ≡ voxel_at m (from + k)) → ((k : ℕ) → k < some → bit there k ≡ voxel_at t (from + k)) → here < 2 ^ some → there < 2 ^ some
+pub more_below : (m t : Matrix) (from some here there : ℕ) → m.resolution ≡ t.resolution
+    → from + some ≤ volume m.resolution → ((k : ℕ) → k < some → bit here k ≡ voxel_at m (from + k))
+    → ((k : ℕ) → k < some → bit there k ≡ voxel_at t (from + k)) → here < 2 ^ some → there < 2 ^ some
     → differing_below m t (from + some) ≡ differing_below m t from + count_ones (bit_xor here there)
 unfolding differing_below
 more_below m t from some here there same within here_is there_is here_small there_small =

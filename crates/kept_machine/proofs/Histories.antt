@@ -18,9 +18,10 @@ use Rattle.kept_machine.specs.Kept.{Instant, Kept, kept_opening, present, trace_
 pub data Walked (from : State) : List Command → Instant → List Instant → Type 0 where
   stands : {made : List Command} {p : Instant} {passed : List Instant} → made ≡ [] → passed ≡ []
       → p ≡ record { state = from; steps = 0 } → Walked from made p passed
-  walks : {made : List Command} {p : Instant} {passed : List Instant} (before commands : List Command) (q : Instant) (others : List Instant) → Walked from before q others
-      → 1 ≤ length q.state.bots → length commands ≡ length q.state.bots → Next q.state commands (q.steps + 1) (Goes p.state) → p.steps ≡ q.steps + 1
-      → made ≡ before ++ commands → passed ≡ others ++ q ∷ [] → Walked from made p passed
+  walks : {made : List Command} {p : Instant} {passed : List Instant} (before commands : List Command) (q : Instant)
+      (others : List Instant) → Walked from before q others → 1 ≤ length q.state.bots
+      → length commands ≡ length q.state.bots → Next q.state commands (q.steps + 1) (Goes p.state)
+      → p.steps ≡ q.steps + 1 → made ≡ before ++ commands → passed ≡ others ++ q ∷ [] → Walked from made p passed
 
 -- what is known of a machine that calls have led to
 pub record Story (from : State) (k : Kept) : Type 0 where
@@ -178,7 +179,8 @@ module _ (source : Matrix) (profile : Profile) where
 
   -- ---- the run
 
-  one_step : (target : Matrix) (s t : State) (commands rest : List Command) (steps : ℕ) (verdict : Verdict) → 1 ≤ length s.bots → length commands ≡ length s.bots → Next s commands (steps + 1) (Goes t)
+  one_step : (target : Matrix) (s t : State) (commands rest : List Command) (steps : ℕ) (verdict : Verdict)
+      → 1 ≤ length s.bots → length commands ≡ length s.bots → Next s commands (steps + 1) (Goes t)
       → Run target t rest (steps + 1) verdict → Run target s (commands ++ rest) steps verdict
   one_step target s t commands rest steps verdict some each next run = by s.bots refl
     where
@@ -189,7 +191,8 @@ module _ (source : Matrix) (profile : Profile) where
       by [] none = absurd (omega (arith, some, ap length none))
       by (bot ∷ bots) is = goes is (subst (λ (cs : List Command). Next s cs (steps + 1) (Goes t)) (sym parts.0) next) (subst (λ (cs : List Command). Run target t cs (steps + 1) verdict) (sym parts.1) run)
 
-  walked_run : (target : Matrix) (made : List Command) (p : Instant) (passed : List Instant) (rest : List Command) (verdict : Verdict) → Walked from made p passed → Run target p.state rest p.steps verdict
+  walked_run : (target : Matrix) (made : List Command) (p : Instant) (passed : List Instant) (rest : List Command)
+      (verdict : Verdict) → Walked from made p passed → Run target p.state rest p.steps verdict
       → Run target from (made ++ rest) 0 verdict
   walked_run target made p passed rest verdict (stands e f g) run =
       subst (λ (cs : List Command). Run target from (cs ++ rest) 0 verdict) (sym e) (subst (λ (q : Instant). Run target q.state rest q.steps verdict) g run)

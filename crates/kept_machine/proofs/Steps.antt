@@ -22,7 +22,8 @@ use Rattle.kept_machine.proofs.Standing.{looks_the_same, still_kept}
 
 -- ---- a machine that was started
 
-pub opened_is_kept : (source : Matrix) (profile : Profile) (room : ℕ) (m : Situation) (notes : Buffer Undo) → m ≡ record { state = opening source profile; steps = 0; spent = false } → notes ≡ buffer [] room
+pub opened_is_kept : (source : Matrix) (profile : Profile) (room : ℕ) (m : Situation) (notes : Buffer Undo)
+    → m ≡ record { state = opening source profile; steps = 0; spent = false } → notes ≡ buffer [] room
     → IsWellFormed (opening source profile) → IsNoted m notes
 opened_is_kept source profile room m notes is none formed = record {
   well_formed = subst (λ (x : Situation). IsWellFormed x.state) (sym is) formed;
@@ -101,7 +102,8 @@ module _ (v w : Situation) (notes : Buffer Undo) (commands : List Command) where
       → IsNoted w notes
   kept_refused f began ended kept stepped = still_kept v w notes stepped.stays.0 stepped.stays.1 kept
 
-  pub refused_so : (trace : Option (List Command)) (f : StepFault) (began ended : ℕ) → CanStep v commands → Stepped v w commands (Err f) began ended
+  pub refused_so : (trace : Option (List Command)) (f : StepFault) (began ended : ℕ) → CanStep v commands
+      → Stepped v w commands (Err f) began ended
       → Tries (kept_of v notes trace) commands (kept_of w notes trace) (Err (no_step_of f))
   refused_so trace (fault.Broken b) began ended can stepped = (looks_the_same v w notes stepped.stays.0 stepped.stays.1 trace, can.each, stepped.breaks.1)
   refused_so trace fault.Memory began ended can stepped = looks_the_same v w notes stepped.stays.0 stepped.stays.1 trace

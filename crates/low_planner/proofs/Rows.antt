@@ -57,7 +57,8 @@ before_in_row d c x y z = rw (same_as d.x c.x x, same_as d.y c.y y) (less d.z c.
     less a b h = grind (arith, nat_tests)
 
 module _ (m : Matrix) (from : Coord) (e : ℕ) (end : e + 1 ≡ m.resolution) where
-  in_row : (d : Coord) → IsTrue (is_full m d) → d.x ≡ from.x → d.y ≡ from.y → from.z ≤ d.z → (is_full m d && in_box from (coord from.x from.y e) d) ≡ true
+  in_row : (d : Coord) → IsTrue (is_full m d) → d.x ≡ from.x → d.y ≡ from.y → from.z ≤ d.z
+      → (is_full m d && in_box from (coord from.x from.y e) d) ≡ true
   in_row d f x y z =
       let along_z = (full_within m d f).z in
       rw f (box_by from (coord from.x from.y e) d (omega arith) (omega arith) (omega arith) (omega arith) z (omega arith))

@@ -39,7 +39,8 @@ module _ {M : Type 1} {𝓤 : Ura M} {𝓛 : Logic 𝓤} {K : Type 0} {Γ : List
   -- a handle by value: it has no machine and its pointer is null, or it is a box
   pub handle_out : K → (p : Ptr) (a : Global) (t : Option Kept) (vs : List Val)
       → ((hv : Val) → t ≡ None → vs ≡ bare_word hv ∷ [] → Fits E.al hv → Seq K 𝓛 (‵ (handle E a hv) ∷ Γ) G)
-      → ((x : Kept) (b o : ℕ) (hv : Val) → t ≡ Some x → Testable (block_ptr b o) → vs ≡ word E hv b o ∷ [] → Fits E.al hv
+      → ((x : Kept) (b o : ℕ) (hv : Val) → t ≡ Some x → Testable (block_ptr b o) → vs ≡ word E hv b o ∷ []
+      → Fits E.al hv
       → Seq K 𝓛 (‵ ((B E).own_val (record { ptr = block_ptr b o; alloc = a; value = x }) (word E hv b o ∷ [])) ∷ Γ) G)
       → Seq K 𝓛 (‵ (Handle.the_row.own_val (record { at = p; alloc = a; machine = t }) vs) ∷ Γ) G
   handle_out k p a None vs none one =

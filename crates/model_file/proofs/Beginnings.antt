@@ -71,8 +71,9 @@ pub looks_none : (m : Matrix) (area : Coord → Type 0) (a : Flood)
     → LooksAround m area a a
 looks_none m area a bare = record { takes = takes_none (Grounded m) a a refl (λ d. refl) refl; bare = bare }
 
-pub looks_then : (m : Matrix) (one two both : Coord → Type 0) (a b c : Flood) → ((d : Coord) → IsInSpace m.resolution d → both d → one d ⊎ two d) →
-    LooksAround m one a b → LooksAround m two b c → LooksAround m both a c
+pub looks_then : (m : Matrix) (one two both : Coord → Type 0) (a b c : Flood)
+    → ((d : Coord) → IsInSpace m.resolution d → both d → one d ⊎ two d) → LooksAround m one a b → LooksAround m two b c
+    → LooksAround m both a c
 looks_then m one two both a b c joined h k = record {
   takes = (let its_takes = h.takes in let takes = k.takes in takes_then (Grounded m) a b c its_takes takes);
   bare = λ e d area t n. by e d t n (joined e (full_within m e t.before) area);
@@ -123,13 +124,16 @@ module _ (m left : Matrix) (first : Coord) (count own bits : ℕ) (few : count �
   }
 
 -- beside the voxels that are out nothing is left
-pub looks_bare : (m : Matrix) (a : Flood) (first : Coord) (bits : ℕ) → AreOut m a.remaining first bits → ((d : Coord) → IsBeside (record { first = first; bits = bits }) d → is_full a.remaining d ≡ false) →
-    LooksAround m (IsNextTo first) a a
+pub looks_bare : (m : Matrix) (a : Flood) (first : Coord) (bits : ℕ) → AreOut m a.remaining first bits
+    → ((d : Coord) → IsBeside (record { first = first; bits = bits }) d → is_full a.remaining d ≡ false)
+    → LooksAround m (IsNextTo first) a a
 looks_bare m a first bits o none = looks_none m (IsNextTo first) a (λ c d area t n. none d (record { one = c; among = o.all c area t; adjacent = n }))
 
 -- what was left beside them was taken
-pub looks_taken : (m : Matrix) (a b : Flood) (first : Coord) (bits : ℕ) → IsBegun m a → AreOut m a.remaining first bits → TakesOut (IsBeside (record { first = first; bits = bits })) a b →
-    ((d : Coord) → IsBeside (record { first = first; bits = bits }) d → is_full b.remaining d ≡ false) → LooksAround m (IsNextTo first) a b
+pub looks_taken : (m : Matrix) (a b : Flood) (first : Coord) (bits : ℕ) → IsBegun m a → AreOut m a.remaining first bits
+    → TakesOut (IsBeside (record { first = first; bits = bits })) a b
+    → ((d : Coord) → IsBeside (record { first = first; bits = bits }) d → is_full b.remaining d ≡ false)
+    → LooksAround m (IsNextTo first) a b
 looks_taken m a b first bits h o t none = record {
   takes = takes_wider (IsBeside (record { first = first; bits = bits })) (Grounded m) a b
       (λ d f k. one_more m d k.one (true_by_false (is_full m d) (is_full a.remaining d) (h.fewer d) f) (adjacent-sym k.one d k.adjacent) (h.grounded k.one (let out = o.out k.one k.among in out))) t;
@@ -169,8 +173,9 @@ nothing_left m first bits e d a =
 
 -- ---- the search has begun
 
-pub flood_begun : (m : Matrix) (start begun : Flood) → start.found.items ≡ [] → IsBegun m start → ((c : Coord) → c.y ≡ 0 → is_full start.remaining c ≡ false) →
-    LooksAround m (λ _. Unit {0}) start begun → IsFlood m begun
+pub flood_begun : (m : Matrix) (start begun : Flood) → start.found.items ≡ [] → IsBegun m start
+    → ((c : Coord) → c.y ≡ 0 → is_full start.remaining c ≡ false) → LooksAround m (λ _. Unit {0}) start begun
+    → IsFlood m begun
 flood_begun m start begun none h floor looks = record {
   resolution = now.resolution;
   fewer = now.fewer;

@@ -93,8 +93,8 @@ unfolding in_box
 outside_is r e c i h = rw (up_to c.x e r i.x h, up_to c.y e r i.y h, up_to c.z e r i.z h, at_zero c.x, at_zero c.z, at_end c.x e r i.x h, at_end c.y e r i.y h, at_end c.z e r i.z h) (same (nat_le 1 c.x) (nat_lt (c.x + 1) r) (nat_lt (c.y + 1) r) (nat_le 1 c.z) (nat_lt (c.z + 1) r))
   where
     same : (x u y z w : Bool)
-        → ((((not x && true && true) || (not u && true && true)) || ((true && true && not z) || (true && true && not w))) || (true && not y && true))
-        ≡ not (x && u && y && z && w)
+        → ((((not x && true && true) || (not u && true && true)) || ((true && true && not z) || (true && true && not w)))
+        || (true && not y && true)) ≡ not (x && u && y && z && w)
     same true true true true true = refl
     same true true true true false = refl
     same true true true false true = refl
@@ -112,9 +112,9 @@ either_full true a b c d e = refl
 either_full false a b c d e = refl
 
 -- the least in the faces is the least outside the legal box
-pub least_outside : (m : Matrix) (e : ℕ) (o : Option Coord) → e + 1 ≡ m.resolution →
-    LeastOf m.resolution (λ c. (((is_full m c && left_box e c) || (is_full m c && right_box e c)) || ((is_full m c && front_box e c) || (is_full m c && back_box e c))) || (is_full m c && top_box e c)) o →
-    LeastOf m.resolution (λ c. is_full m c && not (in_legal_box m.resolution c)) o
+pub least_outside : (m : Matrix) (e : ℕ) (o : Option Coord) → e + 1 ≡ m.resolution
+    → LeastOf m.resolution (λ c. (((is_full m c && left_box e c) || (is_full m c && right_box e c)) || ((is_full m c && front_box e c) || (is_full m c && back_box e c))) || (is_full m c && top_box e c)) o
+    → LeastOf m.resolution (λ c. is_full m c && not (in_legal_box m.resolution c)) o
 least_outside m e o h l =
     least_same m.resolution (λ c. (((is_full m c && left_box e c) || (is_full m c && right_box e c)) || ((is_full m c && front_box e c) || (is_full m c && back_box e c))) || (is_full m c && top_box e c)) (λ c. is_full m c && not (in_legal_box m.resolution c))
     (λ c i. either_full (is_full m c) (left_box e c) (right_box e c) (front_box e c) (back_box e c) (top_box e c) ∙ ap (λ b. is_full m c && b) (outside_is m.resolution e c i h)) o l

@@ -44,10 +44,11 @@ pub rest_length : (bytes : List ℕ) (s : ℕ) → length (take (length bytes - 
 rest_length bytes s = ap length (take_rest bytes s) ∙ length-drop s bytes
 
 -- the voxels of one more byte
-pub byte_more : (old new : Matrix) (bytes : List ℕ) (places from k count byte : ℕ) → from ≡ 8 * k → count ≡ min (places - from) 8 → byte ≡ slice_index bytes (1 + k) →
-    ((p : ℕ) → p < 8 * k → p < places → voxel_at old p ≡ voxel_bit bytes p) →
-    ((p : ℕ) → voxel_at new p ≡ cond (is_from from count p) (bit byte (p - from)) (voxel_at old p)) →
-    (p : ℕ) → p < 8 * (k + 1) → p < places → voxel_at new p ≡ voxel_bit bytes p
+pub byte_more : (old new : Matrix) (bytes : List ℕ) (places from k count byte : ℕ) → from ≡ 8 * k
+    → count ≡ min (places - from) 8 → byte ≡ slice_index bytes (1 + k)
+    → ((p : ℕ) → p < 8 * k → p < places → voxel_at old p ≡ voxel_bit bytes p)
+    → ((p : ℕ) → voxel_at new p ≡ cond (is_from from count p) (bit byte (p - from)) (voxel_at old p)) → (p : ℕ)
+    → p < 8 * (k + 1) → p < places → voxel_at new p ≡ voxel_bit bytes p
 byte_more old new bytes places from k count byte ef ec eb before set p l m = set p ∙ by (cases_lt p from)
   where
     by : ((p < from) ⊎ (from ≤ p))

@@ -345,10 +345,12 @@ gone_outside m first bits r e o d h = void_by m d (λ i. by i o)
     by i (inr (inr l)) = let from = h.from in let along_z = i.z in omega arith
 
 -- of a stretch nothing is there after its row was taken
-pub gone_row : (a b : Flood) (first : Coord) (count bits taken : ℕ) (r : b.remaining.resolution ≡ a.remaining.resolution) (few : count ≤ 64)
+pub gone_row : (a b : Flood) (first : Coord) (count bits taken : ℕ)
+    (r : b.remaining.resolution ≡ a.remaining.resolution) (few : count ≤ 64)
     (was : (k : ℕ) → k < count → bit taken k ≡ (bit bits k && is_full a.remaining (at first (first.z + k))))
-    (left : (d : Coord) → is_full b.remaining d ≡ (is_full a.remaining d && not (is_marked first count bits d))) →
-    count ≡ min (a.remaining.resolution - first.z) 64 → (d : Coord) → IsAmong (record { first = first; bits = bits }) d → is_full b.remaining d ≡ false
+    (left : (d : Coord) → is_full b.remaining d ≡ (is_full a.remaining d && not (is_marked first count bits d)))
+    → count ≡ min (a.remaining.resolution - first.z) 64 → (d : Coord)
+    → IsAmong (record { first = first; bits = bits }) d → is_full b.remaining d ≡ false
 gone_row a b first count bits taken r few was left size d h = by (cases_lt d.z (first.z + count))
   where
     by : ((d.z < first.z + count) ⊎ (first.z + count ≤ d.z)) → is_full b.remaining d ≡ false
@@ -363,15 +365,16 @@ pub takes_beside : (a b : Flood) (s t : Stretch) → TakesOut (IsAmong t) a b
 takes_beside a b s t h near = takes_wider (IsAmong t) (IsBeside s) a b (λ d f k. near d (full_within a.remaining d f) k) h
 
 -- the seven stretches beside one were taken
-pub takes_around : (a b c d e f g h : Flood) (s : Stretch) → IsStart MOST_R s → a.remaining.resolution ≤ MOST_R → s.bits < 2 ^ 64 →
-    TakesOut (IsAmong (record { first = record { x = s.first.x + 1; y = s.first.y; z = s.first.z }; bits = s.bits })) a b →
-    TakesOut (IsAmong (record { first = record { x = one_less s.first.x; y = s.first.y; z = s.first.z }; bits = s.bits })) b c →
-    TakesOut (IsAmong (record { first = record { x = s.first.x; y = s.first.y + 1; z = s.first.z }; bits = s.bits })) c d →
-    TakesOut (IsAmong (record { first = record { x = s.first.x; y = one_less s.first.y; z = s.first.z }; bits = s.bits })) d e →
-    TakesOut (IsAmong (record { first = s.first; bits = moved s.bits })) e f →
-    TakesOut (IsAmong (record { first = record { x = s.first.x; y = s.first.y; z = s.first.z + 64 }; bits = s.bits / 2 ^ 63 })) f g →
-    TakesOut (IsAmong (record { first = record { x = s.first.x; y = s.first.y; z = word_less s.first.z }; bits = s.bits * 2 ^ 63 % 2 ^ 64 })) g h →
-    TakesOut (IsBeside s) a h
+pub takes_around : (a b c d e f g h : Flood) (s : Stretch) → IsStart MOST_R s → a.remaining.resolution ≤ MOST_R
+    → s.bits < 2 ^ 64
+    → TakesOut (IsAmong (record { first = record { x = s.first.x + 1; y = s.first.y; z = s.first.z }; bits = s.bits })) a b
+    → TakesOut (IsAmong (record { first = record { x = one_less s.first.x; y = s.first.y; z = s.first.z }; bits = s.bits })) b c
+    → TakesOut (IsAmong (record { first = record { x = s.first.x; y = s.first.y + 1; z = s.first.z }; bits = s.bits })) c d
+    → TakesOut (IsAmong (record { first = record { x = s.first.x; y = one_less s.first.y; z = s.first.z }; bits = s.bits })) d e
+    → TakesOut (IsAmong (record { first = s.first; bits = moved s.bits })) e f
+    → TakesOut (IsAmong (record { first = record { x = s.first.x; y = s.first.y; z = s.first.z + 64 }; bits = s.bits / 2 ^ 63 })) f g
+    → TakesOut (IsAmong (record { first = record { x = s.first.x; y = s.first.y; z = word_less s.first.z }; bits = s.bits * 2 ^ 63 % 2 ^ 64 })) g h
+    → TakesOut (IsBeside s) a h
 takes_around a b c d e f g h s start most fits h1 h2 h3 h4 h5 h6 h7 =
     let b_most : b.remaining.resolution ≤ MOST_R = rw h1.resolution most in
     let c_most : c.remaining.resolution ≤ MOST_R = rw h2.resolution b_most in

@@ -94,8 +94,11 @@ said total (a ∷ b ∷ c ∷ d ∷ more) index sum ns bound h =
       runs = (run_may total index sum (number_of_four a b c d) ok, s.runs);
     }
 
-    by : (lt no_run : Bool) → is_no_run total index sum (number_of_four a b c d) ≡ no_run → (rest : Result (List ℕ) NoModel) → ((ms : List ℕ) → rest ≡ Ok ms → IsSaid (index + 1) more ms) →
-        ◌≡◌ {A = Result (List ℕ) NoModel} (elim lt [ false ↦ Err WideLong | true ↦ elim no_run [ true ↦ Err (WideRun index) | false ↦ with_first (number_of_four a b c d) rest ] ]) (Ok ns) → IsSaid index (a ∷ b ∷ c ∷ d ∷ more) ns
+    by : (lt no_run : Bool) → is_no_run total index sum (number_of_four a b c d) ≡ no_run
+        → (rest : Result (List ℕ) NoModel) → ((ms : List ℕ) → rest ≡ Ok ms → IsSaid (index + 1) more ms)
+        → ◌≡◌ {A = Result (List ℕ) NoModel}
+        (elim lt [ false ↦ Err WideLong | true ↦ elim no_run [ true ↦ Err (WideRun index) | false ↦ with_first (number_of_four a b c d) rest ] ])
+        (Ok ns) → IsSaid index (a ∷ b ∷ c ∷ d ∷ more) ns
     by false n e rest later k = cc
     by true true e rest later k = cc
     by true false e (Err f) later k = cc
@@ -176,8 +179,11 @@ wide_again high low bytes m hh hl bound h = by (nat_le 251 r && nat_le r 400) re
         let runs : flat_map four_bytes (run_lengths 0 false (voxels_of false (n ∷ ns))) ≡ bytes = ap (flat_map four_bytes) (runs_again n ns s.runs) ∙ s.again in
         rw (written, wide) (λ i. 0xFF ∷ first i ∷ second i ∷ runs i)
 
-    by : (fits : Bool) → (nat_le 251 (high * 256 + low) && nat_le (high * 256 + low) 400) ≡ fits → (runs : Result (List ℕ) NoModel) → runs_in (volume (high * 256 + low)) 0 0 bytes ≡ runs →
-        ◌≡◌ {A = Result Matrix NoModel} (elim fits [ false ↦ Err (WideResolution (high * 256 + low)) | true ↦ of_runs (high * 256 + low) runs ]) (Ok m) → written m ≡ 0xFF ∷ high ∷ low ∷ bytes
+    by : (fits : Bool) → (nat_le 251 (high * 256 + low) && nat_le (high * 256 + low) 400) ≡ fits
+        → (runs : Result (List ℕ) NoModel) → runs_in (volume (high * 256 + low)) 0 0 bytes ≡ runs
+        → ◌≡◌ {A = Result Matrix NoModel}
+        (elim fits [ false ↦ Err (WideResolution (high * 256 + low)) | true ↦ of_runs (high * 256 + low) runs ]) (Ok m)
+        → written m ≡ 0xFF ∷ high ∷ low ∷ bytes
     by false f runs e k = cc
     by true f (Err g) e k = cc
     by true f (Ok ns) e k =
@@ -230,7 +236,8 @@ voxel_said r bytes p l =
 no_voxel : (r : ℕ) (bytes : List ℕ) (p : ℕ) → volume r ≤ p → get_or (said_voxels r bytes) p false ≡ false
 no_voxel r bytes p l = get_or_past (said_voxels r bytes) p false (let length_is : length (said_voxels r bytes) ≡ volume r = length-map (numbers_below (volume r)) (voxel_bit bytes) ∙ length-numbers (volume r) 0 in omega arith)
 
-in_byte : (r : ℕ) (more : List ℕ) (k i : ℕ) → i < 8 → 8 * k + i < volume r → get_or (said_voxels r (r ∷ more)) (8 * k + i) false ≡ bit (get_or more k 0) i
+in_byte : (r : ℕ) (more : List ℕ) (k i : ℕ) → i < 8 → 8 * k + i < volume r
+    → get_or (said_voxels r (r ∷ more)) (8 * k + i) false ≡ bit (get_or more k 0) i
 in_byte r more k i u l =
     let quotient_is : (8 * k + i) / 8 ≡ k = omega arith in
     let remainder_is : (8 * k + i) % 8 ≡ i = omega arith in
@@ -277,9 +284,10 @@ first_again : (r : ℕ) (more : List ℕ) (m : Matrix) → All (λ b. b < 256) m
     → written m ≡ r ∷ cut_last (used_bits r) more
 first_again r more m bound h = by (nat_le 1 r && nat_le r 250) (nat_lt (length (r ∷ more)) (wanted r)) (nat_lt (wanted r) (length (r ∷ more))) refl refl refl h
   where
-    by : (a b c : Bool) → (nat_le 1 r && nat_le r 250) ≡ a → nat_lt (length (r ∷ more)) (wanted r) ≡ b → nat_lt (wanted r) (length (r ∷ more)) ≡ c →
-        ◌≡◌ {A = Result Matrix NoModel} (elim a [ false ↦ Err (Resolution r) | true ↦ elim b [ true ↦ Err (Short (wanted r) (length (r ∷ more))) | false ↦ elim c [ true ↦ Err (Long (wanted r)) | false ↦ Ok (record { resolution = r; voxels = said_voxels r (r ∷ more) }) ] ] ]) (Ok m) →
-        written m ≡ r ∷ cut_last (used_bits r) more
+    by : (a b c : Bool) → (nat_le 1 r && nat_le r 250) ≡ a → nat_lt (length (r ∷ more)) (wanted r) ≡ b
+        → nat_lt (wanted r) (length (r ∷ more)) ≡ c → ◌≡◌ {A = Result Matrix NoModel}
+        (elim a [ false ↦ Err (Resolution r) | true ↦ elim b [ true ↦ Err (Short (wanted r) (length (r ∷ more))) | false ↦ elim c [ true ↦ Err (Long (wanted r)) | false ↦ Ok (record { resolution = r; voxels = said_voxels r (r ∷ more) }) ] ] ])
+        (Ok m) → written m ≡ r ∷ cut_last (used_bits r) more
     by false b c e f g k = cc
     by true true c e f g k = cc
     by true false true e f g k = cc

@@ -212,15 +212,19 @@ module _ (s : Stretch) (r : ℕ) (start : IsStart MOST_R s) (most : r ≤ MOST_R
           along s.first.z d a.x a.y (omega arith) (omega arith) bit_set (omega arith)
 
   -- what holds of all seven stretches holds of each coordinate that is beside
-  pub of_seven : (P : Coord → Type 0) →
-      ((d : Coord) → IsAmong (record { first = record { x = s.first.x + 1; y = s.first.y; z = s.first.z }; bits = s.bits }) d → P d) →
-      ((d : Coord) → IsAmong (record { first = record { x = one_less s.first.x; y = s.first.y; z = s.first.z }; bits = s.bits }) d → P d) →
-      ((d : Coord) → IsAmong (record { first = record { x = s.first.x; y = s.first.y + 1; z = s.first.z }; bits = s.bits }) d → P d) →
-      ((d : Coord) → IsAmong (record { first = record { x = s.first.x; y = one_less s.first.y; z = s.first.z }; bits = s.bits }) d → P d) →
-      ((d : Coord) → IsAmong (record { first = s.first; bits = moved s.bits }) d → P d) →
-      ((d : Coord) → IsAmong (record { first = record { x = s.first.x; y = s.first.y; z = s.first.z + 64 }; bits = s.bits / 2 ^ 63 }) d → P d) →
-      ((d : Coord) → IsAmong (record { first = record { x = s.first.x; y = s.first.y; z = word_less s.first.z }; bits = s.bits * 2 ^ 63 % 2 ^ 64 }) d → P d) →
-      (d : Coord) → IsBeside s d → P d
+  pub of_seven : (P : Coord → Type 0) → ((d : Coord)
+      → IsAmong (record { first = record { x = s.first.x + 1; y = s.first.y; z = s.first.z }; bits = s.bits }) d → P d)
+      → ((d : Coord)
+      → IsAmong (record { first = record { x = one_less s.first.x; y = s.first.y; z = s.first.z }; bits = s.bits }) d
+      → P d) → ((d : Coord)
+      → IsAmong (record { first = record { x = s.first.x; y = s.first.y + 1; z = s.first.z }; bits = s.bits }) d → P d)
+      → ((d : Coord)
+      → IsAmong (record { first = record { x = s.first.x; y = one_less s.first.y; z = s.first.z }; bits = s.bits }) d
+      → P d) → ((d : Coord) → IsAmong (record { first = s.first; bits = moved s.bits }) d → P d) → ((d : Coord)
+      → IsAmong (record { first = record { x = s.first.x; y = s.first.y; z = s.first.z + 64 }; bits = s.bits / 2 ^ 63 }) d
+      → P d) → ((d : Coord)
+      → IsAmong (record { first = record { x = s.first.x; y = s.first.y; z = word_less s.first.z }; bits = s.bits * 2 ^ 63 % 2 ^ 64 }) d
+      → P d) → (d : Coord) → IsBeside s d → P d
   of_seven P p1 p2 p3 p4 p5 p6 p7 d h = by (side_of h.one d h.adjacent)
     where
       c : Coord

@@ -161,8 +161,11 @@ run_turn : (vs more : List Bool) (run : ℕ) (full : Bool)
     → vs ++ (replicate run full ++ more) ≡ (vs ++ (replicate run full ++ [])) ++ more
 run_turn vs more run full = ap (λ xs. vs ++ (xs ++ more)) (sym (append-nil (replicate run full))) ∙ sym (append_assoc vs (replicate run full ++ []) more)
 
-pub run_more : (r : ℕ) (bytes : List ℕ) (old new : Matrix) (at index sum run : ℕ) (full : Bool) → HasRuns r bytes old at index sum full → at + 4 ≤ length bytes → sum < volume r → run ≡ next_run bytes at → (run ≡ 0 → index ≡ 0) → sum + run ≤ volume r →
-    ((p : ℕ) → voxel_at new p ≡ ((full && is_from sum (sum + run - sum) p) || voxel_at old p)) → new.resolution ≡ old.resolution → IsWhole new → HasRuns r bytes new (at + 4) (index + 1) (sum + run) (not full)
+pub run_more : (r : ℕ) (bytes : List ℕ) (old new : Matrix) (at index sum run : ℕ) (full : Bool)
+    → HasRuns r bytes old at index sum full → at + 4 ≤ length bytes → sum < volume r → run ≡ next_run bytes at
+    → (run ≡ 0 → index ≡ 0) → sum + run ≤ volume r
+    → ((p : ℕ) → voxel_at new p ≡ ((full && is_from sum (sum + run - sum) p) || voxel_at old p))
+    → new.resolution ≡ old.resolution → IsWhole new → HasRuns r bytes new (at + 4) (index + 1) (sum + run) (not full)
 run_more r bytes old new at index sum run full h four less er nz fits set resolution whole = record {
   done = h.done ++ run ∷ [];
   reads =

@@ -49,7 +49,8 @@ module _ (number : ℕ) (tower : Tower) (r x y : ℕ) (x_low : 1 ≤ x) (x_high 
   outer_high : (z : ℕ) → r ≤ z + 1 → is_inner r (record { x = x; y = y; z = z }) ≡ false
   outer_high z l = grind (arith, nat_tests)
 
-  inside_is : (z : ℕ) → 1 ≤ z → z + 1 < r → is_forged number r tower (coordinate_at r (row_place r x y + z)) ≡ full_inside z
+  inside_is : (z : ℕ) → 1 ≤ z → z + 1 < r
+      → is_forged number r tower (coordinate_at r (row_place r x y + z)) ≡ full_inside z
   inside_is z l m = ap (is_forged number r tower) (in_row z (omega arith)) ∙ ap (λ b. b && full_inside z) (inner_by z l m)
 
   first_is : is_forged number r tower (coordinate_at r (row_place r x y + 0)) ≡ false
@@ -64,8 +65,10 @@ module _ (number : ℕ) (tower : Tower) (r x y : ℕ) (x_low : 1 ≤ x) (x_high 
     put_at p = (is_from from (length heights) p && (y + 1 == tower.height && (x % 2 == 0 || p + 1 == from + tower.z))) || cond (is_from from (length heights) p) (nat_lt y (slice_index heights (p - from))) (voxel_at old p)
 
     -- with the roof's voxels, and without them
-    pub roofed : (mid : Matrix) (most : ℕ) → most ≡ length heights → y + 1 ≡ tower.height → ((p : ℕ) → voxel_at mid p ≡ cond (is_from from (length heights) p) (nat_lt y (slice_index heights (p - from))) (voxel_at old p))
-        → ((p : ℕ) → voxel_at new p ≡ ((is_from from most p && (x % 2 == 0 || p + 1 == from + tower.z)) || voxel_at mid p)) → (p : ℕ) → voxel_at new p ≡ put_at p
+    pub roofed : (mid : Matrix) (most : ℕ) → most ≡ length heights → y + 1 ≡ tower.height → ((p : ℕ) → voxel_at mid p
+        ≡ cond (is_from from (length heights) p) (nat_lt y (slice_index heights (p - from))) (voxel_at old p))
+        → ((p : ℕ) → voxel_at new p ≡ ((is_from from most p && (x % 2 == 0 || p + 1 == from + tower.z)) || voxel_at mid p))
+        → (p : ℕ) → voxel_at new p ≡ put_at p
     roofed mid most em et columns roof p =
         let top : true ≡ (y + 1 == tower.height) = sym (test_equal (y + 1) tower.height et) in
         roof p ∙ (λ i. (is_from from (em i) p && (top i && (x % 2 == 0 || p + 1 == from + tower.z))) || columns p i)

@@ -91,9 +91,11 @@ runs_sum (a ∷ b ∷ c ∷ []) total index sum runs l h = absurd (no_whole_run 
 runs_sum (a ∷ b ∷ c ∷ d ∷ more) total index sum runs l h =
     by (nat_lt sum total) (is_no_run total index sum (number_of_four a b c d)) refl (runs_in total (index + 1) (sum + number_of_four a b c d) more) (λ ns m. runs_sum more total (index + 1) (sum + number_of_four a b c d) ns m) h
   where
-    by : (p q : Bool) → is_no_run total index sum (number_of_four a b c d) ≡ q → (rest : Result (List ℕ) NoModel) → ((ns : List ℕ) → sum + number_of_four a b c d ≤ total → rest ≡ Ok ns → (sum + number_of_four a b c d) + sum_of ns ≡ total)
-        → ◌≡◌ {A = Result (List ℕ) NoModel} (elim p [ false ↦ Err WideLong | true ↦ elim q [ true ↦ Err (WideRun index) | false ↦ with_first (number_of_four a b c d) rest ] ]) (Ok runs)
-        → sum + sum_of runs ≡ total
+    by : (p q : Bool) → is_no_run total index sum (number_of_four a b c d) ≡ q → (rest : Result (List ℕ) NoModel)
+        → ((ns : List ℕ) → sum + number_of_four a b c d ≤ total → rest ≡ Ok ns
+        → (sum + number_of_four a b c d) + sum_of ns ≡ total) → ◌≡◌ {A = Result (List ℕ) NoModel}
+        (elim p [ false ↦ Err WideLong | true ↦ elim q [ true ↦ Err (WideRun index) | false ↦ with_first (number_of_four a b c d) rest ] ])
+        (Ok runs) → sum + sum_of runs ≡ total
     by false q e rest later k = cc
     by true true e rest later k = cc
     by true false e (Err w) later k = cc

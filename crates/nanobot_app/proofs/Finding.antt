@@ -30,8 +30,10 @@ module _ (limit : ℕ) (files : Files) (name : List ℕ) (commands : List Comman
       by there.0 whole.0 (file_found files name there.0 there.1) (nat_lt limit (length there.0)) refl there.2 whole.2.0 whole.2.1 whole.2.2
     where
       by : (file bytes : List ℕ) → content files name ≡ Some file → (long : Bool) → nat_lt limit (length file) ≡ long
-          → MatchBool long (◌≡◌ {A = Found (List ℕ)} (Ok bytes) (Err (is.Trace, trace_long_line limit))) (◌≡◌ {A = Found (List ℕ)} (Ok bytes) (Ok file))
-          → (d : Result (List Command) NoTrace) → Decoding bytes d → ◌≡◌ {A = Found (List Command)} (Ok commands) (result_map_both (λ x. x) (λ why. (is.Trace, trace_line why)) d) → IsTrace limit files name commands
+          → MatchBool long (◌≡◌ {A = Found (List ℕ)} (Ok bytes) (Err (is.Trace, trace_long_line limit)))
+          (◌≡◌ {A = Found (List ℕ)} (Ok bytes) (Ok file)) → (d : Result (List Command) NoTrace) → Decoding bytes d
+          → ◌≡◌ {A = Found (List Command)} (Ok commands)
+          (result_map_both (λ x. x) (λ why. (is.Trace, trace_line why)) d) → IsTrace limit files name commands
       by file bytes e true test is_long d decoding said = absurd (cc)
       by file bytes e false test is_file (Err why) decoding said = absurd (cc)
       by file bytes e false test is_file (Ok cut) decoding said =

@@ -51,8 +51,9 @@ pub record SaySome : Type 0 where
   pub some : (bytes : List ℕ) (m : Matrix) → model bytes ≡ Ok m → 1 ≤ m.resolution
   pub whole : (bytes : List ℕ) (m : Matrix) → model bytes ≡ Ok m → length m.voxels ≡ volume m.resolution
   pub scripts : (r : ℕ) (bytes : List ℕ) → (said : Result (List DebugLine) FaultyLine) × ScriptSays r bytes said
-  pub texts : (source : Matrix) (profile : Profile) (commands : List Command) (script : List DebugLine) → 1 ≤ source.resolution
-      → length source.voxels ≡ volume source.resolution → AreCommands commands → (text : List ℕ) × PrintsFrom source profile commands script text
+  pub texts : (source : Matrix) (profile : Profile) (commands : List Command) (script : List DebugLine)
+      → 1 ≤ source.resolution → length source.voxels ≡ volume source.resolution → AreCommands commands
+      → (text : List ℕ) × PrintsFrom source profile commands script text
 
 -- ---- what is found
 
@@ -109,7 +110,8 @@ module _ (may : Type 0) {A : Type 0} where
   of_result status line (Err why) other = plain (λ _. Err (status, line why)) (λ _. other)
 
   -- what follows of what the definitions say
-  of_said : {W : Type 0} (says : W → Type 0) (X : W → Finding A) → (SayOne → (v w : W) → says v → says w → v ≡ w) → (SaySome → may → (w : W) × says w) → ((w : W) → IsOnce may (X w))
+  of_said : {W : Type 0} (says : W → Type 0) (X : W → Finding A) → (SayOne → (v w : W) → says v → says w → v ≡ w)
+      → (SaySome → may → (w : W) × says w) → ((w : W) → IsOnce may (X w))
       → IsOnce may (λ files found. (w : W) × says w × X w files found)
   of_said says X one some each = record {
     fine = λ files found h. (each h.0).fine files found h.2;
@@ -205,7 +207,8 @@ plan_once Low source target =
 plan_once Swarm source target = plain ⊥ (λ _. Ok tt) (λ _. tt)
 
 -- what is answered with status 0 comes of a value that was found
-pub done_says : {A : Type 0} (X : Finding A) (p : A → Answers) (files : Files) (reply : Reply) → ((files : Files) (found : Found A) → X files found → IsFine found) → reply.status ≡ is.Done → Upon X p files reply
+pub done_says : {A : Type 0} (X : Finding A) (p : A → Answers) (files : Files) (reply : Reply)
+    → ((files : Files) (found : Found A) → X files found → IsFine found) → reply.status ≡ is.Done → Upon X p files reply
     → (a : A) × X files (Ok a) × p a files reply
 done_says {A} X p files reply fine done h = by h.0 h.1 h.2
   where

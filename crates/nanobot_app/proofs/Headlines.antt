@@ -53,7 +53,8 @@ named_of files None (Some b) found h = tt
 named_of files (Some a) target found h = tt
 
 -- the models of what was answered so
-pub done_models : (files : Files) (source target : Option (List ℕ)) (p : Matrix × Matrix → Answers) (reply : Reply) → reply.status ≡ is.Done → Upon (ModelsOf source target) p files reply
+pub done_models : (files : Files) (source target : Option (List ℕ)) (p : Matrix × Matrix → Answers) (reply : Reply)
+    → reply.status ≡ is.Done → Upon (ModelsOf source target) p files reply
     → (s : Matrix) × (t : Matrix) × AreModels source target files s t × HasName source target × p (s, t) files reply
 done_models files source target p reply done h =
     let what_done_says = done_says (ModelsOf source target) p files reply (models_once ⊥ source target (λ never. absurd never)).fine done h in
@@ -66,8 +67,9 @@ accepted files (verdict.Accepted energy steps) reply e done = (energy, steps, re
 accepted files (verdict.Refused broken) reply e done = absurd (let no : is.Broken ≡ is.Done = sym (ap (λ (x : Reply). x.status) e) ∙ done in cc)
 
 module _ (files : Files) (source target : Matrix) (reply : Reply) (done : reply.status ≡ is.Done) where
-  done_trace : (trace : List ℕ) → AnswerOfTrace full_profile source target trace files reply
-      → (energy : ℤ) × (steps : ℕ) × IsSomeAnd (content files trace) (λ bytes. TakesBytes source target bytes energy steps) × (reply ≡ reply_of files (report.Accepted energy steps))
+  done_trace : (trace : List ℕ) → AnswerOfTrace full_profile source target trace files reply → (energy : ℤ)
+      × (steps : ℕ) × IsSomeAnd (content files trace) (λ bytes. TakesBytes source target bytes energy steps)
+      × (reply ≡ reply_of files (report.Accepted energy steps))
   done_trace trace h =
       let commands = done_says (TraceOf run_limit trace) (OfRun full_profile source target) files reply (trace_once ⊥ run_limit trace).fine done h in
       let file = trace_found run_limit files trace commands.0 commands.1 in
@@ -80,8 +82,9 @@ module _ (files : Files) (source target : Matrix) (reply : Reply) (done : reply.
         told ∙ ap (λ (v : Verdict). verdict_reply files v) is_accepted.2,
       )
 
-pub takes_done : (files : Files) (source target : Option (List ℕ)) (trace : List ℕ) (reply : Reply) → reply.status ≡ is.Done → AnswerOf (run Full source target trace) files reply
-    → (energy : ℤ) × (steps : ℕ) × MachineTakes files source target trace energy steps × (reply ≡ reply_of files (report.Accepted energy steps))
+pub takes_done : (files : Files) (source target : Option (List ℕ)) (trace : List ℕ) (reply : Reply)
+    → reply.status ≡ is.Done → AnswerOf (run Full source target trace) files reply → (energy : ℤ) × (steps : ℕ)
+    × MachineTakes files source target trace energy steps × (reply ≡ reply_of files (report.Accepted energy steps))
 takes_done files source target trace reply done h =
     let the_models = done_models files source target (λ models. AnswerOfTrace full_profile models.0 models.1 trace) reply done h in
     let the_trace = done_trace files the_models.0 the_models.1 reply done trace the_models.4 in

@@ -99,7 +99,8 @@ pub record CostLaws : Type 0 where
       → AreCommands commands → (after s commands).energy <ℤ (s.energy +ℤ pos 3000000000)
   pub falls : (s : State) (commands : List Command) → s.matrix.resolution ≤ 400 → length s.bots ≤ 40
       → AreCommands commands → s.energy <ℤ ((after s commands).energy +ℤ pos 3000000000)
-  pub few : (source : Matrix) (profile : Profile) (commands : List Command) → 1 ≤ source.resolution → source.resolution ≤ 400 → length source.voxels ≡ volume source.resolution → AreCommands commands
+  pub few : (source : Matrix) (profile : Profile) (commands : List Command) → 1 ≤ source.resolution
+      → source.resolution ≤ 400 → length source.voxels ≡ volume source.resolution → AreCommands commands
       → HasAtMost source profile commands (profile.seeds + 1)
   pub some : (bytes : List ℕ) (m : Matrix) → model bytes ≡ Ok m → 1 ≤ m.resolution
   pub most : (bytes : List ℕ) (m : Matrix) → model bytes ≡ Ok m → m.resolution ≤ 400
@@ -123,7 +124,8 @@ module _ (laws : CostLaws) (source target : Matrix) (profile : Profile) (command
       by (Some c) h = absurd (cc)
   at_end s (k ∷ more) done b h = absurd (cc)
 
-  counted : (before rest : List Command) (s : State) (done : ℕ) (v : Verdict) → commands ≡ before ++ rest → Reaches source profile before s done → s.matrix.resolution ≡ source.resolution → IsBounded s.energy done
+  counted : (before rest : List Command) (s : State) (done : ℕ) (v : Verdict) → commands ≡ before ++ rest
+      → Reaches source profile before s done → s.matrix.resolution ≡ source.resolution → IsBounded s.energy done
       → Run target s rest done v → v ≡ Accepted energy steps → IsBounded energy steps × (steps ≤ done + length rest)
   counted before rest s done v e r same b (ends none f) g = at_end s rest done b (sym f ∙ g)
   counted before rest s done v e r same b (breaks some_bot next f) g = absurd (let impossible = sym f ∙ g in cc)

@@ -56,7 +56,8 @@ module _ {answers : Answers} {stores : List ℕ → Type 0} (old new : Outside) 
   -- a line is printed, and the files stand as the answer says
   pub outcome_printed : (status result : Status) (line : List ℕ) → IsAnswer status
       → IfSome old.files (λ files. (after : Files) × answers files (record { status = status; line = line; after = after }) × (new.files ≡ Some after))
-      → Printed status line old.written new.written old.sink_faults new.sink_faults result → CallOutcome answers stores old new result
+      → Printed status line old.written new.written old.sink_faults new.sink_faults result
+      → CallOutcome answers stores old new result
   outcome_printed status result line a stands printed = by printed.cases
     where
       by : ((result ≡ status) × (new.written ≡ append_known old.written line))
@@ -126,8 +127,11 @@ module _ {answers : Answers} {stores : List ℕ → Type 0} (old new : Outside) 
   }
 
 -- an effect is finished, after files were read
-pub outcome_finished : {answers : Answers} (stored : Option (List ℕ)) (effect : Effect) (old mid new : Outside) (result : Status) → IfSome old.files (λ files. answers files (reply_by files effect)) → IsFor stored effect → mid.files ≡ old.files → old.depot_faults ≤ mid.depot_faults
-    → mid.failed_stores ≡ old.failed_stores → mid.written ≡ old.written → mid.sink_faults ≡ old.sink_faults → Finished effect mid new result → CallOutcome answers (λ name. stored ≡ Some name) old new result
+pub outcome_finished : {answers : Answers} (stored : Option (List ℕ)) (effect : Effect) (old mid new : Outside)
+    (result : Status) → IfSome old.files (λ files. answers files (reply_by files effect)) → IsFor stored effect
+    → mid.files ≡ old.files → old.depot_faults ≤ mid.depot_faults → mid.failed_stores ≡ old.failed_stores
+    → mid.written ≡ old.written → mid.sink_faults ≡ old.sink_faults → Finished effect mid new result
+    → CallOutcome answers (λ name. stored ≡ Some name) old new result
 outcome_finished {answers} stored effect old mid new result answer for files faults stores written sink finished = by finished.cases
   where
     spared : StoreFailed old new → (o : Option NewFile)
@@ -142,15 +146,19 @@ outcome_finished {answers} stored effect old mid new result answer for files fau
       others_are = lost ∙ ap (λ t. others t file.name.now) files;
     })
 
-    kept : (told : Option Files) (o : Option NewFile) (now : Option Files) → now ≡ told_with told o → IfSome told (λ fs. answers fs (record { status = status_by effect.message; line = bytes_by effect.message; after = files_with fs o }))
+    kept : (told : Option Files) (o : Option NewFile) (now : Option Files) → now ≡ told_with told o
+        → IfSome told (λ fs. answers fs (record { status = status_by effect.message; line = bytes_by effect.message; after = files_with fs o }))
         → IfSome told (λ fs. (after : Files) × answers fs (record { status = status_by effect.message; line = bytes_by effect.message; after = after }) × (now ≡ Some after))
     kept None o now e h = tt
     kept (Some fs) None now e h = (fs, h, e)
     kept (Some fs) (Some file) now e h = (with_file fs file.name.now file.bytes.items, h, e)
 
-    by : ((result ≡ is.Memory) × (new.files ≡ mid.files) × (new.written ≡ mid.written))
-        ⊎ (((result ≡ is.Depot) × DepotRose mid new × StoreFailed mid new × (new.written ≡ mid.written) × IsUnstored effect.file mid.files new.files)
-        ⊎ ((new.files ≡ told_with mid.files effect.file) × Printed (status_by effect.message) (bytes_by effect.message) mid.written new.written mid.sink_faults new.sink_faults result)) → CallOutcome answers (λ name. stored ≡ Some name) old new result
+    by : ((result ≡ is.Memory) × (new.files ≡ mid.files) × (new.written ≡ mid.written)) ⊎ (((result ≡ is.Depot)
+        × DepotRose mid new × StoreFailed mid new × (new.written ≡ mid.written)
+        × IsUnstored effect.file mid.files new.files) ⊎ ((new.files ≡ told_with mid.files effect.file)
+        × Printed (status_by effect.message)
+        (bytes_by effect.message) mid.written new.written mid.sink_faults new.sink_faults result))
+        → CallOutcome answers (λ name. stored ≡ Some name) old new result
     by (inl none) = outcome_memory old new result none.0 (none.1 ∙ files) (none.2 ∙ written)
     by (inr (inl lost)) =
         let rose : DepotRose old new = rose_since old.depot_faults mid.depot_faults new.depot_faults faults lost.1 in

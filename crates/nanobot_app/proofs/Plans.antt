@@ -76,8 +76,11 @@ abbrev pub MostLaw : Type 0
 MostLaw = (bytes : List ℕ) (m : Matrix) → model bytes ≡ Ok m → m.resolution ≤ 400
 
 -- a run takes a file that has the spellings of commands that are accepted
-runs_through : (profile : Profile) (files : Files) (source target : Option (List ℕ)) (trace : List ℕ) (s t : Matrix) (commands : List Command) (energy : ℤ) (steps : ℕ) → HasName source target → AreModels source target files s t → content files trace ≡ Some (spellings commands)
-    → AreCommands commands → VerdictOf s t commands profile (Accepted energy steps) → length (spellings commands) ≤ run_limit → AnswerOfRun profile source target trace files (reply_of files (report.Accepted energy steps))
+runs_through : (profile : Profile) (files : Files) (source target : Option (List ℕ)) (trace : List ℕ) (s t : Matrix)
+    (commands : List Command) (energy : ℤ) (steps : ℕ) → HasName source target → AreModels source target files s t
+    → content files trace ≡ Some (spellings commands) → AreCommands commands
+    → VerdictOf s t commands profile (Accepted energy steps) → length (spellings commands) ≤ run_limit
+    → AnswerOfRun profile source target trace files (reply_of files (report.Accepted energy steps))
 runs_through profile files source target trace s t commands energy steps named models there are accepted size = (
   Ok (s, t),
   finds_models files source target s t named models,
@@ -109,7 +112,8 @@ few_bytes : (s t : Matrix) → MakesPlan Group s t → most_bytes s t ≤ group_
 few_bytes s t made = by (nat_lt group_limit (most_bytes s t)) refl made.1
   where
     by : (long : Bool) → nat_lt group_limit (most_bytes s t) ≡ long
-        → MatchBool long (◌≡◌ {A = Found ⊤} (Ok tt) (Err (is.Model, group_long_line (runs s + runs t) (rows s + rows t)))) (◌≡◌ {A = Found ⊤} (Ok tt) (Ok tt)) → most_bytes s t ≤ group_limit
+        → MatchBool long (◌≡◌ {A = Found ⊤} (Ok tt) (Err (is.Model, group_long_line (runs s + runs t) (rows s + rows t))))
+        (◌≡◌ {A = Found ⊤} (Ok tt) (Ok tt)) → most_bytes s t ≤ group_limit
     by true test e = absurd (cc)
     by false test e = not_less_by_test group_limit (most_bytes s t) test
 
@@ -154,9 +158,11 @@ module _ (s t : Matrix) (commands : List Command) (energy : ℤ) (steps : ℕ) w
 
 -- the file of a plan that is not too long is taken by a run
 module _ (round : Round) (source target : Option (List ℕ)) (trace : List ℕ) (files : Files) (first : source ≡ Some trace → ⊥) (second : target ≡ Some trace → ⊥) where
-  run_of_stored : (s t : Matrix) (commands : List Command) (energy : ℤ) (steps : ℕ) (reply : Reply) → HasName source target → AreModels source target files s t → AreCommands commands
+  run_of_stored : (s t : Matrix) (commands : List Command) (energy : ℤ) (steps : ℕ) (reply : Reply)
+      → HasName source target → AreModels source target files s t → AreCommands commands
       → VerdictOf s t commands (profile_of round) (Accepted energy steps) → length (spellings commands) ≤ run_limit
-      → Stores (planned_line energy steps (length commands) (length (spellings commands))) trace (spellings commands) files reply → IsRunOfPlan round source target trace reply
+      → Stores (planned_line energy steps (length commands) (length (spellings commands))) trace (spellings commands) files reply
+      → IsRunOfPlan round source target trace reply
   run_of_stored s t commands energy steps reply named models are accepted size e =
       subst (λ (r : Reply). IsRunOfPlan round source target trace r) (sym e) (record {
         energy = energy;
@@ -170,9 +176,11 @@ module _ (round : Round) (source target : Option (List ℕ)) (trace : List ℕ) 
 
 -- a run in a round in which the planner's plans are accepted takes the file of a plan
 pub run_of_plan : MostLaw → (round : Round) (planner : Planner)
-    → ((s t : Matrix) (commands : List Command) (energy : ℤ) (steps : ℕ) → facts_of planner s t commands energy steps → VerdictOf s t commands (profile_of round) (Accepted energy steps))
-    → (source target : Option (List ℕ)) (trace : List ℕ) (files : Files) (reply : Reply) → (source ≡ Some trace → ⊥) → (target ≡ Some trace → ⊥)
-    → AnswerOf (plan planner source target trace) files reply → reply.status ≡ is.Done → IsRunOfPlan round source target trace reply
+    → ((s t : Matrix) (commands : List Command) (energy : ℤ) (steps : ℕ) → facts_of planner s t commands energy steps
+    → VerdictOf s t commands (profile_of round) (Accepted energy steps)) → (source target : Option (List ℕ))
+    (trace : List ℕ) (files : Files) (reply : Reply) → (source ≡ Some trace → ⊥) → (target ≡ Some trace → ⊥)
+    → AnswerOf (plan planner source target trace) files reply → reply.status ≡ is.Done
+    → IsRunOfPlan round source target trace reply
 run_of_plan law round planner accepts source target trace files reply first second answer done =
     let found = done_models files source target (λ models. OfPlan planner trace models.0 models.1) reply done answer in
     let s = found.0 in

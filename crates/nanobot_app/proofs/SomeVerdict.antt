@@ -23,7 +23,8 @@ use Rattle.plan_tape.proofs.Reached.{enough}
 pub legality_of : (m : Matrix) → (answer : Option NotLegal) × Legality m answer
 legality_of m = by (first_outside m) refl
   where
-    inside : first_outside m ≡ None → (at : Option Coord) → FirstUngrounded m at → (answer : Option NotLegal) × Legality m answer
+    inside : first_outside m ≡ None → (at : Option Coord) → FirstUngrounded m at
+        → (answer : Option NotLegal) × Legality m answer
     inside e None u = (None, stands_inside e u refl)
     inside e (Some c) u = (Some (Floating c), floats_inside c e u refl)
 
@@ -38,7 +39,9 @@ module _ (target : Matrix) where
   HasVerdict s commands steps = (v : Verdict) × Run target s commands steps v
 
   by_bots : (s : State) (commands : List Command) (steps : ℕ) (all : List Bot) → s.bots ≡ all
-      → ((bot : Bot) (bots : List Bot) → s.bots ≡ bot ∷ bots → (t : State) → Next s (take (length s.bots) commands) (steps + 1) (Goes t) → HasVerdict t (drop (length s.bots) commands) (steps + 1)) → HasVerdict s commands steps
+      → ((bot : Bot) (bots : List Bot) → s.bots ≡ bot ∷ bots → (t : State)
+      → Next s (take (length s.bots) commands) (steps + 1) (Goes t)
+      → HasVerdict t (drop (length s.bots) commands) (steps + 1)) → HasVerdict s commands steps
   by_bots s commands steps [] e later = (ending target s commands steps, ends e refl)
   by_bots s commands steps (bot ∷ bots) e later = let following = next_of s (take (length s.bots) commands) (steps + 1) in by following.0 following.1
     where

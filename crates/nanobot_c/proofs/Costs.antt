@@ -40,8 +40,10 @@ module _ (row : Row) (files : Files) where
   no_file None status none named = refl
   no_file (Some f) status none named = absurd (let no = sym none in let some = named.0 in cc)
 
-  pub cost_of : (effect : Effect) (told : Result (ℤ × ℕ) ℕ) → stores_of row ≡ None → AnswerOf row files (reply_by files effect) → IsFor (stores_of row) effect
-      → IfOk told (λ cost. effect.message ≡ message.Line (Accepted cost.0 cost.1)) → IfErr told (λ number. IsRefused (status_by effect.message) number) → CostOf row files told
+  pub cost_of : (effect : Effect) (told : Result (ℤ × ℕ) ℕ) → stores_of row ≡ None
+      → AnswerOf row files (reply_by files effect) → IsFor (stores_of row) effect
+      → IfOk told (λ cost. effect.message ≡ message.Line (Accepted cost.0 cost.1))
+      → IfErr told (λ number. IsRefused (status_by effect.message) number) → CostOf row files told
   cost_of effect (Ok cost) none answer named accepted is =
       subst (λ (m : Message). AnswerOf row files (record { status = status_by m; line = bytes_by m; after = files })) accepted
       (subst (λ (after : Files). AnswerOf row files (record { status = status_by effect.message; line = bytes_by effect.message; after = after })) (no_file effect.file (status_by effect.message) none named) answer)

@@ -42,7 +42,8 @@ gave_done status bytes old new size result gave done = elim (cases_lt (length ol
 ]
 
 module _ (row : Row) (files : Files) (old new : List ℕ) (size result : ℕ) where
-  gives : (reply : Reply) (bytes : List ℕ) → AnswerOf row files reply → (IsMemory (code_of reply.status) → ⊥) → bytes ≡ file_or_line (stored_in (stores_of row) reply) reply.line
+  gives : (reply : Reply) (bytes : List ℕ) → AnswerOf row files reply → (IsMemory (code_of reply.status) → ⊥)
+      → bytes ≡ file_or_line (stored_in (stores_of row) reply) reply.line
       → MayGive (code_of reply.status) bytes old new size result → Gives row files old new size result
   gives reply bytes answer other same (inl none) = record { answer = λ has. absurd (has none.answered); memory = λ _. (none.as_it_was, none.none) }
   gives reply bytes answer other same (inr gave) = record {
@@ -57,14 +58,17 @@ module _ (row : Row) (files : Files) (old new : List ℕ) (size result : ℕ) wh
     none_stored None status line new_name = refl
     none_stored (Some name) status line new_name = new_name name refl
 
-    stored : (status : Status) (line : List ℕ) (file : Option NewFile) → IfSome file (λ f. (stores_of row ≡ Some f.name.now) × (status ≡ is.Done))
-        → bytes_in file ≡ stored_in (stores_of row) (record { status = status; line = line; after = files_with files file })
+    stored : (status : Status) (line : List ℕ) (file : Option NewFile)
+        → IfSome file (λ f. (stores_of row ≡ Some f.name.now) × (status ≡ is.Done)) → bytes_in file
+        ≡ stored_in (stores_of row) (record { status = status; line = line; after = files_with files file })
     stored status line None named = sym (none_stored (stores_of row) status line absent)
     stored status line (Some f) named =
         subst (λ (o : Option (List ℕ)). Some f.bytes.items ≡ stored_in o (record { status = status; line = line; after = files_with files (Some f) })) (sym named.0) (sym (own_content files f.name.now f.bytes.items))
 
     pub gives_effect : (effect : Effect) → AnswerOf row files (reply_by files effect) → IsFor (stores_of row) effect
-        → MayGive (code_of (status_by effect.message)) (file_or_line (bytes_in effect.file) (bytes_by effect.message)) old new size result → Gives row files old new size result
+        → MayGive (code_of (status_by effect.message))
+        (file_or_line (bytes_in effect.file) (bytes_by effect.message)) old new size result
+        → Gives row files old new size result
     gives_effect effect answer named given =
         gives (reply_by files effect) (file_or_line (bytes_in effect.file) (bytes_by effect.message)) answer (message_is_none effect.message)
         (ap (λ o. file_or_line o (bytes_by effect.message)) (stored (status_by effect.message) (bytes_by effect.message) effect.file named)) given
@@ -85,7 +89,8 @@ module _ (row : Row) (files : Files) (old new : List ℕ) (size result : ℕ) wh
   gives_nothing answered same none = record { answer = λ has. absurd (has answered); memory = λ _. (same, none) }
 
 -- a run stores nothing, so its line is given
-pub line_given : (light : Bool) (source target : List ℕ) (files : Files) (old new : List ℕ) (size result : ℕ) → Gives (run_row light source target) files old new size result → (IsMemory result → ⊥)
+pub line_given : (light : Bool) (source target : List ℕ) (files : Files) (old new : List ℕ) (size result : ℕ)
+    → Gives (run_row light source target) files old new size result → (IsMemory result → ⊥)
     → GaveLineOf (run_row light source target) files old new size result
 line_given light source target files old new size result g has = g.answer has
 
@@ -94,8 +99,10 @@ some_model : (source target : List ℕ) → HasModel source target → HasNoMode
 some_model source target has none = subst (λ s. HasModel s [] → ⊥) (sym none.0) (λ h. h) (subst (λ t. HasModel source t) none.1 has)
 
 -- the trace that a plan between two sides stores, or its line
-pub between_given : (planner : Planner) (source target : List ℕ) (s t : Option (List ℕ)) (old new : List ℕ) (size result : ℕ) → s ≡ source_side source → t ≡ target_side target → HasModel source target
-    → Gives (plan planner s t plan_name) (lent source target []) old new size result → GivesPlanBetween planner source target old new size result
+pub between_given : (planner : Planner) (source target : List ℕ) (s t : Option (List ℕ)) (old new : List ℕ)
+    (size result : ℕ) → s ≡ source_side source → t ≡ target_side target → HasModel source target
+    → Gives (plan planner s t plan_name) (lent source target []) old new size result
+    → GivesPlanBetween planner source target old new size result
 between_given planner source target s t old new size result same_source same_target has gives =
     let given = subst (λ (a : Option (List ℕ)). Gives (plan planner a (target_side target) plan_name) (lent source target []) old new size result) same_source
     (subst (λ (b : Option (List ℕ)). Gives (plan planner s b plan_name) (lent source target []) old new size result) same_target gives) in

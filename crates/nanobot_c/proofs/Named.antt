@@ -26,7 +26,8 @@ differ name key other = by (bytes_eq name key) refl
 
 module _ (source target trace : List ℕ) where
   -- the bytes of the file of a name, by the tests of the name
-  held : (name : List ℕ) (s t b : Bool) → bytes_eq name source_name ≡ s → bytes_eq name target_name ≡ t → bytes_eq name trace_name ≡ b
+  held : (name : List ℕ) (s t b : Bool) → bytes_eq name source_name ≡ s → bytes_eq name target_name ≡ t
+      → bytes_eq name trace_name ≡ b
       → content (lent source target trace) name ≡ cond b (Some trace) (cond t (Some target) (cond s (Some source) None))
   held name s t b s_is t_is b_is =
       tied (insert (insert empty source_name source) target_name target) trace_name trace name b b_is

@@ -17,9 +17,10 @@ use Rattle.nanobot_rows.proofs.TakenBytes.{takes, takes_next, takes_nothing}
 
 -- ---- one command
 
-pub goes_got : (got : GotLaw) (all : AllLaw) (bad : BadLaw) (push : PushLaw) (old : RunState) (d next : DecoderState) (r new : Course) (piece : List ℕ) (command : Command) (used : ℕ) (still : Bool) (began ended : ℕ)
-    → record { decoder = d; run = r } ≡ old → old.run.spent ≡ false → next ≡ decoder_after d piece (Got command used) → Completes d piece command used
-    → HasPushed r command new began ended → (still ≡ true → RunsAlone new)
+pub goes_got : (got : GotLaw) (all : AllLaw) (bad : BadLaw) (push : PushLaw) (old : RunState) (d next : DecoderState)
+    (r new : Course) (piece : List ℕ) (command : Command) (used : ℕ) (still : Bool) (began ended : ℕ)
+    → record { decoder = d; run = r } ≡ old → old.run.spent ≡ false → next ≡ decoder_after d piece (Got command used)
+    → Completes d piece command used → HasPushed r command new began ended → (still ≡ true → RunsAlone new)
     → WentOn old piece (record { used = used; alone = still }) (record { decoder = next; run = new }) began ended
 goes_got got all bad push old d next r new piece command used still began ended view stands is_next answers pushed alone =
     let stands_here : r.spent ≡ false = ap (λ (s : RunState). s.run.spent) view ∙ stands in
@@ -35,8 +36,9 @@ goes_got got all bad push old d next r new piece command used still began ended 
 
 -- ---- many commands, and then another
 
-pub further : (s t u : RunState) (piece : List ℕ) (at n : ℕ) (went : Went) (i j k : ℕ) → at ≤ length piece → n ≡ went.used → Takes s (take at piece) t i j
-    → WentOn t (take (length piece - at) (drop at piece)) went u j k → TakesUpTo s piece (at + n) u i k
+pub further : (s t u : RunState) (piece : List ℕ) (at n : ℕ) (went : Went) (i j k : ℕ) → at ≤ length piece
+    → n ≡ went.used → Takes s (take at piece) t i j → WentOn t (take (length piece - at) (drop at piece)) went u j k
+    → TakesUpTo s piece (at + n) u i k
 further s t u piece at n went i j k l e a g =
     let size : length (drop at piece) ≡ length piece - at = length-drop at piece in
     -- what is left of the piece is given whole
@@ -51,8 +53,9 @@ further s t u piece at n went i j k l e a g =
 pub takes_none : (s : RunState) (piece : List ℕ) (began : ℕ) → s.run.spent ≡ false → TakesUpTo s piece 0 s began began
 takes_none s piece began stands = record { within = omega arith; takes = takes_nothing s began stands }
 
-pub then_next : {E : Type 0} (answer : Result ℕ E) (s t u : RunState) (piece : List ℕ) (none i j k : ℕ) → none ≡ 0 → TakesUpTo s piece none t i j
-    → IfOk answer (λ n. TakesFront t piece n u j k) → IfOk answer (λ n. TakesFront s piece n u i k)
+pub then_next : {E : Type 0} (answer : Result ℕ E) (s t u : RunState) (piece : List ℕ) (none i j k : ℕ) → none ≡ 0
+    → TakesUpTo s piece none t i j → IfOk answer (λ n. TakesFront t piece n u j k)
+    → IfOk answer (λ n. TakesFront s piece n u i k)
 then_next (Ok n) s t u piece none i j k e first next = record {
   some = next.some;
   within = next.within;

@@ -20,7 +20,8 @@ where_true : {A : Type 0} (t : Bool) (a c b : A) → (t ≡ true → a ≡ c) �
 where_true true a c b h = h refl
 where_true false a c b h = refl
 
-where_both : {A : Type 0} (w n : Bool) (z b a c : A) → (w ≡ true → n ≡ false → a ≡ c) → choose (choose z a n) b w ≡ choose (choose z c n) b w
+where_both : {A : Type 0} (w n : Bool) (z b a c : A) → (w ≡ true → n ≡ false → a ≡ c)
+    → choose (choose z a n) b w ≡ choose (choose z c n) b w
 where_both true true z b a c h = refl
 where_both true false z b a c h = h refl refl
 where_both false n z b a c h = refl

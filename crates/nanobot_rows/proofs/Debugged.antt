@@ -40,17 +40,21 @@ module _ (source trace script : List ℕ) (m : Matrix) where
     trace_stops s h = of_source s (says_stops (TraceOf dis_limit trace) OfTraces reply_by (λ files end e. (Err end, e, refl)) later (Rose between now) s h)
 
     -- the script stops it
-    pub script_stops : (commands : List Command) → IfSome later (λ files. TraceOf dis_limit trace files (Ok commands)) → (last : Option Files) (third : ℕ) → last ≡ later → between ≤ third → (r : ℕ) → r ≡ m.resolution
-        → (s : Stop) → OfScript r script last (Rose third now) (Err s) → EndsStored OfDebug told (Rose before now) (Err s)
+    pub script_stops : (commands : List Command) → IfSome later (λ files. TraceOf dis_limit trace files (Ok commands))
+        → (last : Option Files) (third : ℕ) → last ≡ later → between ≤ third → (r : ℕ) → r ≡ m.resolution → (s : Stop)
+        → OfScript r script last (Rose third now) (Err s) → EndsStored OfDebug told (Rose before now) (Err s)
     script_stops commands also last third same_last since_third r high s h =
         of_source s (says_found (TraceOf dis_limit trace) OfScripts reply_by commands later last between third now (Err s) also same_last since_third
         (says_stops (ScriptOf m.resolution script) (OfScripts commands) reply_by (λ files end e. (Err end, e, refl)) last (Rose third now) s
         (unviewed (λ (lines : Vec ScriptLine Global). lines_are lines.items) (ScriptOf m.resolution script) last (Rose third now) s (subst (λ (n : ℕ). OfScript n script last (Rose third now) (Err s)) high h))))
 
   -- the session is told
-  pub session_ends : (told later last : Option Files) → IfSome told (λ files. ModelOf who.Source source files (Ok m)) → later ≡ told → (commands : List Command) → IfSome later (λ files. TraceOf dis_limit trace files (Ok commands))
-      → last ≡ later → (r : ℕ) → r ≡ m.resolution → (lines : List ScriptLine) → IfSome last (λ files. ScriptOf r script files (Ok (lines_are lines)))
-      → (effect : Effect) → ((files : Files) → OfSession m commands (lines_are lines) files (reply_by files effect)) → IfSome told (λ files. OfDebug files (reply_by files effect))
+  pub session_ends : (told later last : Option Files) → IfSome told (λ files. ModelOf who.Source source files (Ok m))
+      → later ≡ told → (commands : List Command) → IfSome later (λ files. TraceOf dis_limit trace files (Ok commands))
+      → last ≡ later → (r : ℕ) → r ≡ m.resolution → (lines : List ScriptLine)
+      → IfSome last (λ files. ScriptOf r script files (Ok (lines_are lines))) → (effect : Effect)
+      → ((files : Files) → OfSession m commands (lines_are lines) files (reply_by files effect))
+      → IfSome told (λ files. OfDebug files (reply_by files effect))
   session_ends told later last found same commands also same_last r high lines read effect h =
       let third = subst (λ (n : ℕ). IfSome last (λ files. ScriptOf n script files (Ok (lines_are lines)))) high read in
       let second = subst (λ (o : Option Files). IfSome o (λ files. OfScripts commands files (reply_by files effect))) same_last (weaker {Q = λ files. OfScripts commands files (reply_by files effect)} last (λ files x. (Ok (lines_are lines), x, h files)) third) in

@@ -70,7 +70,8 @@ module _ (told : Option Files) (name v : List ℕ) (limit most : ℕ) (status : 
 abbrev pub OfBytes : Finding (List ℕ) → Option Files → Type 0 → Result (Vec ℕ Global) Stop → Type 0
 OfBytes X told rose result = FindsAs (λ bytes. bytes.items) X told rose result
 
-pub file_not_loaded : (limit : ℕ) (status : Status) (line : List ℕ) (told : Option Files) (name : List ℕ) (rose : Type 0) (fault : LoadFault) → (fault ≡ load.Missing → IsMissing told name) → (fault ≡ load.Failed → rose)
+pub file_not_loaded : (limit : ℕ) (status : Status) (line : List ℕ) (told : Option Files) (name : List ℕ)
+    (rose : Type 0) (fault : LoadFault) → (fault ≡ load.Missing → IsMissing told name) → (fault ≡ load.Failed → rose)
     → OfBytes (FileUpTo limit status line name) told rose (Err (of_load fault))
 file_not_loaded limit status line told name rose fault missing failed =
     viewed {V = Vec ℕ Global} (λ bytes. bytes.items) (FileUpTo limit status line name) told rose (of_load fault) (not_loaded (FileUpTo limit status line name) told name rose (λ files h. (Err (is.Depot, []), h, refl)) fault missing failed)

@@ -75,8 +75,11 @@ paid_at_first law source profile d r start taken e f = record {
 }
 
 module _ (source : Matrix) (profile : Profile) (bytes piece : List ℕ) (s : RunState) (start before : ℕ) (old : HasPaid source profile bytes s start before) where
-  pub paid_got : (got : GotLaw) (push : PushLaw) (command : Command) (used : ℕ) (r : Course) (now : ℕ) → s.run.progress.state.matrix.resolution ≡ source.resolution → AnswersPiece s.decoder piece (Got command used) → Pushes s.run.progress command r.progress → Touches s.run.progress r.progress command before now
-      → HasPaid source profile (bytes ++ take used piece) (record { decoder = decoder_after s.decoder piece (Got command used); run = r }) start now
+  pub paid_got : (got : GotLaw) (push : PushLaw) (command : Command) (used : ℕ) (r : Course) (now : ℕ)
+      → s.run.progress.state.matrix.resolution ≡ source.resolution → AnswersPiece s.decoder piece (Got command used)
+      → Pushes s.run.progress command r.progress → Touches s.run.progress r.progress command before now
+      → HasPaid source profile (bytes ++ take used piece)
+      (record { decoder = decoder_after s.decoder piece (Got command used); run = r }) start now
   paid_got got push command used r now same answers pushes touches = record {
     commands = old.commands ++ command ∷ [];
     given = got bytes piece old.commands s.decoder command used (taken_of bytes old.commands s.decoder answers.works old.given) answers;

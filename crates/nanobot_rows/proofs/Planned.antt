@@ -32,8 +32,9 @@ some_named None (Some t) named first second = absurd (cc)
 some_named (Some s) target named first second = absurd (cc)
 
 -- what keeps a plan is answered so
-plan_kept : (Is : PlanFacts) (s t : Matrix) (name : List ℕ) (commands : List Command) (energy : ℤ) (steps : ℕ) (effect : Effect) → Is s t commands energy steps → KeepsPlan name commands energy steps effect
-    → (files : Files) → StoresPlan Is name s t files (reply_by files effect)
+plan_kept : (Is : PlanFacts) (s t : Matrix) (name : List ℕ) (commands : List Command) (energy : ℤ) (steps : ℕ)
+    (effect : Effect) → Is s t commands energy steps → KeepsPlan name commands energy steps effect → (files : Files)
+    → StoresPlan Is name s t files (reply_by files effect)
 plan_kept Is s t name commands energy steps effect is keeps files = (commands, energy, steps, is, by effect.file keeps.file)
   where
     planned : Report

@@ -37,7 +37,8 @@ rose_since a b c l h = omega (arith, h)
 -- ---- what a call finds
 
 -- a stop, seen by another call
-pub stops : {A B : Type 0} (X : Finding A) (Y : Finding B) (told : Option Files) (rose wider : Type 0) (s : Stop) → ((files : Files) (end : Status × List ℕ) → X files (Err end) → Y files (Err end)) → (rose → wider)
+pub stops : {A B : Type 0} (X : Finding A) (Y : Finding B) (told : Option Files) (rose wider : Type 0) (s : Stop)
+    → ((files : Files) (end : Status × List ℕ) → X files (Err end) → Y files (Err end)) → (rose → wider)
     → Finds X told rose (Err s) → Finds Y told wider (Err s)
 stops X Y told rose wider (stop.Told r) ends since h = weaker told (λ files x. ends files (end_of r) x) h
 stops X Y told rose wider stop.Depot ends since (inl h) = inl (since h)
@@ -85,8 +86,9 @@ module _ {A B : Type 0} (X : Finding A) (p : A → Finding B) where
       → Finds (With X p) told rose (Err s)
   with_stops told rose s = stops X (With X p) told rose rose s (λ files end h. (Err end, h, refl)) (λ h. h)
 
-  pub with_found : (a : A) (told later : Option Files) (before between now : ℕ) (r : Result B Stop) → IfSome told (λ files. X files (Ok a)) → later ≡ told → before ≤ between
-      → Finds (p a) later (Rose between now) r → Finds (With X p) told (Rose before now) r
+  pub with_found : (a : A) (told later : Option Files) (before between now : ℕ) (r : Result B Stop)
+      → IfSome told (λ files. X files (Ok a)) → later ≡ told → before ≤ between → Finds (p a) later (Rose between now) r
+      → Finds (With X p) told (Rose before now) r
   with_found a = widens_since (p a) (With X p) (λ files. X files (Ok a)) (λ files h found rest. (Ok a, h, rest))
 
   -- a value that is found comes of one that was found first
@@ -99,13 +101,17 @@ module _ {A B : Type 0} (X : Finding A) (p : A → Finding B) where
       by (Err end) x rest = absurd (cc)
 
 -- the stop of a call is answered
-pub says_stops : {A V : Type 0} (X : Finding A) (answers : Answers) (reply : Files → V → Reply) → ((files : Files) (end : Status × List ℕ) → X files (Err end) → answers files (record { status = end.0; line = end.1; after = files }))
-    → (told : Option Files) (rose : Type 0) (s : Stop) → Finds X told rose (Err s) → Settles reply answers told rose (Err s)
+pub says_stops : {A V : Type 0} (X : Finding A) (answers : Answers) (reply : Files → V → Reply)
+    → ((files : Files) (end : Status × List ℕ) → X files (Err end)
+    → answers files (record { status = end.0; line = end.1; after = files })) → (told : Option Files) (rose : Type 0)
+    (s : Stop) → Finds X told rose (Err s) → Settles reply answers told rose (Err s)
 says_stops X answers reply ends told rose s = stops X (λ files found. answers files (reply_to reply files found)) told rose rose s ends (λ h. h)
 
 -- what comes after a value that was found is answered
-pub says_found : {A V : Type 0} (X : Finding A) (p : A → Answers) (reply : Files → V → Reply) (a : A) (told later : Option Files) (before between now : ℕ) (r : Result V Stop) → IfSome told (λ files. X files (Ok a)) → later ≡ told → before ≤ between
-    → Settles reply (p a) later (Rose between now) r → Settles reply (Upon X p) told (Rose before now) r
+pub says_found : {A V : Type 0} (X : Finding A) (p : A → Answers) (reply : Files → V → Reply) (a : A)
+    (told later : Option Files) (before between now : ℕ) (r : Result V Stop) → IfSome told (λ files. X files (Ok a))
+    → later ≡ told → before ≤ between → Settles reply (p a) later (Rose between now) r
+    → Settles reply (Upon X p) told (Rose before now) r
 says_found X p reply a = widens_since (λ files found. p a files (reply_to reply files found)) (λ files found. Upon X p files (reply_to reply files found)) (λ files. X files (Ok a)) (λ files h found rest. (Ok a, h, rest))
 
 -- a report alone finishes as it ends
@@ -142,8 +148,10 @@ module _ (who : Who) (files : Files) (name : List ℕ) (m : Matrix) where
       subst (λ (o : Option (List ℕ)). IsSomeAnd o (λ bytes. (model bytes ≡ Ok m) × IsLegal m)) (sym (file_found files name read.0 read.1))
       (by (model read.0) judged.0 judged.1 judged.2.0 judged.2.1 judged.2.2)
     where
-      by : (r : Result Matrix NoModel) (n : Matrix) → ◌≡◌ {A = Found Matrix} (Ok n) (result_map_both (λ a. a) (λ why. (is.Model, no_model_line who why)) r)
-          → (why : Option NotLegal) → Legality n why → MatchOption why (◌≡◌ {A = Found Matrix} (Ok m) (Ok n)) (λ w. ◌≡◌ {A = Found Matrix} (Ok m) (Err (is.Model, not_legal_line who w))) → (r ≡ Ok m) × IsLegal m
+      by : (r : Result Matrix NoModel) (n : Matrix)
+          → ◌≡◌ {A = Found Matrix} (Ok n) (result_map_both (λ a. a) (λ why. (is.Model, no_model_line who why)) r)
+          → (why : Option NotLegal) → Legality n why → MatchOption why (◌≡◌ {A = Found Matrix} (Ok m) (Ok n))
+          (λ w. ◌≡◌ {A = Found Matrix} (Ok m) (Err (is.Model, not_legal_line who w))) → (r ≡ Ok m) × IsLegal m
       by (Err none) n f why l g = absurd (cc)
       by (Ok k) n f (Some w) l g = absurd (cc)
       by (Ok k) n f None l g =

@@ -53,8 +53,10 @@ BadLaw = (bytes piece more : List ℕ) (commands : List Command) (decoder : Deco
     HasTaken bytes commands decoder → AnswersPiece decoder piece (Bad offset) → Decoding ((bytes ++ piece) ++ more) (Err (BadAt offset))
 
 module _ (source : Matrix) (profile : Profile) (bytes piece : List ℕ) (s : RunState) (run : HasRun source profile bytes s) where
-  pub got_step : (law : GotLaw) (command : Command) (used : ℕ) (r : Course) → AnswersPiece s.decoder piece (Got command used) → Pushes s.run.progress command r.progress
-      → HasRun source profile (bytes ++ take used piece) (record { decoder = decoder_after s.decoder piece (Got command used); run = r })
+  pub got_step : (law : GotLaw) (command : Command) (used : ℕ) (r : Course)
+      → AnswersPiece s.decoder piece (Got command used) → Pushes s.run.progress command r.progress
+      → HasRun source profile (bytes ++ take used piece)
+      (record { decoder = decoder_after s.decoder piece (Got command used); run = r })
   got_step law command used r answers pushes =
       let st = stands_of source profile bytes s answers.works run in
       record {
@@ -117,8 +119,10 @@ module _ (source target : Matrix) (profile : Profile) (bytes : List ℕ) (s : Ru
       let st = stands_of source profile bytes s ends.0 run in
       (Err (is.Trace, trace_line (CutAt offset)), (Err (CutAt offset), law bytes st.commands s.decoder (refusal.Cut offset) st.taken ends, refl), refl)
 
-  pub ends_run : (law : WholeLaw) (verdicts : (commands : List Command) (p : Progress) (v : Verdict) → Comes source profile commands p → Finishes target p v → VerdictOf source target commands profile v)
-      (v : Verdict) → EndsTrace {A = Unit {0}} s.decoder (Ok tt) → Finishes target s.run.progress v → IsTold (of_verdict v)
+  pub ends_run : (law : WholeLaw) (verdicts : (commands : List Command) (p : Progress) (v : Verdict)
+      → Comes source profile commands p → Finishes target p v → VerdictOf source target commands profile v)
+      (v : Verdict) → EndsTrace {A = Unit {0}} s.decoder (Ok tt) → Finishes target s.run.progress v
+      → IsTold (of_verdict v)
   ends_run law verdicts v ends f =
       let st = stands_of source profile bytes s ends.0 run in
       (Ok st.commands, (Ok st.commands, law bytes st.commands s.decoder st.taken ends, refl), (v, verdicts st.commands s.run.progress v st.progress_is f, tells_verdict files v (verdict_reply files v) refl))

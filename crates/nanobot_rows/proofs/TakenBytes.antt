@@ -20,8 +20,9 @@ module _ (got : GotLaw) (all : AllLaw) (bad : BadLaw) (push : PushLaw) (d : Deco
   abbrev old : RunState
   old = record { decoder = d; run = r }
 
-  takes_got : (command : Command) (used : ℕ) (new : Course) (began ended : ℕ) → AnswersPiece d piece (Got command used) → Gains r command new began ended
-      → Takes old (take used piece) (record { decoder = decoder_after d piece (Got command used); run = new }) began ended
+  takes_got : (command : Command) (used : ℕ) (new : Course) (began ended : ℕ) → AnswersPiece d piece (Got command used)
+      → Gains r command new began ended → Takes old (take used piece)
+      (record { decoder = decoder_after d piece (Got command used); run = new }) began ended
   takes_got command used new began ended answers g = record {
     run = λ source profile before run. got_step source profile before piece old run got command used new answers g.progress;
     offset = (let length_is = ap length answers.spelling_is in let joined_length = length-append d.held (take used piece) in omega (arith, length_is, joined_length));
@@ -54,7 +55,8 @@ module _ (got : GotLaw) (all : AllLaw) (bad : BadLaw) (push : PushLaw) (d : Deco
   whole : (n : ℕ) → n ≡ length piece → take n piece ≡ piece
   whole n e = take_all n piece (omega (arith, e))
 
-  pub takes : (fed : Fed) (n : ℕ) (new : Course) (began ended : ℕ) → AnswersPiece d piece fed → Gets r fed (length piece) n new began ended
+  pub takes : (fed : Fed) (n : ℕ) (new : Course) (began ended : ℕ) → AnswersPiece d piece fed
+      → Gets r fed (length piece) n new began ended
       → Takes old (take n piece) (record { decoder = decoder_after d piece fed; run = new }) began ended
   takes (Got command used) n new began ended answers (e, g) =
       subst (λ (k : ℕ). Takes old (take k piece) (record { decoder = decoder_after d piece (Got command used); run = new }) began ended) (sym e) (takes_got command used new began ended answers g)
@@ -75,8 +77,10 @@ some_taken d r new piece All n began ended some answers (e, same, still) = (omeg
 some_taken d r new piece (Bad offset) n began ended some answers (e, same, still) = (omega (arith, e), omega (arith, e))
 
 -- the bytes that a call takes which may be refused memory, over a run that has these parts
-pub takes_if_ok : (got : GotLaw) (all : AllLaw) (bad : BadLaw) (push : PushLaw) {E : Type 0} (answer : Result ℕ E) (old : RunState) (d next : DecoderState) (r new : Course) (piece : List ℕ) (fed : Fed) (began ended : ℕ)
-    → record { decoder = d; run = r } ≡ old → old.run.spent ≡ false → next ≡ decoder_after d piece fed → AnswersPiece d piece fed → 1 ≤ length piece → IfOk answer (λ n. Gets r fed (length piece) n new began ended)
+pub takes_if_ok : (got : GotLaw) (all : AllLaw) (bad : BadLaw) (push : PushLaw) {E : Type 0} (answer : Result ℕ E)
+    (old : RunState) (d next : DecoderState) (r new : Course) (piece : List ℕ) (fed : Fed) (began ended : ℕ)
+    → record { decoder = d; run = r } ≡ old → old.run.spent ≡ false → next ≡ decoder_after d piece fed
+    → AnswersPiece d piece fed → 1 ≤ length piece → IfOk answer (λ n. Gets r fed (length piece) n new began ended)
     → IfOk answer (λ n. TakesFront old piece n (record { decoder = next; run = new }) began ended)
 takes_if_ok got all bad push answer old d next r new piece fed began ended view stands is_next answers some gets =
     subst (λ (x : DecoderState). IfOk answer (λ n. TakesFront old piece n (record { decoder = x; run = new }) began ended)) (sym is_next)

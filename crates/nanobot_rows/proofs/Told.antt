@@ -66,15 +66,19 @@ with_file {Q} (Some files) name P h f = by (content files name) refl h
     by (Some bytes) e there = f files bytes refl e there
 
 -- a file that was not loaded ends the call
-pub not_loaded : {A : Type 0} (X : Finding A) (told : Option Files) (name : List ℕ) (rose : Type 0) → ((files : Files) → FileOf name files (Err (is.Depot, [])) → X files (Err (is.Depot, [])))
-    → (fault : LoadFault) → (fault ≡ load.Missing → IsMissing told name) → (fault ≡ load.Failed → rose) → Finds X told rose (Err (of_load fault))
+pub not_loaded : {A : Type 0} (X : Finding A) (told : Option Files) (name : List ℕ) (rose : Type 0)
+    → ((files : Files) → FileOf name files (Err (is.Depot, [])) → X files (Err (is.Depot, []))) → (fault : LoadFault)
+    → (fault ≡ load.Missing → IsMissing told name) → (fault ≡ load.Failed → rose)
+    → Finds X told rose (Err (of_load fault))
 not_loaded X told name rose gone load.Missing missing failed = inr (weaker_and told (λ files none. gone files (sym (ap (λ (o : Option (List ℕ)). ok_or o (is.Depot, [])) none))) (missing refl))
 not_loaded X told name rose gone load.Failed missing failed = inl (failed refl)
 not_loaded X told name rose gone load.Memory missing failed = tt
 
 -- the same of a piece that was not fetched
-pub not_fetched : {A : Type 0} (X : Finding A) (told : Option Files) (name : List ℕ) (rose : Type 0) → ((files : Files) → FileOf name files (Err (is.Depot, [])) → X files (Err (is.Depot, [])))
-    → (fault : FetchFault) → (fault ≡ fetch.Missing → IsMissing told name) → (fault ≡ fetch.Failed → rose) → Finds X told rose (Err (of_fetch fault))
+pub not_fetched : {A : Type 0} (X : Finding A) (told : Option Files) (name : List ℕ) (rose : Type 0)
+    → ((files : Files) → FileOf name files (Err (is.Depot, [])) → X files (Err (is.Depot, []))) → (fault : FetchFault)
+    → (fault ≡ fetch.Missing → IsMissing told name) → (fault ≡ fetch.Failed → rose)
+    → Finds X told rose (Err (of_fetch fault))
 not_fetched X told name rose gone fetch.Missing missing failed = not_loaded X told name rose gone load.Missing (λ _. missing refl) (λ e. absurd (cc))
 not_fetched X told name rose gone fetch.Failed missing failed = inl (failed refl)
 

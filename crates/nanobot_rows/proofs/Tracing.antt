@@ -51,7 +51,9 @@ module _ (told : Option Files) (name : List ℕ) (source : Matrix) (profile : Pr
   }
 
   -- no byte came: the trace is whole
-  pub underway_end : (target : Matrix) (report : Report) → 0 < length buf → n ≡ 0 → at ≤ 1073741824 → ((bytes : List ℕ) → HasRun source profile bytes run → (files : Files) → AnswerOfBytes profile source target bytes files (reply_of files report))
+  pub underway_end : (target : Matrix) (report : Report) → 0 < length buf → n ≡ 0 → at ≤ 1073741824 → ((bytes : List ℕ)
+      → HasRun source profile bytes run → (files : Files)
+      → AnswerOfBytes profile source target bytes files (reply_of files report))
       → IfSome told (λ files. AnswerOfTrace profile source target name files (reply_of files report))
   underway_end target report room none within done =
       with_file told name _ piece (λ files file t c p.

@@ -28,7 +28,8 @@ same_dis : (b x b' x' : List ℕ) → row_words (dis b x) ≡ row_words (dis b' 
 same_dis b x b' x' e = cc
 
 -- a source, a target and a trace are those of their words
-same_operands : (f : Option (List ℕ) → Option (List ℕ) → List ℕ → Row) (s t s' t' : Option (List ℕ)) (b b' : List ℕ) → All IsName (with_side s (with_side t (b ∷ []))) → All IsName (with_side s' (with_side t' (b' ∷ [])))
+same_operands : (f : Option (List ℕ) → Option (List ℕ) → List ℕ → Row) (s t s' t' : Option (List ℕ)) (b b' : List ℕ)
+    → All IsName (with_side s (with_side t (b ∷ []))) → All IsName (with_side s' (with_side t' (b' ∷ [])))
     → side_word s ≡ side_word s' → side_word t ≡ side_word t' → b ≡ b' → f s t b ≡ f s' t' b'
 same_operands f s t s' t' b b' h h' es et eb =
     let ps = same_side s s' (first_named s t b h) (first_named s' t' b' h') es in

@@ -15,9 +15,11 @@ use Rattle.plan_choice.specs.Planners.{IsLayerPlan}
 pub eight_each : (r size : ℕ) → size ≤ 8 * r * r * r + 200 → size ≤ 8 * volume r + 200
 eight_each r size h = omega (arith, h)
 
-pub own_layer : (source target : Matrix) (plan : Plan) → AreCommands plan.commands → IsAccepted source target plan.commands full_profile plan.energy plan.steps
-    → length (spellings plan.commands) ≤ 8 * source.resolution * source.resolution * source.resolution + 200 → HasAtMost source full_profile plan.commands 1
-    → (source ≡ target → plan.commands ≡ Halt ∷ []) → IsLayerPlan source target plan.commands plan.energy plan.steps
+pub own_layer : (source target : Matrix) (plan : Plan) → AreCommands plan.commands
+    → IsAccepted source target plan.commands full_profile plan.energy plan.steps
+    → length (spellings plan.commands) ≤ 8 * source.resolution * source.resolution * source.resolution + 200
+    → HasAtMost source full_profile plan.commands 1 → (source ≡ target → plan.commands ≡ Halt ∷ [])
+    → IsLayerPlan source target plan.commands plan.energy plan.steps
 own_layer source target plan commands accepted bytes few halt = record {
   plan = record {
     are_commands = commands;

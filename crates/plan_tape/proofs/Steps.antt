@@ -93,7 +93,8 @@ only_bot [] e = absurd (omega arith)
 only_bot (b ∷ []) e = (b, refl, refl)
 only_bot (b ∷ c ∷ bots) e = absurd (omega arith)
 
-in_place : (p : TapeState) (b : Bot) (d : Diff) → spot p.bots ≡ b.pos → IsReachable p d → in_space p.matrix.resolution (plus (point b.pos) d) ≡ true
+in_place : (p : TapeState) (b : Bot) (d : Diff) → spot p.bots ≡ b.pos → IsReachable p d
+    → in_space p.matrix.resolution (plus (point b.pos) d) ≡ true
 in_place p b d e i = subst (λ (q : Coord). in_space p.matrix.resolution (plus (point q) d) ≡ true) e i
 
 all_moved : (bots : List Bot) (b : Bot) (c e : Coord) → bots ≡ b ∷ [] → c ≡ e

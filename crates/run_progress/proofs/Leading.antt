@@ -83,8 +83,9 @@ module _ (target : Matrix) (p : Progress) (rest : List Command) (v : Verdict) (w
 more : (p : Progress) (command : Command) → length (with_command p command).pending ≡ length p.pending + 1
 more p command = length-append p.pending (command ∷ [])
 
-joined : (target : Matrix) (p q : Progress) (rest : List Command) (v : Verdict) → p.mark ≡ Running → 0 < length p.pending → length p.pending < length p.state.bots + 1
-    → Joins p q → Leads target q rest v → Run target p.state (p.pending ++ rest) p.steps v
+joined : (target : Matrix) (p q : Progress) (rest : List Command) (v : Verdict) → p.mark ≡ Running
+    → 0 < length p.pending → length p.pending < length p.state.bots + 1 → Joins p q → Leads target q rest v
+    → Run target p.state (p.pending ++ rest) p.steps v
 joined target p q rest v running some below joins leads = by (length p.pending == length p.state.bots) refl joins
   where
     by : (t : Bool) → (length p.pending == length p.state.bots) ≡ t → MatchBool t (MakesStep p q) (q ≡ p)
@@ -143,8 +144,9 @@ keeps {p = p} (later before q command comes pushes e) = keeps_pushed q p command
 
 -- ---- all commands
 
-pub leads_from_the_opening : {source : Matrix} {profile : Profile} {commands : List Command} {p : Progress} (target : Matrix) (rest : List Command) (v : Verdict)
-    → Comes source profile commands p → Leads target p rest v → VerdictOf source target (commands ++ rest) profile v
+pub leads_from_the_opening : {source : Matrix} {profile : Profile} {commands : List Command} {p : Progress}
+    (target : Matrix) (rest : List Command) (v : Verdict) → Comes source profile commands p → Leads target p rest v
+    → VerdictOf source target (commands ++ rest) profile v
 leads_from_the_opening {source} {profile} {commands} {p} target rest v (first e f) leads =
     rw e (subst (λ (x : Progress). Leads target x rest v) f leads)
 leads_from_the_opening {source} {profile} {commands} {p} target rest v (later before q command comes pushes e) leads =

@@ -92,7 +92,8 @@ module _ (s : State) (all : List Act) (good : IsGood s all) (begun : List ℕ) (
       in_any (λ (x : Act). is_edited full x c) editing_leader.0 all editing_leader.1 editing_leader.3
 
   full_is : is_full (matrix_after s.matrix (taken_acts all (acts_of all begun))) c
-      ≡ (is_filled (taken_acts all (acts_of all begun)) c || (is_full s.matrix c && not (is_voided (taken_acts all (acts_of all begun)) c)))
+      ≡ (is_filled (taken_acts all (acts_of all begun)) c
+      || (is_full s.matrix c && not (is_voided (taken_acts all (acts_of all begun)) c)))
   full_is = full_where s.matrix.resolution (λ x. is_filled (taken_acts all (acts_of all begun)) x || (is_full s.matrix x && not (is_voided (taken_acts all (acts_of all begun)) x))) c within
 
   pub untouched : ((a : Act) → In a all → IsKeptBy begun c a)

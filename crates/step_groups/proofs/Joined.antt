@@ -59,7 +59,8 @@ more_in r [] [] h k = tt
 more_in r [] (a ∷ others) h k = (spot_in r a (k a (inl refl)), more_in r [] others tt (λ b i. k b (inr i)))
 more_in r (box ∷ boxes) others h k = (h.0, more_in r boxes others h.1 k)
 
-in_spots : (others : List Act) (c : Coord) → in_boxes (map box_of_bot others) c ≡ list_any (λ b. is_within (span (box_of_bot b)) (point c)) others
+in_spots : (others : List Act) (c : Coord)
+    → in_boxes (map box_of_bot others) c ≡ list_any (λ b. is_within (span (box_of_bot b)) (point c)) others
 in_spots [] c = refl
 in_spots (a ∷ others) c = ap (λ b. is_within (span (box_of_bot a)) (point c) || b) (in_spots others c)
 

@@ -51,8 +51,10 @@ read_once m b k before after le =
     touched m (b ∷ []) (k ∷ []) before after refl (one_rises b) (omega (arith, sum_is, le))
 
 -- a way that is read once has no more coordinates than are volatile
-pub read_half : (m : Matrix) (b : Bot) (d : Diff) (to : Coord) (before after : ℕ) → IsTrue (in_space m.resolution (plus (point b.pos) d)) → point to ≡ plus (point b.pos) d → IsInSpace m.resolution b.pos → IsInSpace m.resolution to →
-    after ≤ before + size (span (corners b.pos to)) → after ≤ before + volatile_total m (acts (b ∷ []) (SMove d ∷ []))
+pub read_half : (m : Matrix) (b : Bot) (d : Diff) (to : Coord) (before after : ℕ)
+    → IsTrue (in_space m.resolution (plus (point b.pos) d)) → point to ≡ plus (point b.pos) d
+    → IsInSpace m.resolution b.pos → IsInSpace m.resolution to → after ≤ before + size (span (corners b.pos to))
+    → after ≤ before + volatile_total m (acts (b ∷ []) (SMove d ∷ []))
 read_half m b d to before after inside sum from within le =
     let way : (p : Point) → is_within (span (corners b.pos to)) p ≡ is_within (between (point b.pos) (point to)) p = λ p. covers (corners b.pos to) b.pos to p refl in
     let once = counted m (corners b.pos to) b.pos to before after refl (ordered_corners b.pos to) from within le in

@@ -86,11 +86,18 @@ module _ (r : ℕ) (bots : List Bot) (commands : List Command) (i : ℕ) (b : Bo
           let same = ap length tell ∙ length-map mates (λ (x : Act). x.bot) in
           omega arith
 
-      pub joined_here : (groups next : List Group) (own g : Group) → next ≡ groups ++ g ∷ [] → own.leader ≡ b.bid → own.members.items ≡ b.bid ∷ [] → ((c : Coord) → in_boxes own.boxes.items c ≡ is_volatile_of (point c) (act b k)) → AreBoxesIn r own.boxes.items → g.leader ≡ own.leader
-          → g.members.items ≡ own.members.items ++ map (λ (x : Bot). x.bid) (with_number n (take (length bots - (i + 1)) (drop (i + 1) bots)) (take (length ns - (i + 1)) (drop (i + 1) ns)))
-          → g.boxes.items ≡ own.boxes.items ++ map (λ (x : Bot). corners x.pos x.pos) (with_number n (take (length bots - (i + 1)) (drop (i + 1) bots)) (take (length ns - (i + 1)) (drop (i + 1) ns)))
-          → All (λ b. IsInSpace r b.pos) bots
-          → AreGroups r (acts bots commands) (filter (is_leader (acts bots commands)) (acts (take i bots) (take i commands))) groups → AreGroups r (acts bots commands) (filter (is_leader (acts bots commands)) (acts (take (i + 1) bots) (take (i + 1) commands))) next
+      pub joined_here : (groups next : List Group) (own g : Group) → next ≡ groups ++ g ∷ [] → own.leader ≡ b.bid
+          → own.members.items ≡ b.bid ∷ []
+          → ((c : Coord) → in_boxes own.boxes.items c ≡ is_volatile_of (point c) (act b k))
+          → AreBoxesIn r own.boxes.items → g.leader ≡ own.leader → g.members.items ≡ own.members.items
+          ++ map (λ (x : Bot). x.bid) (with_number n (take (length bots - (i + 1)) (drop (i + 1) bots))
+          (take (length ns - (i + 1)) (drop (i + 1) ns))) → g.boxes.items ≡ own.boxes.items
+          ++ map (λ (x : Bot). corners x.pos x.pos) (with_number n (take (length bots - (i + 1)) (drop (i + 1) bots))
+          (take (length ns - (i + 1)) (drop (i + 1) ns))) → All (λ b. IsInSpace r b.pos) bots
+          → AreGroups r (acts bots commands)
+          (filter (is_leader (acts bots commands)) (acts (take i bots) (take i commands))) groups
+          → AreGroups r (acts bots commands)
+          (filter (is_leader (acts bots commands)) (acts (take (i + 1) bots) (take (i + 1) commands))) next
       joined_here groups next own g f leader member boxes space leader_stays members_are boxes_are within h =
           let spots : g.boxes.items ≡ own.boxes.items ++ map box_of_bot mates = boxes_are ∙ ap (λ more. own.boxes.items ++ more) (ap (map (λ (x : Bot). corners x.pos x.pos)) tell ∙ of_bots (λ (x : Bot). corners x.pos x.pos) mates) in
           add_joined r all xs ys a whole up more groups next g one_more f leads (leader_stays ∙ leader)

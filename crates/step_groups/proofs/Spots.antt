@@ -42,7 +42,8 @@ pub spot_of_partner : (a b : Act) (x : Point) → are_partners a b ≡ true → 
 spot_of_partner a b x h v = partner a b x h ∙ v
 
 -- members of a group command share the region
-in_region : (here there region other : Bool) → region ≡ other → (there || (other || false)) ≡ true → ((here || (region || false)) || there) ≡ true
+in_region : (here there region other : Bool) → region ≡ other → (there || (other || false)) ≡ true
+    → ((here || (region || false)) || there) ≡ true
 in_region true there region other e h = refl
 in_region false there true other e h = refl
 in_region false true false other e h = refl

@@ -167,9 +167,12 @@ bot_without n (x ∷ bots) (m ∷ numbers) (suc i) l e h =
     bot_without n bots numbers i (omega arith) (omega arith) h ∙ (λ j. with_number n (drop (next j) (x ∷ bots)) (drop (next j) (m ∷ numbers)))
 
 -- those from a place on that have the number: the bot at the place, if it has it, and those behind it
-from_place : (n : ℕ) (bots : List Bot) (commands : List Command) (numbers : List ℕ) (i : ℕ) (b : Bot) (k : Command) → i < length bots → length commands ≡ length bots → length numbers ≡ length bots → b ≡ get_or bots i b → k ≡ get_or commands i k
-    → with_number n (acts (drop i bots) (drop i commands)) (drop i numbers)
-    ≡ cond (get_or numbers i 0 == n) (act b k ∷ with_number n (acts (drop (i + 1) bots) (drop (i + 1) commands)) (drop (i + 1) numbers)) (with_number n (acts (drop (i + 1) bots) (drop (i + 1) commands)) (drop (i + 1) numbers))
+from_place : (n : ℕ) (bots : List Bot) (commands : List Command) (numbers : List ℕ) (i : ℕ) (b : Bot) (k : Command)
+    → i < length bots → length commands ≡ length bots → length numbers ≡ length bots → b ≡ get_or bots i b
+    → k ≡ get_or commands i k → with_number n (acts (drop i bots) (drop i commands)) (drop i numbers)
+    ≡ cond (get_or numbers i 0 == n)
+    (act b k ∷ with_number n (acts (drop (i + 1) bots) (drop (i + 1) commands)) (drop (i + 1) numbers))
+    (with_number n (acts (drop (i + 1) bots) (drop (i + 1) commands)) (drop (i + 1) numbers))
 from_place n [] commands numbers i b k l e f bi ki = absurd (omega arith)
 from_place n (x ∷ bots) [] numbers i b k l e f bi ki = absurd (omega arith)
 from_place n (x ∷ bots) (y ∷ commands) [] i b k l e f bi ki = absurd (omega arith)

@@ -30,8 +30,9 @@ edit_leaves_one : (full : Bool) (d : Diff) → LeavesOne (edit_of full d)
 edit_leaves_one true d b = refl
 edit_leaves_one false d b = refl
 
-alone_after : (command : Command) → LeavesOne command → (old new : Situation) (fault : StepFault) (began ended : ℕ) → length old.state.bots ≡ 1
-    → Stepped old new (command ∷ []) (answer_of true new.state fault) began ended → IsSolo new
+alone_after : (command : Command) → LeavesOne command → (old new : Situation) (fault : StepFault) (began ended : ℕ)
+    → length old.state.bots ≡ 1 → Stepped old new (command ∷ []) (answer_of true new.state fault) began ended
+    → IsSolo new
 alone_after command leaves old new fault began ended one s =
     let goes = accepted_step old.state new.state (command ∷ []) (old.steps + 1) s.goes in
     let only = only_bot old.state.bots one in
@@ -42,10 +43,12 @@ alone_after command leaves old new fault began ended one s =
       held = subst (λ (t : State). t.harmonics ≡ Low → FirstUngrounded t.matrix None) (sym goes.is) goes.grounded;
     }
 
-pub alone_after_move : (d : Diff) (old new : Situation) (fault : StepFault) (began ended : ℕ) → length old.state.bots ≡ 1
-    → Stepped old new (SMove d ∷ []) (answer_of true new.state fault) began ended → IsSolo new
+pub alone_after_move : (d : Diff) (old new : Situation) (fault : StepFault) (began ended : ℕ)
+    → length old.state.bots ≡ 1 → Stepped old new (SMove d ∷ []) (answer_of true new.state fault) began ended
+    → IsSolo new
 alone_after_move d = alone_after (SMove d) (move_leaves_one d)
 
-pub alone_after_edit : (full : Bool) (d : Diff) (old new : Situation) (fault : StepFault) (began ended : ℕ) → length old.state.bots ≡ 1
-    → Stepped old new (edit_of full d ∷ []) (answer_of true new.state fault) began ended → IsSolo new
+pub alone_after_edit : (full : Bool) (d : Diff) (old new : Situation) (fault : StepFault) (began ended : ℕ)
+    → length old.state.bots ≡ 1 → Stepped old new (edit_of full d ∷ []) (answer_of true new.state fault) began ended
+    → IsSolo new
 alone_after_edit full d = alone_after (edit_of full d) (edit_leaves_one full d)

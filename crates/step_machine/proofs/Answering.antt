@@ -102,8 +102,10 @@ module _ (s : State) (commands : List Command) (steps : ℕ) (spent : Bool) (v :
     })
 
     -- the step is made
-    pub made : (t : State) (forest : Standing) (ok : StepOk) (settled ended : ℕ) → IsSettled s commands (steps + 1) forest judged settled → t ≡ after s commands → ok.energy ≡ t.energy → (ok.halted ≡ true ↔ t.bots ≡ [])
-        → (IsWellFormed s → IsWellFormed t) → ended ≤ settled + volatile_total s.matrix (acts s.bots commands)
+    pub made : (t : State) (forest : Standing) (ok : StepOk) (settled ended : ℕ)
+        → IsSettled s commands (steps + 1) forest judged settled → t ≡ after s commands → ok.energy ≡ t.energy
+        → (ok.halted ≡ true ↔ t.bots ≡ []) → (IsWellFormed s → IsWellFormed t)
+        → ended ≤ settled + volatile_total s.matrix (acts s.bots commands)
         → Stepped v (seen t (steps + 1) spent) commands (Ok ok) began ended
     made t forest ok settled ended h is paid halted formed turns = subst (λ (w : Situation). Stepped w (seen t (steps + 1) spent) commands (Ok ok) began ended) e (record {
       goes = subst (λ (u : State). Next s commands (steps + 1) (Goes u)) (sym is) h.goes;

@@ -15,8 +15,9 @@ declined_few s commands step began ended (inl e) = omega arith
 declined_few s commands step began ended (inr h) = h.1
 
 -- where a rule is broken at the step's start nothing was touched
-pub declined_broken : (s : State) (commands : List Command) (steps : ℕ) (spent : Bool) (v : Situation) → seen s steps spent ≡ v → (began ended : ℕ) (b : Broken) → broken s commands (steps + 1) ≡ Some b →
-    IsDeclined v.state commands (v.steps + 1) began ended → ended ≡ began
+pub declined_broken : (s : State) (commands : List Command) (steps : ℕ) (spent : Bool) (v : Situation)
+    → seen s steps spent ≡ v → (began ended : ℕ) (b : Broken) → broken s commands (steps + 1) ≡ Some b
+    → IsDeclined v.state commands (v.steps + 1) began ended → ended ≡ began
 declined_broken s commands steps spent v e began ended b breaks (inl h) = h
 declined_broken s commands steps spent v e began ended b breaks (inr h) =
     let none : broken s commands (steps + 1) ≡ None = ap (λ (w : Situation). broken w.state commands (w.steps + 1)) e ∙ h.0 in

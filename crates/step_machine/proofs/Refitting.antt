@@ -89,9 +89,12 @@ module _ (s : State) (commands : List Command) (step : ℕ) (ready : IsReady s) 
     refitted new won = new_is s (acts s.bots commands) good between lost_is new (subst (λ (cells : List Coord). AreAdded between new cells) g won)
 
   -- the forest is that of the step's state, and the touches are paid for, where it lost what is voided and gained what is filled
-  pub is_refitted : (old between : Matrix) (forest : Standing) (front back : List Coord) (before listed middle after : ℕ) → old ≡ s.matrix → front ≡ edits_of s commands true → back ≡ edits_of s commands false
-      → listed ≤ before + 96 * volatile_total s.matrix (acts s.bots commands) → AreRemoved old between front → IsCheap old between front 100 listed middle
-      → AreAdded between forest.matrix back → IsCheap between forest.matrix back 100 middle after → forest.spent ≡ false → IsRefitted s commands forest before after
+  pub is_refitted : (old between : Matrix) (forest : Standing) (front back : List Coord)
+      (before listed middle after : ℕ) → old ≡ s.matrix → front ≡ edits_of s commands true
+      → back ≡ edits_of s commands false → listed ≤ before + 96 * volatile_total s.matrix (acts s.bots commands)
+      → AreRemoved old between front → IsCheap old between front 100 listed middle → AreAdded between forest.matrix back
+      → IsCheap between forest.matrix back 100 middle after → forest.spent ≡ false
+      → IsRefitted s commands forest before after
   is_refitted old between forest front back before listed middle after e f g l lost lose won win stands =
       let new = refitted old between front back e f g lost forest.matrix won in
       record {

@@ -132,9 +132,8 @@ not_grounding s commands step b e f = by (first_in (judge_trace s commands step 
     later (inl i) = no_grounding b.rule (bots_rule s (acts s.bots commands) step b i) f
     later (inr i) = let interferes = pairs_rule s.matrix (acts s.bots commands) step (leaders (acts s.bots commands)) b i in cc
 
-    by : In (Some b)
-        (judge_trace s commands step ∷ (judge_bots s (acts s.bots commands) step ++ judge_pairs s.matrix (acts s.bots commands) step (leaders (acts s.bots commands))))
-        → ⊥
+    by : In (Some b) (judge_trace s commands step ∷ (judge_bots s (acts s.bots commands) step
+        ++ judge_pairs s.matrix (acts s.bots commands) step (leaders (acts s.bots commands)))) → ⊥
     by (inl i) = let trace_ends = trace_rule (slice_get s.bots (length commands)) step b i in cc
     by (inr i) = later (in_either (Some b) (judge_bots s (acts s.bots commands) step) (judge_pairs s.matrix (acts s.bots commands) step (leaders (acts s.bots commands))) i)
 

@@ -105,9 +105,12 @@ may_gain_back m n undo e h = subst (λ (x : Matrix). MayAdd (without_filled x un
     void_still false full f = f
 
 -- the machine's parts belong together in the state that a note tells, where the machine is spent or its forest is that state's
-pub sound_restored : (s : State) (undo : Undo) (old : Standing) (changed : Changes) (steps : ℕ) (spent : Bool) → IsConsistent s old changed steps spent → MayUndo s undo
-    → (now : State) (new : Standing) (spends : Bool) (filled voided : List Coord) → filled ≡ undo.filled.items → voided ≡ undo.voided.items → now ≡ state_before s undo
-    → (spends ≡ false → spent ≡ false) → (spends ≡ false → new.spent ≡ false) → (spends ≡ false → new.matrix ≡ matrix_before old.matrix filled voided) → IsConsistent now new changed undo.steps spends
+pub sound_restored : (s : State) (undo : Undo) (old : Standing) (changed : Changes) (steps : ℕ) (spent : Bool)
+    → IsConsistent s old changed steps spent → MayUndo s undo → (now : State) (new : Standing) (spends : Bool)
+    (filled voided : List Coord) → filled ≡ undo.filled.items → voided ≡ undo.voided.items → now ≡ state_before s undo
+    → (spends ≡ false → spent ≡ false) → (spends ≡ false → new.spent ≡ false)
+    → (spends ≡ false → new.matrix ≡ matrix_before old.matrix filled voided)
+    → IsConsistent now new changed undo.steps spends
 sound_restored s undo old changed steps spent sound may now new spends filled voided f u is was free tied = record {
   stands = free;
   tied = λ h. tied h ∙ ((λ i. matrix_before (sound.tied (was h) i) (f i) (u i)) ∙ ap (λ (x : State). x.matrix) (sym is));

@@ -121,10 +121,14 @@ module _ (s : State) (commands : List Command) (step : ℕ) (ready : IsReady s) 
       by c (inr i) = in_filter (differ_at s.matrix (matrix_after s.matrix (acts s.bots commands))) c (all_of s.matrix) (in_coordinates s.matrix.resolution c (cell_of s (acts s.bots commands) good false c i).0) (won_differs c i)
 
   -- the touches of the list, of what is removed and of what is added
-  pub refit_touches : (between new : Matrix) (front back : List Coord) (before listed middle after n : ℕ) → between ≡ without_voided s.matrix (acts s.bots commands) → new ≡ matrix_after s.matrix (acts s.bots commands) → front ≡ edits_of s commands true → back ≡ edits_of s commands false → listed ≤ before + 96 * volatile_total s.matrix (acts s.bots commands)
-      → ((first last : List (Option ℕ)) → Levels s.matrix first → Levels between last → middle ≤ listed + 100 * (length front + differing first last))
-      → ((first last : List (Option ℕ)) → Levels between first → Levels new last → after ≤ middle + 100 * (length back + differing first last))
-      → WorkOfActs s.matrix (acts s.bots commands) n → after + 4 * volatile_total s.matrix (acts s.bots commands) ≤ before + 100 * n
+  pub refit_touches : (between new : Matrix) (front back : List Coord) (before listed middle after n : ℕ)
+      → between ≡ without_voided s.matrix (acts s.bots commands) → new ≡ matrix_after s.matrix (acts s.bots commands)
+      → front ≡ edits_of s commands true → back ≡ edits_of s commands false
+      → listed ≤ before + 96 * volatile_total s.matrix (acts s.bots commands) → ((first last : List (Option ℕ))
+      → Levels s.matrix first → Levels between last → middle ≤ listed + 100 * (length front + differing first last))
+      → ((first last : List (Option ℕ)) → Levels between first → Levels new last
+      → after ≤ middle + 100 * (length back + differing first last)) → WorkOfActs s.matrix (acts s.bots commands) n
+      → after + 4 * volatile_total s.matrix (acts s.bots commands) ≤ before + 100 * n
   refit_touches between new front back before listed middle after n b a f g l lose win w =
       let levels = w.0 in
       let lost = lose levels.before levels.between levels.before_are (subst (λ (m : Matrix). Levels m levels.between) (sym b) levels.between_are) in
@@ -149,8 +153,9 @@ ends_early s commands step b e f = by (slice_get s.bots (length commands)) refl 
     none : {A B : Type 0} (g : A → B) (o : Option A) (x : B) → o ≡ None → Some x ≡ option_map g o → ⊥
     none g o x n h = let option_map_is = ap (option_map g) n in cc
 
-    by : (o : Option Bot) → slice_get s.bots (length commands) ≡ o → In (Some b)
-        (judge_trace s commands step ∷ (judge_bots s (acts s.bots commands) step ++ judge_pairs s.matrix (acts s.bots commands) step (leaders (acts s.bots commands))))
+    by : (o : Option Bot) → slice_get s.bots (length commands) ≡ o → In (Some b) (judge_trace s commands step
+        ∷ (judge_bots s (acts s.bots commands) step
+        ++ judge_pairs s.matrix (acts s.bots commands) step (leaders (acts s.bots commands))))
         → length commands < length s.bots
     by (Some bot) g i = slice_get_within s.bots (length commands) bot g
     by None g (inl i) = absurd (none (λ (bot : Bot). _) (slice_get s.bots (length commands)) b g i)

@@ -298,8 +298,8 @@ module _ (s : State) (all : List Act) (region : Span) (b : Bot) (d f : Diff) (co
   outside = no_region _ (within_as (between (plus (point b.pos) d) (plus (plus (point b.pos) d) f)) region (point b.pos) corner.same ∙ corner.outside)
 
   shaped : (ms : List Act) → ms ≡ all
-      → ((not (length ms == 2 ^ dimension (between (plus (point b.pos) d) (plus (plus (point b.pos) d) f))) || repeats (flat_map (λ a. corners_of (position a) a.command) ms)) || false)
-      ≡ false
+      → ((not (length ms == 2 ^ dimension (between (plus (point b.pos) d) (plus (plus (point b.pos) d) f)))
+      || repeats (flat_map (λ a. corners_of (position a) a.command) ms)) || false) ≡ false
   shaped ms e =
       well_shaped (length ms) (2 ^ dimension (between (plus (point b.pos) d) (plus (plus (point b.pos) d) f))) (repeats (flat_map (λ a. corners_of (position a) a.command) ms))
       (ap length e ∙ (many ∙ ap (λ n. 2 ^ n) (sym (dimension_as (between (plus (point b.pos) d) (plus (plus (point b.pos) d) f)) region corner.same))))

@@ -35,8 +35,10 @@ pub record CanRow (g : Grid) (c : Coord) (slot index word : ℕ) : Type 0 where
   pub written : (k : ℕ) → k < 8
       → get_or (words_of (with_row g.bricks slot index (k + 1) word) slot) (index + k) 0 ≡ word
 
-pub can_row : (g q : Grid) (c : Coord) (slot index word : ℕ) → g ≡ q → IsStore g → LieInRow q c 8 → slot_of q c ≡ Some slot → index ≡ word_index c → word ≢ 1 →
-    ((k : ℕ) → k < 8 → word_at q (further c k) ≢ 1) → ((k : ℕ) → k < 8 → get_or (words_of (with_row g.bricks slot index (k + 1) word) slot) (index + k) 0 ≡ word) → CanRow g c slot index word
+pub can_row : (g q : Grid) (c : Coord) (slot index word : ℕ) → g ≡ q → IsStore g → LieInRow q c 8
+    → slot_of q c ≡ Some slot → index ≡ word_index c → word ≢ 1 → ((k : ℕ) → k < 8 → word_at q (further c k) ≢ 1)
+    → ((k : ℕ) → k < 8 → get_or (words_of (with_row g.bricks slot index (k + 1) word) slot) (index + k) 0 ≡ word)
+    → CanRow g c slot index word
 can_row g q c slot index word same h r o a l ls w = record {
   store = h;
   row = subst (λ (x : Grid). LieInRow x c 8) (sym same) r;
@@ -60,8 +62,10 @@ record IsRowed (g : Grid) (c : Coord) (slot index word k : ℕ) : Type 0 where
 not_one : (n : ℕ) → n ≢ 1 → tally (n == 1) ≡ 0
 not_one n h = let other_n : (n == 1) ≡ false = grind (arith, nat_tests) in ap tally other_n
 
-one_more : (g : Grid) (c : Coord) (slot index word k : ℕ) → CanRow g c slot index word → IsStore (rowed g slot index word k) → k < 8 →
-    IsWritten (word_at (rowed g slot index word k)) (word_at (rowed g slot index word (suc k))) (further c k) word × IsStore (rowed g slot index word (suc k))
+one_more : (g : Grid) (c : Coord) (slot index word k : ℕ) → CanRow g c slot index word
+    → IsStore (rowed g slot index word k) → k < 8
+    → IsWritten (word_at (rowed g slot index word k)) (word_at (rowed g slot index word (suc k))) (further c k) word
+    × IsStore (rowed g slot index word (suc k))
 unfolding with_row
 one_more g c slot index word k h s l =
     let now = rowed g slot index word k in
@@ -123,8 +127,9 @@ wrote_row g v c slot index word h e =
 -- ---- what is read of it
 
 -- the voxels of the row have the word, and no others changed
-written_so_far : (old new : Grid) (c : Coord) (word k : ℕ) (w : AreWritten old new c word) → k ≤ 8 →
-    ((j : ℕ) → j < k → word_at (w.after k) (further c j) ≡ word) × ((d : Coord) → ((j : ℕ) → j < k → d ≡ further c j → ⊥) → word_at (w.after k) d ≡ word_at old d)
+written_so_far : (old new : Grid) (c : Coord) (word k : ℕ) (w : AreWritten old new c word) → k ≤ 8
+    → ((j : ℕ) → j < k → word_at (w.after k) (further c j) ≡ word)
+    × ((d : Coord) → ((j : ℕ) → j < k → d ≡ further c j → ⊥) → word_at (w.after k) d ≡ word_at old d)
 written_so_far old new c word zero w l = ((λ j m. absurd (omega arith)), (λ d h. ap (λ (g : Grid). word_at g d) w.first))
 written_so_far old new c word (suc k) w l =
     let so_far = written_so_far old new c word k w (omega arith) in
@@ -172,8 +177,9 @@ no_parent w c q n k f l out h t = by t
           | inr m ↦ f.near 0 q (omega arith) (lies_near (refl, omega arith, omega arith, omega arith)) h (omega arith)
         ]
 
-exact_without_row : (r n : ℕ) (w v : Coord → ℕ) (c : Coord) → AreExact r w → RowIsFree w c n → ((j : ℕ) → j < n → v (further c j) ≡ 0) →
-    ((d : Coord) → ((j : ℕ) → j < n → d ≡ further c j → ⊥) → v d ≡ w d) → AreExact r v
+exact_without_row : (r n : ℕ) (w v : Coord → ℕ) (c : Coord) → AreExact r w → RowIsFree w c n
+    → ((j : ℕ) → j < n → v (further c j) ≡ 0) → ((d : Coord) → ((j : ℕ) → j < n → d ≡ further c j → ⊥) → v d ≡ w d)
+    → AreExact r v
 exact_without_row r n w v c e f gone kept = record {
   space = λ d h. let kept_there = kept d (out d h) in e.space d (omega arith);
   form = λ d l. elim (in_row d c n) [

@@ -43,8 +43,9 @@ near_level d a b (lies_near h) = (omega arith, omega arith)
 near_level d a b (lies_far h) = (omega arith, omega arith)
 
 -- the neighbours in a heap allow the word that has the level of y
-fits_level : (r : ℕ) (w : Coord → ℕ) (c : Coord) (word : ℕ) → AreHeapWords w → word / 8 ≡ c.y + 1 → (c.y ≡ 0 → word ≡ 8) →
-    ((word ≡ 8) × (c.y ≡ 0)) ⊎ ((q : Coord) × Toward (word % 8) c q × (8 ≤ w q) × (height w q + 1 ≡ word / 8)) → Fits r w c word
+fits_level : (r : ℕ) (w : Coord → ℕ) (c : Coord) (word : ℕ) → AreHeapWords w → word / 8 ≡ c.y + 1 → (c.y ≡ 0 → word ≡ 8)
+    → ((word ≡ 8) × (c.y ≡ 0)) ⊎ ((q : Coord) × Toward (word % 8) c q × (8 ≤ w q) × (height w q + 1 ≡ word / 8))
+    → Fits r w c word
 fits_level r w c word h level floor parent = record {
   some = omega arith;
   form = λ k. omega arith;
@@ -67,17 +68,19 @@ heap_with w v c word h level k d g = elim (same_or_not d c) [
   | inr m ↦ let kept = k.kept d m in let height_is : height w d ≡ d.y + 1 = h d (omega arith) in omega arith
 ]
 
-stacked_with : (old new : Grid) (c : Coord) (word before mid after : ℕ) → CanStack old c → Fits old.resolution (word_at old) c word → word / 8 ≡ c.y + 1 →
-    IsWritten (word_at old) (word_at new) c word →
-    new.resolution ≡ old.resolution → new.table ≡ old.table → mid ≤ before + 6 → after ≡ mid + 1 → HaveStacked old new c before after
+stacked_with : (old new : Grid) (c : Coord) (word before mid after : ℕ) → CanStack old c
+    → Fits old.resolution (word_at old) c word → word / 8 ≡ c.y + 1 → IsWritten (word_at old) (word_at new) c word
+    → new.resolution ≡ old.resolution → new.table ≡ old.table → mid ≤ before + 6 → after ≡ mid + 1
+    → HaveStacked old new c before after
 stacked_with old new c word before mid after s f level k r t m a = record {
   placed = placed_with old new c word before mid after s.exact s.within s.void f k r m a;
   heap = heap_with (word_at old) (word_at new) c word s.heap level k;
   slots = t;
 }
 
-pub stacked_on_floor : (old new : Grid) (c : Coord) (before after : ℕ) → CanStack old c → c.y ≡ 0 → IsWritten (word_at old) (word_at new) c 8 →
-    new.resolution ≡ old.resolution → new.table ≡ old.table → after ≡ before + 1 → HaveStacked old new c before after
+pub stacked_on_floor : (old new : Grid) (c : Coord) (before after : ℕ) → CanStack old c → c.y ≡ 0
+    → IsWritten (word_at old) (word_at new) c 8 → new.resolution ≡ old.resolution → new.table ≡ old.table
+    → after ≡ before + 1 → HaveStacked old new c before after
 stacked_on_floor old new c before after s y k r t a =
     stacked_with old new c 8 before before after s (fits_level old.resolution (word_at old) c 8 s.heap (omega arith) (λ _. refl) (inl (refl, y)))
     (omega arith) k r t (omega arith) a
@@ -85,9 +88,10 @@ stacked_on_floor old new c before after s y k r t a =
 toward_under : (c : Coord) → (c.y ≡ 0 → ⊥) → Toward 3 c (under c)
 toward_under c n = let some_y : 0 < c.y = elim (cases_lt 0 c.y) [ inl l ↦ l | inr l ↦ absurd (n (omega arith)) ] in lies_under (refl, refl, omega arith, refl)
 
-pub stacked_on_another : (old new : Grid) (c : Coord) (before mid after : ℕ) → CanStack old c → (c.y ≡ 0 → ⊥) → (word_at old (under c) ≡ 0 → ⊥) →
-    IsWritten (word_at old) (word_at new) c (8 * c.y + 11) →
-    new.resolution ≡ old.resolution → new.table ≡ old.table → mid ≤ before + 1 → after ≡ mid + 1 → HaveStacked old new c before after
+pub stacked_on_another : (old new : Grid) (c : Coord) (before mid after : ℕ) → CanStack old c → (c.y ≡ 0 → ⊥)
+    → (word_at old (under c) ≡ 0 → ⊥) → IsWritten (word_at old) (word_at new) c (8 * c.y + 11)
+    → new.resolution ≡ old.resolution → new.table ≡ old.table → mid ≤ before + 1 → after ≡ mid + 1
+    → HaveStacked old new c before after
 stacked_on_another old new c before mid after s n f k r t m a =
     let full : 0 < word_at old (under c) = elim (cases_lt 0 (word_at old (under c))) [ inl l ↦ l | inr l ↦ absurd (f (omega arith)) ] in
     let level : height (word_at old) (under c) ≡ c.y - 1 + 1 = s.heap (under c) full in
@@ -99,9 +103,10 @@ stacked_on_another old new c before mid after s n f k r t m a =
     (omega arith) k r t (omega arith) a
 
 -- a voxel of a row that stands
-pub stacked_in_pile : (old new : Grid) (c : Coord) (n k word before after : ℕ) → CanStack old (further c k) → RowStands (word_at old) c n → k < n →
-    (c.y ≡ 0 → word ≡ 8) → (0 < c.y → word ≡ 8 * c.y + 11) → IsWritten (word_at old) (word_at new) (further c k) word →
-    new.resolution ≡ old.resolution → new.table ≡ old.table → after ≡ before + 1 → HaveStacked old new (further c k) before after
+pub stacked_in_pile : (old new : Grid) (c : Coord) (n k word before after : ℕ) → CanStack old (further c k)
+    → RowStands (word_at old) c n → k < n → (c.y ≡ 0 → word ≡ 8) → (0 < c.y → word ≡ 8 * c.y + 11)
+    → IsWritten (word_at old) (word_at new) (further c k) word → new.resolution ≡ old.resolution → new.table ≡ old.table
+    → after ≡ before + 1 → HaveStacked old new (further c k) before after
 stacked_in_pile old new c n k word before after s (inl y) l floor above w r t a =
     stacked_on_floor old new (further c k) before after s y (subst (λ (v : ℕ). IsWritten (word_at old) (word_at new) (further c k) v) (floor y) w) r t a
 stacked_in_pile old new c n k word before after s (inr f) l floor above w r t a = elim (cases_lt 0 c.y) [
@@ -129,12 +134,12 @@ slot_kept : (old new : Grid) (c : Coord) → new.table ≡ old.table → new.res
     → slot_of new c ≡ slot_of old c
 slot_kept old new c t r = λ i. slot_at (t i) (brick_number (r i) c)
 
-pub slots_kept : (old new : Grid) (c : Coord) (own : ℕ) (below : Option ℕ) → new.table ≡ old.table → new.resolution ≡ old.resolution →
-    AreBrickSlots old c own below → AreBrickSlots new c own below
+pub slots_kept : (old new : Grid) (c : Coord) (own : ℕ) (below : Option ℕ) → new.table ≡ old.table
+    → new.resolution ≡ old.resolution → AreBrickSlots old c own below → AreBrickSlots new c own below
 slots_kept old new c own below t r s = record { here = slot_kept old new c t r ∙ s.here; there = λ y. s.there y ∙ sym (slot_kept old new (under c) t r) }
 
-pub slots_along : (g : Grid) (c : Coord) (z own : ℕ) (below : Option ℕ) → z / 8 ≡ c.z / 8 → AreBrickSlots g c own below →
-    AreBrickSlots g (record { x = c.x; y = c.y; z = z }) own below
+pub slots_along : (g : Grid) (c : Coord) (z own : ℕ) (below : Option ℕ) → z / 8 ≡ c.z / 8 → AreBrickSlots g c own below
+    → AreBrickSlots g (record { x = c.x; y = c.y; z = z }) own below
 slots_along g c z own below e s =
     let place_there : Coord = record { x = c.x; y = c.y; z = z } in
     let here : brick place_there ≡ brick c = λ i. record { x = c.x / 8; y = c.y / 8; z = e i } in
@@ -187,8 +192,8 @@ pub pile_full : (m : Matrix) (from count bits : ℕ) → AreBits m from count bi
     → k < 8 → IsTrue (voxel_at m (from + k))
 pile_full m from count bits b e f k l = full_bit m from count bits k b (omega arith) (one_bit bits k f l)
 
-pub bits_from : (m : Matrix) (from count bits k part place : ℕ) → AreBits m from count bits → k + part ≤ count → place ≡ from + k →
-    AreBits m place part (bits / 2 ^ k)
+pub bits_from : (m : Matrix) (from count bits k part place : ℕ) → AreBits m from count bits → k + part ≤ count
+    → place ≡ from + k → AreBits m place part (bits / 2 ^ k)
 bits_from m from count bits k part place b l e j h =
     let on : from + (k + j) ≡ place + j = omega arith in
     ap (λ v. v % 2 == 1) (div-div-eq-div-mul bits (2 ^ k) (2 ^ j) ∙ ap (λ v. bits / v) (sym (pow-add 2 k j)))
@@ -202,8 +207,8 @@ same_place r c d i j e = sym (coordinate_at-place r c i) ∙ (ap (coordinate_at 
 later_seen : (m : Matrix) (p q : ℕ) (c : Coord) → p ≤ q → IsSeen m p c → IsSeen m q c
 later_seen m p q c l s = record { within = s.within; full = s.full; before = omega (arith, s.before) }
 
-pub heaped_none : (m : Matrix) (g : Grid) (rest : List Coord) → g.resolution ≡ m.resolution → AreExact g.resolution (word_at g) →
-    ((c : Coord) → word_at g c ≡ 0) → rest ≡ [] → IsHeaped m g 0 rest
+pub heaped_none : (m : Matrix) (g : Grid) (rest : List Coord) → g.resolution ≡ m.resolution
+    → AreExact g.resolution (word_at g) → ((c : Coord) → word_at g c ≡ 0) → rest ≡ [] → IsHeaped m g 0 rest
 heaped_none m g rest r x z e = record {
   resolution = r;
   exact = x;
@@ -235,8 +240,8 @@ pub heaped_at : (m : Matrix) (g : Grid) (p q : ℕ) (rest : List Coord) → p �
 heaped_at m g p q rest e h = subst (λ (n : ℕ). IsHeaped m g n rest) e h
 
 -- voids change nothing
-pub heaped_void : (m : Matrix) (g : Grid) (p q : ℕ) (rest : List Coord) → p ≤ q → ((j : ℕ) → p ≤ j → j < q → IsFalse (voxel_at m j)) → IsHeaped m g p rest →
-    IsHeaped m g q rest
+pub heaped_void : (m : Matrix) (g : Grid) (p q : ℕ) (rest : List Coord) → p ≤ q
+    → ((j : ℕ) → p ≤ j → j < q → IsFalse (voxel_at m j)) → IsHeaped m g p rest → IsHeaped m g q rest
 heaped_void m g p q rest l void h = record {
   resolution = h.resolution;
   exact = h.exact;
@@ -251,8 +256,8 @@ heaped_void m g p q rest l void h = record {
   few = omega (arith, h.few);
 }
 
-pub heaped_blank : (m : Matrix) (g : Grid) (p count bits : ℕ) (rest : List Coord) → AreBits m p count bits → count ≤ 8 → bits % 256 ≡ 0 →
-    IsHeaped m g p rest → IsHeaped m g (p + count) rest
+pub heaped_blank : (m : Matrix) (g : Grid) (p count bits : ℕ) (rest : List Coord) → AreBits m p count bits → count ≤ 8
+    → bits % 256 ≡ 0 → IsHeaped m g p rest → IsHeaped m g (p + count) rest
 heaped_blank m g p count bits rest b few z h = heaped_void m g p (p + count) rest (omega arith) void h
   where
     void : (j : ℕ) → p ≤ j → j < p + count → IsFalse (voxel_at m j)
@@ -260,8 +265,8 @@ heaped_blank m g p count bits rest b few z h = heaped_void m g p (p + count) res
         let on : p + (j - p) ≡ j = omega arith in
         sym (ap (voxel_at m) on) ∙ void_bit m p count bits (j - p) b (omega arith) (zero_bit bits (j - p) z (omega arith))
 
-pub heaped_bit : (m : Matrix) (g : Grid) (p k count bits : ℕ) (rest : List Coord) → AreBits m p count bits → k < count → bits / 2 ^ k % 2 ≡ 0 →
-    IsHeaped m g (p + k) rest → IsHeaped m g (p + (k + 1)) rest
+pub heaped_bit : (m : Matrix) (g : Grid) (p k count bits : ℕ) (rest : List Coord) → AreBits m p count bits → k < count
+    → bits / 2 ^ k % 2 ≡ 0 → IsHeaped m g (p + k) rest → IsHeaped m g (p + (k + 1)) rest
 heaped_bit m g p k count bits rest b l z h = heaped_void m g (p + k) (p + (k + 1)) rest (omega arith)
     (λ j i n. let on : p + k ≡ j = omega arith in sym (ap (voxel_at m) on) ∙ void_bit m p count bits k b l z) h
 

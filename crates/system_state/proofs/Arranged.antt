@@ -121,7 +121,9 @@ module _ (all : List Act) (up : Rising (map (λ (a : Act). a.bot) all)) (old : L
       }
 
 -- the turns of a step, arranged
-pub arranged_are : (old new : List Turn) (bids : List ℕ) → IsPermutation (map leader_of old) bids → map leader_of new ≡ bids → ((t : Turn) → In t new → In t old)
-    → (bots : List Bot) (commands : List Command) → AllPairs (λ a b. a.bid < b.bid) bots → length commands ≡ length bots → AreTurns (acts bots commands) (leaders (acts bots commands)) old → AreAllTurns (acts bots commands) new
+pub arranged_are : (old new : List Turn) (bids : List ℕ) → IsPermutation (map leader_of old) bids
+    → map leader_of new ≡ bids → ((t : Turn) → In t new → In t old) → (bots : List Bot) (commands : List Command)
+    → AllPairs (λ a b. a.bid < b.bid) bots → length commands ≡ length bots
+    → AreTurns (acts bots commands) (leaders (acts bots commands)) old → AreAllTurns (acts bots commands) new
 arranged_are old new bids perm leads known bots commands rising lengths are =
     arranged (acts bots commands) (subst (λ (bs : List Bot). Rising bs) (sym (all_bots bots commands lengths)) (rising_is bots rising)) old are bids perm new leads known

@@ -155,7 +155,8 @@ module _ (s : State) (all : List Act) (good : IsGood s all) (l : Act) (leads : I
       → y.pos ≡ x.pos → y ≡ l.bot
   comes c e x i y j k = apart x y (subst (λ (d : Command). In x (successors (members all l) l d)) (sym e) i) j (sym k)
 
-  in_space_of : (c : Command) → l.command ≡ c → list_all (in_space t.matrix.resolution) (named_points (position l) c) ≡ true
+  in_space_of : (c : Command) → l.command ≡ c
+      → list_all (in_space t.matrix.resolution) (named_points (position l) c) ≡ true
   in_space_of c e = sym (ap (λ (d : Command). list_all (in_space t.matrix.resolution) (named_points (position l) d)) e) ∙ stays t (members all l) keeps l itself_in
 
   is_active_partner : (b : Act) → members all l ≡ l ∷ b ∷ [] → IsSome (bot_of t.bots partner)
@@ -198,8 +199,11 @@ module _ (s : State) (all : List Act) (good : IsGood s all) (l : Act) (leads : I
 
   -- ---- the voxels
 
-  shared_any : (work : Point → Command → List Span) → ((p : Point) (c : Command) (q : Point) (e : Command) (x : Point) → share_region p c q e ≡ true → list_any (λ r. is_within r x) (work p c) ≡ true → list_any (λ r. is_within r x) (work q e) ≡ true) → is_group l.command ≡ true
-      → (x : Coord) → list_any (λ (a : Act). list_any (λ r. is_within r (point x)) (work (position a) a.command)) (members all l) ≡ list_any (λ (a : Act). list_any (λ r. is_within r (point x)) (work (position a) a.command)) (l ∷ [])
+  shared_any : (work : Point → Command → List Span) → ((p : Point) (c : Command) (q : Point) (e : Command) (x : Point)
+      → share_region p c q e ≡ true → list_any (λ r. is_within r x) (work p c) ≡ true
+      → list_any (λ r. is_within r x) (work q e) ≡ true) → is_group l.command ≡ true → (x : Coord)
+      → list_any (λ (a : Act). list_any (λ r. is_within r (point x)) (work (position a) a.command)) (members all l)
+      ≡ list_any (λ (a : Act). list_any (λ r. is_within r (point x)) (work (position a) a.command)) (l ∷ [])
   shared_any work share g x = same_truth (list_any (λ (a : Act). list_any (λ r. is_within r (point x)) (work (position a) a.command)) (members all l)) (list_any (λ (a : Act). list_any (λ r. is_within r (point x)) (work (position a) a.command)) (l ∷ []))
       (λ h. let witness = any_in (λ (a : Act). list_any (λ r. is_within r (point x)) (work (position a) a.command)) (members all l) h in by witness.0 witness.2 (shared s all good l leads g witness.0 witness.1))
       (λ h. in_any (λ (a : Act). list_any (λ r. is_within r (point x)) (work (position a) a.command)) l (members all l) itself_in (of_or _ h))
@@ -210,8 +214,10 @@ module _ (s : State) (all : List Act) (good : IsGood s all) (l : Act) (leads : I
       by a h (inl e) = ap (λ v. v || false) (sym (ap (λ (b : Act). list_any (λ r. is_within r (point x)) (work (position b) b.command)) e) ∙ h)
       by a h (inr e) = ap (λ v. v || false) (share (position a) a.command (position l) l.command (point x) (share_back (position l) l.command (position a) a.command e) h)
 
-  couple_any : (work : Point → Command → List Span) → ((p : Point) (c : Command) → is_fusion c ≡ true → work p c ≡ []) → (b : Act) → is_fusion b.command ≡ true → members all l ≡ l ∷ b ∷ []
-      → (x : Coord) → list_any (λ (a : Act). list_any (λ r. is_within r (point x)) (work (position a) a.command)) (members all l) ≡ list_any (λ (a : Act). list_any (λ r. is_within r (point x)) (work (position a) a.command)) (l ∷ [])
+  couple_any : (work : Point → Command → List Span) → ((p : Point) (c : Command) → is_fusion c ≡ true → work p c ≡ [])
+      → (b : Act) → is_fusion b.command ≡ true → members all l ≡ l ∷ b ∷ [] → (x : Coord)
+      → list_any (λ (a : Act). list_any (λ r. is_within r (point x)) (work (position a) a.command)) (members all l)
+      ≡ list_any (λ (a : Act). list_any (λ r. is_within r (point x)) (work (position a) a.command)) (l ∷ [])
   couple_any work none b h e x =
       ap (λ (xs : List Act). list_any (λ (a : Act). list_any (λ r. is_within r (point x)) (work (position a) a.command)) xs) e
       ∙ (λ i. list_any (λ r. is_within r (point x)) (work (position l) l.command) || (list_any (λ r. is_within r (point x)) (none (position b) b.command h i) || false))

@@ -129,7 +129,8 @@ pub fed_split : (decoder : DecoderState) (piece : List ℕ) (c : Command) (used 
 fed_split decoder piece c used s =
     ap (λ x. decoder.held ++ x) (sym (take-append-drop used piece)) ∙ (sym (append_assoc decoder.held (take used piece) (drop used piece)) ∙ ap (λ x. x ++ drop used piece) s.spelling_is)
 
-used_is : (decoder : DecoderState) (piece : List ℕ) (c : Command) (used : ℕ) → Completes decoder piece c used → length decoder.held + used ≡ length (spelling c)
+used_is : (decoder : DecoderState) (piece : List ℕ) (c : Command) (used : ℕ) → Completes decoder piece c used
+    → length decoder.held + used ≡ length (spelling c)
 used_is decoder piece c used s =
     let same_length : length (decoder.held ++ take used piece) ≡ length (spelling c) = ap length s.spelling_is in
     omega (arith, length-append decoder.held (take used piece), length-take-le used piece s.within)

@@ -44,14 +44,16 @@ module _ (old : Situation) (pending : List Command) (m : Mark) (v : Course) (see
     joined P h = subst (λ (xs : List Command). P (xs ++ command ∷ [])) (sym none) h
 
     -- it makes a step, so that what is said of a command that makes none is said of nothing
-    touches : (q : Progress) (began ended : ℕ) → IsWithinWork old.state (command ∷ []) (old.steps + 1) (began + searched_by q.mark old.state.matrix) ended
+    touches : (q : Progress) (began ended : ℕ)
+        → IsWithinWork old.state (command ∷ []) (old.steps + 1) (began + searched_by q.mark old.state.matrix) ended
         → Touches v.progress q command began ended
     touches q began ended w = subst (λ (c : Course). Touches c.progress q command began ended) seen (record {
       untouched = λ no. absurd (no (ap mark_by runs) full);
       paid = joined (λ xs. IsWithinWork old.state xs (old.steps + 1) (began + searched_by q.mark old.state.matrix) ended) w;
     })
 
-    pub pushed_made : (new : Situation) (fault : StepFault) (began ended : ℕ) → Stepped old new (command ∷ []) (answer_of true new.state fault) began ended
+    pub pushed_made : (new : Situation) (fault : StepFault) (began ended : ℕ)
+        → Stepped old new (command ∷ []) (answer_of true new.state fault) began ended
         → HasPushed v command (course_of new pending m) began ended
     pushed_made new fault began ended s =
         let runs_on : mark_by m ≡ progress.Running = ap mark_by runs in
@@ -67,8 +69,9 @@ module _ (old : Situation) (pending : List Command) (m : Mark) (v : Course) (see
               (let its_touches = s.touches in (its_touches.0, its_touches.1, omega (arith, its_touches.2))));
         }
 
-    pub pushed_broken : (new : Situation) (after : List Command) (b : Broken) (began ended : ℕ) → after ≡ pending ++ command ∷ []
-        → Stepped old new (command ∷ []) (Err (fault.Broken b)) began ended → HasPushed v command (course_of new after (mark.Refused b)) began ended
+    pub pushed_broken : (new : Situation) (after : List Command) (b : Broken) (began ended : ℕ)
+        → after ≡ pending ++ command ∷ [] → Stepped old new (command ∷ []) (Err (fault.Broken b)) began ended
+        → HasPushed v command (course_of new after (mark.Refused b)) began ended
     pushed_broken new after b began ended kept s = record {
       progress = made old pending m v seen runs command (Breaks b) (course_of new after (mark.Refused b)).progress full
           (joined (λ xs. Next old.state xs (old.steps + 1) (Breaks b)) s.breaks.1)

@@ -44,8 +44,10 @@ running_mark [] halted h e = let f = h.1 refl in cc
 running_mark (b ∷ bots) halted h e = refl
 
 -- the answer of the step of a machine that stands where it stood, by the commands that waited and one more
-pub step_answered : (old now new : Situation) (before pending all : List Command) (command : Command) (answer : Result StepOk StepFault) (ok : StepOk) (halted : Bool) (began start ended : ℕ)
-    → now ≡ old → pending ≡ before → all ≡ pending ++ command ∷ [] → start ≡ began → answer ≡ Ok ok → ok.halted ≡ halted → Stepped now new all answer start ended
+pub step_answered : (old now new : Situation) (before pending all : List Command) (command : Command)
+    (answer : Result StepOk StepFault) (ok : StepOk) (halted : Bool) (began start ended : ℕ) → now ≡ old
+    → pending ≡ before → all ≡ pending ++ command ∷ [] → start ≡ began → answer ≡ Ok ok → ok.halted ≡ halted
+    → Stepped now new all answer start ended
     → Stepped old new (before ++ command ∷ []) (Ok (record { energy = new.state.energy; halted = halted })) began ended
 step_answered old now new before pending all command answer ok halted began start ended m p l s a h stepped =
     let here : Stepped old new (before ++ command ∷ []) (Ok ok) began ended =
@@ -56,8 +58,9 @@ step_answered old now new before pending all command answer ok halted began star
     subst (λ (r : Result StepOk StepFault). Stepped old new (before ++ command ∷ []) r began ended) (λ i. Ok (record { energy = here.energy i; halted = h i })) here
 
 -- the same of any answer
-pub step_moved : (old now new : Situation) (before pending all : List Command) (command : Command) (result answer : Result StepOk StepFault) (began start ended : ℕ)
-    → now ≡ old → pending ≡ before → all ≡ pending ++ command ∷ [] → start ≡ began → result ≡ answer → Stepped now new all result start ended
+pub step_moved : (old now new : Situation) (before pending all : List Command) (command : Command)
+    (result answer : Result StepOk StepFault) (began start ended : ℕ) → now ≡ old → pending ≡ before
+    → all ≡ pending ++ command ∷ [] → start ≡ began → result ≡ answer → Stepped now new all result start ended
     → Stepped old new (before ++ command ∷ []) answer began ended
 step_moved old now new before pending all command result answer began start ended m p l s a stepped =
     subst (λ (w : Situation). Stepped w new (before ++ command ∷ []) answer began ended) m

@@ -33,7 +33,8 @@ nowhere test f (suc n) a none = ap (λ b. cond b (Some (f a)) (find test (map f 
 lead : (a b m u v : ℕ) → v < m → a * m + u < b * m + v → a ≤ b
 lead a b m u v k lt = let digits_lt_here : b < a → b * m + v < a * m = λ h. digits_lt h k in grind arith
 
-in_order : (d c : Coord) → d.x ≤ c.x → (d.x ≡ c.x → d.y ≤ c.y) → (d.x ≡ c.x → d.y ≡ c.y → d.z < c.z) → IsTrue (is_before d c)
+in_order : (d c : Coord) → d.x ≤ c.x → (d.x ≡ c.x → d.y ≤ c.y) → (d.x ≡ c.x → d.y ≡ c.y → d.z < c.z)
+    → IsTrue (is_before d c)
 in_order d c x y z = grind (arith, nat_tests)
 
 pub before : (r : ℕ) (d c : Coord) → IsInSpace r d → IsInSpace r c → place r d < place r c → IsTrue (is_before d c)

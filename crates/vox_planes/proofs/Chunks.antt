@@ -33,7 +33,8 @@ raised_bit n s j l = ap (λ v. bit_at v j) (let product_is : n * 2 ^ s ≡ n * 2
 pub chunk_bit : (w s count k : ℕ) → k < count → bit ((w / 2 ^ s) % 2 ^ count) k ≡ bit w (s + k)
 chunk_bit w s count k l = ap (λ d. d == 1) (low_bit (w / 2 ^ s) count k l ∙ shifted_bit w s k)
 
-in_one_word : (ws : List ℕ) (index count k : ℕ) → k < count → index % 64 + count ≤ 64 → is_set ws (index + k) ≡ bit (get_or ws (index / 64) 0) (index % 64 + k)
+in_one_word : (ws : List ℕ) (index count k : ℕ) → k < count → index % 64 + count ≤ 64
+    → is_set ws (index + k) ≡ bit (get_or ws (index / 64) 0) (index % 64 + k)
 unfolding is_set
 in_one_word ws index count k l h =
     let same_quotient : (index + k) / 64 ≡ index / 64 = omega arith in

@@ -42,7 +42,8 @@ bits_differ w u k e f = other_value (bit_at w k) (bit_at u k) (sym (bit_at_xor w
 pub record AreAlike (ws us : List ℕ) (first n : ℕ) : Type 0 where
   pub same : (j : ℕ) → j < n → is_set ws (first * 64 + j) ≡ is_set us (first * 64 + j)
 
-in_word : (ws : List ℕ) (first i k : ℕ) → k < 64 → is_set ws (first * 64 + (64 * i + k)) ≡ bit (get_or ws (first + i) 0) k
+in_word : (ws : List ℕ) (first i k : ℕ) → k < 64
+    → is_set ws (first * 64 + (64 * i + k)) ≡ bit (get_or ws (first + i) 0) k
 unfolding is_set
 in_word ws first i k l =
     let same_first : (first * 64 + (64 * i + k)) / 64 ≡ first + i = omega arith in
@@ -106,7 +107,8 @@ differ-other false true n = refl
 differ-other false false n = absurd (n refl)
 
 differ-bits : (r : ℕ) (ws us : List ℕ) (c : Coord) → IsInSpace r c → differ_at (layered r ws) (layered r us) c
-    ≡ ((is_set ws (bit_index r c) && not (is_set us (bit_index r c))) || (is_set us (bit_index r c) && not (is_set ws (bit_index r c))))
+    ≡ ((is_set ws (bit_index r c) && not (is_set us (bit_index r c)))
+    || (is_set us (bit_index r c) && not (is_set ws (bit_index r c))))
 differ-bits r ws us c h = λ i. (is_full-layered r ws c h i && not (is_full-layered r us c h i)) || (is_full-layered r us c h i && not (is_full-layered r ws c h i))
 
 layer-of : (a : Bool) (b y : ℕ) → IsTrue (a && (b == y)) → (a ≡ true) × (b ≡ y)

@@ -53,7 +53,8 @@ pub end_kept : (words : List ℕ) (end at : ℕ) → AreZeroFrom words end → a
 end_kept words end at h l = record { few = omega (arith, h.few); below = λ i k t. omega (arith, h.below i k t) }
 
 -- where only bits of a part of a row were changed, up to the word `at`, and some may be 1 now
-pub zero_beside : (old new : List ℕ) (index count end at : ℕ) (some : Bool) → AreZeroFrom old end → length new ≡ length old → at < length new → index + count ≤ (at + 1) * 64
+pub zero_beside : (old new : List ℕ) (index count end at : ℕ) (some : Bool) → AreZeroFrom old end
+    → length new ≡ length old → at < length new → index + count ≤ (at + 1) * 64
     → ((j : ℕ) → IsFalse (is_from index count j) → is_set new j ≡ is_set old j)
     → ((k : ℕ) → k < count → is_set new (index + k) ≡ true → some ≡ true) → AreZeroFrom new (end_with end at some)
 zero_beside old new index count end at some h same l most others here = by some refl

@@ -126,8 +126,8 @@ voxel r y at = record { x = at / r; y = y; z = at % r }
 
 module _ (r : ℕ) (ws : List ℕ) (h : IsLayered r ws) (heap : IsHeap (layered r ws)) where
   -- a bit above the floor that is 1 has a bit under it that is 1
-  held_in_heap : (y at j : ℕ) → 0 < y → y < r → at < layer_words r * 64 → y * layer_words r * 64 + at ≡ j → is_set ws j ≡ true →
-      is_set ws (j - layer_words r * 64) ≡ true
+  held_in_heap : (y at j : ℕ) → 0 < y → y < r → at < layer_words r * 64 → y * layer_words r * 64 + at ≡ j
+      → is_set ws j ≡ true → is_set ws (j - layer_words r * 64) ≡ true
   held_in_heap y at j low high end is_j one = by (heap (voxel r y at) (is_full-layered r ws (voxel r y at) within ∙ (ap (is_set ws) place ∙ one)))
     where
       used : at < r * r

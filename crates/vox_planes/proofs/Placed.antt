@@ -137,8 +137,9 @@ pub record ArePut (old new : Matrix) (from count : ℕ) (test : ℕ → Bool) : 
 pub put_none : (m : Matrix) (from : ℕ) (test : ℕ → Bool) → ArePut m m from 0 test
 put_none m from test = record { voxels = λ p. sym (ap (λ s. cond s (test p) (voxel_at m p)) (from_none from p)) }
 
-pub put_parts : (old mid new : Matrix) (from done count : ℕ) (test part : ℕ → Bool) → ArePut old mid from done test → ((p : ℕ) → voxel_at new p ≡ cond (is_from (from + done) count p) (part p) (voxel_at mid p)) →
-    ((p : ℕ) → from + done ≤ p → p < from + done + count → part p ≡ test p) → ArePut old new from (done + count) test
+pub put_parts : (old mid new : Matrix) (from done count : ℕ) (test part : ℕ → Bool) → ArePut old mid from done test
+    → ((p : ℕ) → voxel_at new p ≡ cond (is_from (from + done) count p) (part p) (voxel_at mid p))
+    → ((p : ℕ) → from + done ≤ p → p < from + done + count → part p ≡ test p) → ArePut old new from (done + count) test
 put_parts old mid new from done count test part h set same = record { voxels = λ p. set p ∙ by p (cases_lt p (from + done)) (cases_lt p (from + done + count)) }
   where
     earlier : (p : ℕ) → p < from + done → is_from from done p ≡ is_from from (done + count) p
@@ -216,8 +217,10 @@ joined_fits w v k n lw lv h =
     omega arith
 
 -- the bits that were read of one word of a row are those of the voxels
-pub read_voxels : (r : ℕ) (ws ws' : List ℕ) (m : Matrix) (from done n v index : ℕ) (c : Coord) → layered r ws ≡ m → ws' ≡ ws → c ≡ coordinate_at r (from + done) → index ≡ bit_index r c → from + done + n ≤ volume r → (coordinate_at r (from + done)).z + n ≤ r →
-    ((j : ℕ) → j < n → bit v j ≡ is_set ws' (index + j)) → (j : ℕ) → j < n → bit v j ≡ voxel_at m (from + (done + j))
+pub read_voxels : (r : ℕ) (ws ws' : List ℕ) (m : Matrix) (from done n v index : ℕ) (c : Coord) → layered r ws ≡ m
+    → ws' ≡ ws → c ≡ coordinate_at r (from + done) → index ≡ bit_index r c → from + done + n ≤ volume r
+    → (coordinate_at r (from + done)).z + n ≤ r → ((j : ℕ) → j < n → bit v j ≡ is_set ws' (index + j)) → (j : ℕ) → j < n
+    → bit v j ≡ voxel_at m (from + (done + j))
 read_voxels r ws ws' m from done n v index c em ew ec ei within row read j l =
     let on : from + done + j ≡ from + (done + j) = omega arith in
     read j l

@@ -29,8 +29,9 @@ going_low full left layer i h k l =
     ap (λ d. d == 1) (bit_at_ones 64 k l)
     ∙ sym (ap (λ b. b || (is_set full (i * 64 + k - layer * 64) && not (is_set left (i * 64 + k - layer * 64)))) (test_less (i * 64 + k) (layer * 64) (omega arith)))
 
-pub going_high : (full left : List ℕ) (layer i u v : ℕ) → layer ≤ i → u ≡ get_or full (i - layer) 0 → v ≡ get_or left (i - layer) 0 → v < 2 ^ 64 →
-    (k : ℕ) → k < 64 → bit (bit_and u (bit_not w64 v)) k ≡ goes full left layer (i * 64 + k)
+pub going_high : (full left : List ℕ) (layer i u v : ℕ) → layer ≤ i → u ≡ get_or full (i - layer) 0
+    → v ≡ get_or left (i - layer) 0 → v < 2 ^ 64 → (k : ℕ) → k < 64
+    → bit (bit_and u (bit_not w64 v)) k ≡ goes full left layer (i * 64 + k)
 going_high full left layer i u v h eu ev fits k l =
     let under : (i - layer) * 64 + k ≡ i * 64 + k - layer * 64 = omega arith in
     let one : bit u k ≡ is_set full (i * 64 + k - layer * 64) = ap (λ w. bit w k) eu ∙ (sym (word_bit full (i - layer) k l) ∙ ap (is_set full) under) in
@@ -71,8 +72,9 @@ goes_same full a b layer j h = by (cases_lt j (layer * 64))
         ∙ sym (ap (λ t. t || (is_set full (j - layer * 64) && not (is_set a (j - layer * 64)))) (test_less j (layer * 64) l))
     by (inr l) = ap (λ t. nat_lt j (layer * 64) || (is_set full (j - layer * 64) && not t)) (h l)
 
-pub dropped_more : (old now full : List ℕ) (layer i v : ℕ) → 1 ≤ layer → i < length now →
-    ((k : ℕ) → k < 64 → bit v k ≡ (bit (get_or now i 0) k && not (goes full now layer (i * 64 + k)))) → AreDropped old now full layer i → AreDropped old (set now i v) full layer (i + 1)
+pub dropped_more : (old now full : List ℕ) (layer i v : ℕ) → 1 ≤ layer → i < length now
+    → ((k : ℕ) → k < 64 → bit v k ≡ (bit (get_or now i 0) k && not (goes full now layer (i * 64 + k))))
+    → AreDropped old now full layer i → AreDropped old (set now i v) full layer (i + 1)
 dropped_more old now full layer i v some within bits h = record {
   done = λ j l. by j l (cases_lt j (i * 64));
   rest = λ j l. set_other now i v j (λ e. omega arith) ∙ h.rest j (omega arith);

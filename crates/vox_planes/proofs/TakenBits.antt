@@ -48,8 +48,10 @@ pub part_was : (old : List ℕ) (index count bits present : ℕ)
     → bit (bit_and present bits) k ≡ (bit bits k && is_set old (index + k))
 part_was old index count bits present h k l = and_bit present bits k ∙ (turned (bit present k) (bit bits k) ∙ ap (λ b. bit bits k && b) (h k l))
 
-pub part_left : (old new : List ℕ) (index count bits present : ℕ) → ArePutBits old new index count (bit_and present (bit_not w64 bits)) → ((k : ℕ) → k < count → bit present k ≡ is_set old (index + k)) → count ≤ 64 → bits < 2 ^ 64 →
-    (j : ℕ) → is_set new j ≡ (is_set old j && not (is_from index count j && bit bits (j - index)))
+pub part_left : (old new : List ℕ) (index count bits present : ℕ)
+    → ArePutBits old new index count (bit_and present (bit_not w64 bits))
+    → ((k : ℕ) → k < count → bit present k ≡ is_set old (index + k)) → count ≤ 64 → bits < 2 ^ 64 → (j : ℕ)
+    → is_set new j ≡ (is_set old j && not (is_from index count j && bit bits (j - index)))
 part_left old new index count bits present put h few fits j = by (cases_lt j index) (cases_lt j (index + count))
   where
     other : is_from index count j ≡ false
@@ -82,9 +84,11 @@ taken_none words index bits = record {
 }
 
 -- one part more of the marked bits was read
-pub peeked_more : (words : List ℕ) (index done count bits part taken both : ℕ) → HasBits taken done (λ k. bit bits k && is_set words (index + k)) → done + count ≤ 64 →
-    ((k : ℕ) → k < count → bit part k ≡ (bit (bits / 2 ^ done) k && is_set words (index + done + k))) → part < 2 ^ count →
-    both ≡ taken + part * 2 ^ done % 2 ^ 64 → HasBits both (done + count) (λ k. bit bits k && is_set words (index + k))
+pub peeked_more : (words : List ℕ) (index done count bits part taken both : ℕ)
+    → HasBits taken done (λ k. bit bits k && is_set words (index + k)) → done + count ≤ 64
+    → ((k : ℕ) → k < count → bit part k ≡ (bit (bits / 2 ^ done) k && is_set words (index + done + k)))
+    → part < 2 ^ count → both ≡ taken + part * 2 ^ done % 2 ^ 64
+    → HasBits both (done + count) (λ k. bit bits k && is_set words (index + k))
 peeked_more words index done count bits part taken both h few full below e =
     bits_joined taken part both done count (λ k. bit bits k && is_set words (index + k)) h below (λ k l. full k l ∙ (λ i. again k i && ap (is_set words) (there k) i)) few e
   where
@@ -94,10 +98,12 @@ peeked_more words index done count bits part taken both h few full below e =
     there : (k : ℕ) → index + done + k ≡ index + (done + k)
     there k = omega arith
 
-pub taken_more : (old mid new : List ℕ) (index done count bits part taken both : ℕ) → AreTaken old mid index done bits taken → done + count ≤ 64 →
-    ((k : ℕ) → k < count → bit part k ≡ (bit (bits / 2 ^ done) k && is_set mid (index + done + k))) → part < 2 ^ count →
-    ((j : ℕ) → is_set new j ≡ (is_set mid j && not (is_from (index + done) count j && bit (bits / 2 ^ done) (j - (index + done))))) →
-    both ≡ taken + part * 2 ^ done % 2 ^ 64 → AreTaken old new index (done + count) bits both
+pub taken_more : (old mid new : List ℕ) (index done count bits part taken both : ℕ)
+    → AreTaken old mid index done bits taken → done + count ≤ 64
+    → ((k : ℕ) → k < count → bit part k ≡ (bit (bits / 2 ^ done) k && is_set mid (index + done + k))) → part < 2 ^ count
+    → ((j : ℕ) → is_set new j
+    ≡ (is_set mid j && not (is_from (index + done) count j && bit (bits / 2 ^ done) (j - (index + done)))))
+    → both ≡ taken + part * 2 ^ done % 2 ^ 64 → AreTaken old new index (done + count) bits both
 taken_more old mid new index done count bits part taken both h few was below left e = record {
   was = bits_joined taken part both done count (λ k. bit bits k && is_set old (index + k)) h.was below (λ k l. was k l ∙ (λ i. again k i && here k i)) few e;
   left = λ j. left j ∙ by j (cases_lt j (index + done)) (cases_lt j (index + done + count));
@@ -115,8 +121,9 @@ taken_more old mid new index done count bits part taken both h few was below lef
     earlier : (j : ℕ) → j < index + done → is_from index done j ≡ is_from index (done + count) j
     earlier j l = grind (arith, nat_tests)
 
-    by : (j : ℕ) → ((j < index + done) ⊎ (index + done ≤ j)) → ((j < index + done + count) ⊎ (index + done + count ≤ j)) →
-        (is_set mid j && not (is_from (index + done) count j && bit (bits / 2 ^ done) (j - (index + done)))) ≡ (is_set old j && not (is_from index (done + count) j && bit bits (j - index)))
+    by : (j : ℕ) → ((j < index + done) ⊎ (index + done ≤ j)) → ((j < index + done + count) ⊎ (index + done + count ≤ j))
+        → (is_set mid j && not (is_from (index + done) count j && bit (bits / 2 ^ done) (j - (index + done))))
+        ≡ (is_set old j && not (is_from index (done + count) j && bit bits (j - index)))
     by j (inl l) m =
         ap (λ b. is_set mid j && not (b && bit (bits / 2 ^ done) (j - (index + done)))) (before_these (index + done) count j l)
         ∙ (kept (is_set mid j) (bit (bits / 2 ^ done) (j - (index + done)))
@@ -198,9 +205,9 @@ module _ (r : ℕ) (old new : List ℕ) (first : Coord) (count bits taken : ℕ)
   }
 
 -- the marked bits that were read of a row are its full voxels
-pub row_peeked : (r : ℕ) (ws : List ℕ) (first : Coord) (count bits found : ℕ) → IsInSpace r first → first.z + count ≤ r →
-    ((k : ℕ) → k < count → bit found k ≡ (bit bits k && is_set ws (bit_index r first + k))) →
-    (k : ℕ) → k < count → bit found k ≡ (bit bits k && is_full (layered r ws) (at first (first.z + k)))
+pub row_peeked : (r : ℕ) (ws : List ℕ) (first : Coord) (count bits found : ℕ) → IsInSpace r first → first.z + count ≤ r
+    → ((k : ℕ) → k < count → bit found k ≡ (bit bits k && is_set ws (bit_index r first + k))) → (k : ℕ) → k < count
+    → bit found k ≡ (bit bits k && is_full (layered r ws) (at first (first.z + k)))
 row_peeked r ws first count bits found within row h k l =
     let on : bit_index r (at first (first.z + k)) ≡ bit_index r first + k = omega arith in
     let here : IsInSpace r (at first (first.z + k)) = record { x = within.x; y = within.y; z = omega arith } in

@@ -18,8 +18,10 @@ loop-k-preserved g c =
     looks_then c.args.planes.now (λ d. (d.x ≡ c.args.x) × (d.y ≡ c.args.y) × (d.z < 64 * c.loop-k.k)) (IsNextTo (record { x = c.args.x; y = c.args.y; z = 64 * c.loop-k.k }))
     (λ d. (d.x ≡ c.args.x) × (d.y ≡ c.args.y) × (d.z < 64 * (c.loop-k.k + 1))) c.args.self.now c.loop-k.self c.take_beside.new.self joined c.loop-k.invariant c.in_ok-take_beside.ensures
   where
-    joined : (d : Coord) → IsInSpace c.args.planes.now.resolution d → (d.x ≡ c.args.x) × (d.y ≡ c.args.y) × (d.z < 64 * (c.loop-k.k + 1)) →
-        ((d.x ≡ c.args.x) × (d.y ≡ c.args.y) × (d.z < 64 * c.loop-k.k)) ⊎ IsNextTo (record { x = c.args.x; y = c.args.y; z = 64 * c.loop-k.k }) d
+    joined : (d : Coord) → IsInSpace c.args.planes.now.resolution d
+        → (d.x ≡ c.args.x) × (d.y ≡ c.args.y) × (d.z < 64 * (c.loop-k.k + 1))
+        → ((d.x ≡ c.args.x) × (d.y ≡ c.args.y) × (d.z < 64 * c.loop-k.k))
+        ⊎ IsNextTo (record { x = c.args.x; y = c.args.y; z = 64 * c.loop-k.k }) d
     joined d i h = elim (cases_lt d.z (64 * c.loop-k.k)) [ inl l ↦ inl (h.0, h.1, l) | inr l ↦ inr (record { x = h.0; y = h.1; from = l; to = omega (arith, h.2) }) ]
 
 pub returns : goal.returns

@@ -31,16 +31,17 @@ copy g c = c.self.view_is ∙ (c.requires ∙ (sym c.full.view_is ∙ ap (λ n. 
 items_are : (g : Over) (c : goal.After-self-1 g) → left g c ≡ c.drop_stacked.new.left
 items_are g c = with_items_is c.self.inside.words c.drop_stacked.new.left (c.drop_stacked.auto.left ∙ c.deref_mut.ensures.len)
 
-dropped : (g : Over) (c : goal.After-self-1 g) → (j : ℕ) → j < length c.full.inside.words.items * 64 →
-    is_set (left g c) j ≡ (is_set c.self.inside.words.items j && not (goes c.full.inside.words.items (left g c) (layer_words c.self.inside.resolution) j))
+dropped : (g : Over) (c : goal.After-self-1 g) → (j : ℕ) → j < length c.full.inside.words.items * 64
+    → is_set (left g c) j ≡ (is_set c.self.inside.words.items j
+    && not (goes c.full.inside.words.items (left g c) (layer_words c.self.inside.resolution) j))
 dropped g c = λ j l. by j l
   where
     -- what the call says, read from the words as they were to those that are kept
     layer_is : c.self.inside.layer ≡ layer_words c.self.inside.resolution
     layer_is = c.self.invariant.1
 
-    by : (j : ℕ) → j < length c.full.inside.words.items * 64 →
-        is_set (left g c) j ≡ (is_set c.self.inside.words.items j && not (goes c.full.inside.words.items (left g c) (layer_words c.self.inside.resolution) j))
+    by : (j : ℕ) → j < length c.full.inside.words.items * 64 → is_set (left g c) j ≡ (is_set c.self.inside.words.items j
+        && not (goes c.full.inside.words.items (left g c) (layer_words c.self.inside.resolution) j))
     by j l =
         ap (λ ws. is_set ws j) (items_are g c)
         ∙ (c.drop_stacked.ensures.left j (omega (arith, l, ap length c.deref.ensures.value))
