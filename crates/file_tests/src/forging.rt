@@ -1,6 +1,6 @@
 //! Models of `model_forge` that are worked by hand. That a model is the definition's is proved; that a call succeeds where
 //! memory is there is shown here.
-ghost use Rattle.std.specs.Prelude.{◌≡◌, ◌<◌};
+ghost use Rattle.vox_geom.specs.Counting.{IsBlankOf};
 
 use crate::voxels::at;
 use model_forge::forge;
@@ -24,9 +24,7 @@ fn assert_full<L: Ledger>(rt: &impl Abort, planes: &Planes, want: &[Coord], step
 
 /// The models of small resolutions.
 fn worked<L: Ledger>(rt: &impl Abort, blank: Blank, alloc: Global) -> Result<(), Memory>
-    requires name { blank.name ≡ L.name }
-    requires parts { blank.parts ≡ L.parts }
-    requires some { 0 < L.parts }
+    requires blank { IsBlankOf blank L.name L.parts }
 {
     let mut steps: Steps<L> = Steps::new(blank);
     let two = forge(alloc, 0, 3)?;

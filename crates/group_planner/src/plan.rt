@@ -3,6 +3,7 @@ ghost use Rattle.std.specs.Prelude.{◌≡◌, ◌*◌, ◌≤◌, [], ◌∷◌
 ghost use Rattle.nano_spec.specs.Legal.{IsLegal};
 ghost use Rattle.nano_spec.specs.Profile.{full_profile};
 ghost use Rattle.nano_spec.specs.Spelling.{spellings};
+ghost use Rattle.plan_tape.specs.Models.{AreLegalModels};
 ghost use Rattle.plan_tape.specs.Progress.{IsAccepted};
 ghost use Rattle.plan_tape.specs.Lowest.{IsLowest};
 ghost use Rattle.plan_tape.specs.Reaches.{HasAtMost};
@@ -39,9 +40,7 @@ fn rebuild(tape: &mut Tape, source: &Planes, target: &Planes, low: u16) -> Resul
 /// and rows of both together it has at most 8 * runs + 160 * rows + 200 * r + 400 steps at resolution r, twice as many commands, and
 /// 36 * runs + 640 * rows + 800 * r + 1600 bytes. Where both models are the same, the commands are a Halt alone.
 pub fn plan_groups(alloc: Global, source: &Planes, target: &Planes) -> Result<Plan, Memory>
-    requires source { IsLegal source.now }
-    requires target { IsLegal target.now }
-    requires same { source.now.resolution ≡ target.now.resolution }
+    requires { AreLegalModels source.now target.now }
     ensures accepted { IfOk result
         (λ plan. IsAccepted source.now target.now plan.commands full_profile plan.energy plan.steps) }
     ensures steps { IfOk result (λ plan. plan.steps ≤ most_group_steps source.now target.now) }

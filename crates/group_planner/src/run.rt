@@ -1,5 +1,6 @@
 //! The runs of a row, from one z on.
 ghost use Rattle.std.specs.Prelude.{◌≡◌, ◌<◌, ◌≤◌, find, IfNone, IfSome};
+ghost use Rattle.vox_geom.specs.Counting.{IsBlankOf};
 ghost use Rattle.vox_geom.specs.Space.{IsInSpace};
 ghost use Rattle.vox_planes.specs.Voxel.{is_state};
 ghost use Rattle.vox_planes.specs.Walk.{row};
@@ -31,9 +32,7 @@ fn next_in<L: Ledger>(
     requires within { IsInSpace planes.now.resolution first }
     requires order { first.z ≤ last }
     requires end { last < planes.now.resolution }
-    requires name { blank.name ≡ L.name }
-    requires parts { blank.parts ≡ L.parts }
-    requires some { 0 < L.parts }
+    requires blank { IsBlankOf blank L.name L.parts }
     ensures { result ≡ find (is_state planes.now full) (row first last) }
 {
     let mut steps: Steps<L> = Steps::new(blank);

@@ -1,5 +1,6 @@
 //! A list of commands, and the definitions' verdict of it.
-ghost use Rattle.std.specs.Prelude.{◌≡◌, ◌<◌, ◌≤◌, IfOk, length, true};
+ghost use Rattle.std.specs.Prelude.{◌≤◌, IfOk, length, true};
+ghost use Rattle.vox_geom.specs.Counting.{IsBlankOf};
 ghost use Rattle.vox_geom.specs.Space.{IsInSpace};
 ghost use Rattle.nano_spec.specs.Matrix.{empty};
 ghost use Rattle.nano_spec.specs.Profile.{full_profile};
@@ -27,9 +28,7 @@ fn judge_in<L: Ledger>(
     requires most { r ≤ MOST_R }
     requires within { IsInSpace r full }
     requires few { length commands.now ≤ 1073741824 }
-    requires name { blank.name ≡ L.name }
-    requires parts { blank.parts ≡ L.parts }
-    requires at_least { 0 < L.parts }
+    requires blank { IsBlankOf blank L.name L.parts }
     ensures { IfOk result (λ v. VerdictOf (empty r) (with_voxel (empty r) full true) commands.now full_profile v) }
 {
     let mut steps: Steps<L> = Steps::new(blank);

@@ -1,5 +1,6 @@
 //! How many voxels of two matrices differ, by a counter of touches that nobody reads.
-ghost use Rattle.std.specs.Prelude.{◌≡◌, ◌+◌, ◌<◌, ◌≤◌};
+ghost use Rattle.std.specs.Prelude.{◌≡◌, ◌≤◌};
+ghost use Rattle.vox_geom.specs.Counting.{IsBlankOf};
 ghost use Rattle.nano_spec.specs.Model.{volume as volume_of};
 ghost use Rattle.kept_machine.specs.Calls.{difference_count};
 
@@ -20,9 +21,7 @@ fn volume(matrix: &Planes) -> u32
 /// At how many coordinates two matrices differ: up to 64 voxels are looked at together.
 pub(crate) fn count_differences<L: Ledger>(matrix: &Planes, target: &Planes, blank: Blank) -> u32
     requires same { matrix.now.resolution ≡ target.now.resolution }
-    requires name { blank.name ≡ L.name }
-    requires parts { blank.parts ≡ L.parts }
-    requires some { 0 < L.parts }
+    requires blank { IsBlankOf blank L.name L.parts }
     ensures { result ≡ difference_count matrix.now target.now }
 {
     let mut steps = Steps::<L>::new(blank);

@@ -1,8 +1,9 @@
 //! What a machine tells of its matrix, by a counter of touches that nobody reads.
-ghost use Rattle.std.specs.Prelude.{◌≡◌, ◌<◌, count_by, MatchBool};
+ghost use Rattle.std.specs.Prelude.{◌≡◌, count_by, MatchBool};
 ghost use Rattle.nano_spec.specs.Matrix.{all_of, is_full};
 ghost use Rattle.nano_spec.specs.State.{IsWellFormed};
 ghost use Rattle.nano_spec.specs.Verdict.{first_difference};
+ghost use Rattle.vox_geom.specs.Counting.{IsBlankOf};
 ghost use Rattle.vox_geom.specs.Space.{IsInSpace};
 ghost use Rattle.kept_machine.specs.Calls.{TellsLevel};
 
@@ -23,9 +24,7 @@ fn is_in_space(c: Coord, r: u16) -> bool
 
 /// Whether the voxel at a coordinate is full.
 pub(crate) fn is_full_at<L: Ledger>(matrix: &Planes, c: Coord, blank: Blank) -> bool
-    requires name { blank.name ≡ L.name }
-    requires parts { blank.parts ≡ L.parts }
-    requires some { 0 < L.parts }
+    requires blank { IsBlankOf blank L.name L.parts }
     ensures { result ≡ is_full matrix.now c }
 {
     if !is_in_space(c, matrix.resolution()) {
@@ -37,9 +36,7 @@ pub(crate) fn is_full_at<L: Ledger>(matrix: &Planes, c: Coord, blank: Blank) -> 
 
 /// How many voxels are full.
 pub(crate) fn count_full<L: Ledger>(matrix: &Planes, blank: Blank) -> u32
-    requires name { blank.name ≡ L.name }
-    requires parts { blank.parts ≡ L.parts }
-    requires some { 0 < L.parts }
+    requires blank { IsBlankOf blank L.name L.parts }
     ensures { result ≡ count_by (is_full matrix.now) (all_of matrix.now) }
 {
     let mut steps = Steps::<L>::new(blank);
@@ -53,9 +50,7 @@ pub(crate) fn least_difference<L: Ledger>(
     blank: Blank,
 ) -> Option<Coord>
     requires same { matrix.now.resolution ≡ target.now.resolution }
-    requires name { blank.name ≡ L.name }
-    requires parts { blank.parts ≡ L.parts }
-    requires some { 0 < L.parts }
+    requires blank { IsBlankOf blank L.name L.parts }
     ensures { result ≡ first_difference matrix.now target.now }
 {
     let mut steps = Steps::<L>::new(blank);
@@ -70,9 +65,7 @@ pub(crate) fn find_level<L: Ledger>(
     blank: Blank,
 ) -> Result<Option<u32>, NoLevel>
     requires well_formed { IsWellFormed machine.old.state }
-    requires name { blank.name ≡ L.name }
-    requires parts { blank.parts ≡ L.parts }
-    requires some { 0 < L.parts }
+    requires blank { IsBlankOf blank L.name L.parts }
     ensures state { machine.new.state ≡ machine.old.state }
     ensures steps { machine.new.steps ≡ machine.old.steps }
     ensures told { TellsLevel machine.old.state.matrix c result }

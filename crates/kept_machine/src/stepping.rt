@@ -1,5 +1,6 @@
 //! Machines that are started, that make steps, and that take steps back, by a counter of touches that nobody reads.
-ghost use Rattle.std.specs.Prelude.{◌≡◌, ◌<◌, ◌≤◌, [], List, Option, false, length, IfOk, IfErr, Err};
+ghost use Rattle.std.specs.Prelude.{◌≡◌, ◌≤◌, [], List, Option, false, length, IfOk, IfErr, Err};
+ghost use Rattle.vox_geom.specs.Counting.{IsBlankOf};
 ghost use Rattle.circular_buffer.specs.Buffer.{Buffer, buffer};
 ghost use Rattle.nano_spec.specs.declared.commands.Command.{Command as Spoken};
 ghost use Rattle.nano_spec.specs.Legal.{IsLegal};
@@ -32,9 +33,7 @@ pub(crate) fn start_over<L: Ledger>(
     blank: Blank,
 ) -> Result<(Machine, HeapCircularBuffer<Undo>), ModelFault>
     requires seeds { profile.seeds ≤ 39 }
-    requires name { blank.name ≡ L.name }
-    requires parts { blank.parts ≡ L.parts }
-    requires some { 0 < L.parts }
+    requires blank { IsBlankOf blank L.name L.parts }
     ensures legal { IfOk result (λ _. IsLegal source) }
     ensures machine { IfOk result
         (λ made. made.0 ≡ record { state = opening source profile; steps = 0; spent = false }) }
@@ -59,9 +58,7 @@ pub(crate) fn copy_of<L: Ledger>(
     blank: Blank,
 ) -> Result<(Machine, HeapCircularBuffer<Undo>), Memory>
     requires well_formed { IsWellFormed machine.now.state }
-    requires name { blank.name ≡ L.name }
-    requires parts { blank.parts ≡ L.parts }
-    requires some { 0 < L.parts }
+    requires blank { IsBlankOf blank L.name L.parts }
     ensures machine { IfOk result (λ made. made.0 ≡ record machine.now { spent = false }) }
     ensures notes { IfOk result (λ made. made.1 ≡ buffer [] room) }
 {
@@ -163,9 +160,7 @@ fn try_step<L: Ledger>(
     blank: Blank,
 ) -> Result<StepOk, NoStep>
     requires kept { IsNoted machine.old notes.old }
-    requires name { blank.name ≡ L.name }
-    requires parts { blank.parts ≡ L.parts }
-    requires some { 0 < L.parts }
+    requires blank { IsBlankOf blank L.name L.parts }
     ensures kept { IsNoted machine.new notes.new }
     ensures tries { (trace : Option (List Spoken)) → Tries (kept_of machine.old notes.old trace) commands.now
         (kept_of machine.new notes.new (tried trace commands.now result)) result }
@@ -189,9 +184,7 @@ pub(crate) fn step_and_keep<L: Ledger>(
     blank: Blank,
 ) -> Result<StepOk, NoStep>
     requires kept { IsNoted machine.old notes.old }
-    requires name { blank.name ≡ L.name }
-    requires parts { blank.parts ≡ L.parts }
-    requires some { 0 < L.parts }
+    requires blank { IsBlankOf blank L.name L.parts }
     ensures kept { IsNoted machine.new notes.new }
     ensures tries { Tries (kept_of machine.old notes.old (trace_of trace.old)) commands.now
         (kept_of machine.new notes.new (trace_of trace.new)) result }
@@ -238,9 +231,7 @@ pub(crate) fn judge_step<L: Ledger>(
     blank: Blank,
 ) -> Result<StepOk, NoStep>
     requires well_formed { IsWellFormed machine.old.state }
-    requires name { blank.name ≡ L.name }
-    requires parts { blank.parts ≡ L.parts }
-    requires some { 0 < L.parts }
+    requires blank { IsBlankOf blank L.name L.parts }
     ensures state { machine.new.state ≡ machine.old.state }
     ensures steps { machine.new.steps ≡ machine.old.steps }
     ensures answer { (notes : Buffer Note) (trace : Option (List Spoken))
@@ -259,9 +250,7 @@ fn take_back<L: Ledger>(
     blank: Blank,
 ) -> bool
     requires kept { IsNoted machine.old notes.old }
-    requires name { blank.name ≡ L.name }
-    requires parts { blank.parts ≡ L.parts }
-    requires some { 0 < L.parts }
+    requires blank { IsBlankOf blank L.name L.parts }
     ensures kept { IsNoted machine.new notes.new }
     ensures back { (trace : Option (List Spoken)) → Undoes (kept_of machine.old notes.old trace)
         (kept_of machine.new notes.new (undone trace (length machine.new.state.bots) result)) result }
@@ -283,9 +272,7 @@ pub(crate) fn undo_and_shorten<L: Ledger>(
     blank: Blank,
 ) -> bool
     requires kept { IsNoted machine.old notes.old }
-    requires name { blank.name ≡ L.name }
-    requires parts { blank.parts ≡ L.parts }
-    requires some { 0 < L.parts }
+    requires blank { IsBlankOf blank L.name L.parts }
     ensures kept { IsNoted machine.new notes.new }
     ensures back { Undoes (kept_of machine.old notes.old (trace_of trace.old))
         (kept_of machine.new notes.new (trace_of trace.new)) result }

@@ -4,6 +4,7 @@ ghost use Rattle.nano_spec.specs.Legal.{IsLegal};
 ghost use Rattle.nano_spec.specs.Profile.{full_profile};
 ghost use Rattle.nano_spec.specs.Spelling.{spellings};
 ghost use Rattle.plan_tape.specs.Frame.{HasRisen};
+ghost use Rattle.plan_tape.specs.Models.{AreLegalModels};
 ghost use Rattle.plan_tape.specs.Progress.{IsAccepted, IsVoidFrom};
 ghost use Rattle.plan_tape.specs.Lowest.{IsLowest};
 ghost use Rattle.plan_tape.specs.Reaches.{HasAtMost};
@@ -39,9 +40,7 @@ fn rebuild(tape: &mut Tape, nothing: &Planes, target: &Planes, low: u16) -> Resu
 /// 8 * r * r * r + 200 bytes at resolution r, and at no time is more than one bot active; where both models are the same, they
 /// are a Halt alone. Layers below the lowest one in which the models differ are left alone.
 pub fn plan_layers(alloc: Global, source: &Planes, target: &Planes) -> Result<Plan, Memory>
-    requires source { IsLegal source.now }
-    requires target { IsLegal target.now }
-    requires same { source.now.resolution ≡ target.now.resolution }
+    requires { AreLegalModels source.now target.now }
     ensures accepted { IfOk result
         (λ plan. IsAccepted source.now target.now plan.commands full_profile plan.energy plan.steps) }
     ensures bytes { IfOk result

@@ -1,5 +1,6 @@
 //! Model files in either form.
-ghost use Rattle.std.specs.Prelude.{◌≡◌, ◌<◌, IfOk};
+ghost use Rattle.std.specs.Prelude.{◌≡◌, IfOk};
+ghost use Rattle.vox_geom.specs.Counting.{IsBlankOf};
 ghost use Rattle.nano_spec.specs.Model.{model, written};
 ghost use Rattle.model_file.specs.Fault.{ReadsModel};
 
@@ -28,9 +29,7 @@ pub fn read_model(alloc: Global, bytes: &[u8]) -> Result<Planes, ModelFault>
 
 /// The bytes of the model, read by a counter of touches that nobody reads.
 fn write_by<L: Ledger>(alloc: Global, planes: &Planes, blank: Blank) -> Result<Vec<u8>, Memory>
-    requires name { blank.name ≡ L.name }
-    requires parts { blank.parts ≡ L.parts }
-    requires some { 0 < L.parts }
+    requires blank { IsBlankOf blank L.name L.parts }
     ensures { IfOk result (λ bytes. bytes.items ≡ written planes.now) }
 {
     let mut steps: Steps<L> = Steps::new(blank);

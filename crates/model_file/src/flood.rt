@@ -1,5 +1,6 @@
 //! A search from the floor, many voxels at a time, which takes all that it reaches out of a copy of the planes.
 ghost use Rattle.std.specs.Prelude.{◌≡◌, ◌<◌, ◌%◌, ◌≤◌, ◌++◌, ◌∷◌, [], All, IfOk, false};
+ghost use Rattle.vox_geom.specs.Counting.{IsBlankOf};
 ghost use Rattle.vox_geom.specs.declared.coordinate.Coord.{Coord as Coordinate};
 ghost use Rattle.vox_geom.specs.Space.{IsInSpace};
 ghost use Rattle.nano_spec.specs.Grounded.{FirstUngrounded};
@@ -301,9 +302,7 @@ fn first_ungrounded_in<L: Ledger>(
     planes: &Planes,
     blank: Blank,
 ) -> Result<Option<Coord>, Memory>
-    requires name { blank.name ≡ L.name }
-    requires parts { blank.parts ≡ L.parts }
-    requires some { 0 < L.parts }
+    requires blank { IsBlankOf blank L.name L.parts }
     ensures { IfOk result (λ at. FirstUngrounded planes.now at) }
 {
     let mut steps: Steps<L> = Steps::new(blank);

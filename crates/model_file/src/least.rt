@@ -1,5 +1,6 @@
 //! Least full voxels, by a counter of touches that nobody reads.
-ghost use Rattle.std.specs.Prelude.{◌≡◌, ◌<◌, ◌&&◌, not};
+ghost use Rattle.std.specs.Prelude.{◌&&◌, not};
+ghost use Rattle.vox_geom.specs.Counting.{IsBlankOf};
 ghost use Rattle.vox_geom.specs.Least.{LeastOf};
 ghost use Rattle.nano_spec.specs.Legal.{in_legal_box};
 ghost use Rattle.nano_spec.specs.Matrix.{is_full};
@@ -11,9 +12,7 @@ use vox_planes::{Planes, earlier};
 
 /// The least full voxel, counted in a ledger of its own.
 fn least_full_in<L: Ledger>(planes: &Planes, blank: Blank) -> Option<Coord>
-    requires name { blank.name ≡ L.name }
-    requires parts { blank.parts ≡ L.parts }
-    requires some { 0 < L.parts }
+    requires blank { IsBlankOf blank L.name L.parts }
     ensures { LeastOf planes.now.resolution (is_full planes.now) result }
 {
     let mut steps: Steps<L> = Steps::new(blank);
@@ -39,9 +38,7 @@ pub fn least_full(planes: &Planes) -> Option<Coord>
 
 /// The least full voxel outside the legal box, counted in a ledger of its own.
 fn first_outside_in<L: Ledger>(planes: &Planes, blank: Blank) -> Option<Coord>
-    requires name { blank.name ≡ L.name }
-    requires parts { blank.parts ≡ L.parts }
-    requires some { 0 < L.parts }
+    requires blank { IsBlankOf blank L.name L.parts }
     ensures { LeastOf planes.now.resolution (λ c. is_full planes.now c && not (in_legal_box planes.now.resolution c))
         result }
 {

@@ -1,5 +1,6 @@
 //! One call: a row over the caller's bytes, and what is given of its answer.
-ghost use Rattle.std.specs.Prelude.{◌≡◌, ◌<◌, ℕ, List, IfOk, Some, None};
+ghost use Rattle.std.specs.Prelude.{◌≡◌, ℕ, List, IfOk, Some, None};
+ghost use Rattle.vox_geom.specs.Counting.{IsBlankOf};
 ghost use Rattle.vox_depot.specs.Causes.{Rose};
 ghost use Rattle.vox_depot.specs.Files.{content};
 ghost use Rattle.nanobot_rows.specs.Answer.{AnswerOf};
@@ -89,9 +90,7 @@ fn ask_counted<L: Ledger>(
     lent: Lent<'_>,
     blank: Blank,
 ) -> Result<Effect<'static>, Stop>
-    requires name { blank.name ≡ L.name }
-    requires parts { blank.parts ≡ L.parts }
-    requires some { 0 < L.parts }
+    requires blank { IsBlankOf blank L.name L.parts }
     requires of_table { IsOfTable (row_of row) }
     ensures finishes { EndsStored (AnswerOf (row_of row.entry)) (Some (lent_files lent.entry)) (Rose 0 0) result }
     ensures named { IfOk result (IsFor (stores_of (row_of row.entry))) }

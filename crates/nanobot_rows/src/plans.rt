@@ -2,6 +2,7 @@
 ghost use Rattle.std.specs.Prelude.{◌≡◌, ◌+◌, ◌<◌, ◌≤◌, ℕ, IfOk, List, MatchOption, Some};
 ghost use Rattle.nano_spec.specs.Legal.{IsLegal};
 ghost use Rattle.nano_spec.specs.Matrix.{Matrix};
+ghost use Rattle.plan_tape.specs.Models.{AreLegalModels};
 ghost use Rattle.group_planner.specs.Bounds.{most_bytes};
 ghost use Rattle.group_planner.specs.Rows.{rows as rows_of, runs as runs_of};
 ghost use Rattle.vox_depot.specs.Causes.{Rose};
@@ -59,9 +60,7 @@ fn group_long(source: &Planes, target: &Planes) -> Option<Report>
 
 /// The plan of two bots, or the report that it may be too long.
 fn plan_group(alloc: Global, source: &Planes, target: &Planes) -> Result<Plan, Stop>
-    requires source { IsLegal source.now }
-    requires target { IsLegal target.now }
-    requires same { source.now.resolution ≡ target.now.resolution }
+    requires { AreLegalModels source.now target.now }
     ensures { Plans Planner.Group source.now target.now result }
 {
     if let Some(report) = group_long(source, target) {
@@ -90,9 +89,7 @@ fn choose_plan(
     source: &Planes,
     target: &Planes,
 ) -> Result<Plan, Stop>
-    requires source { IsLegal source.now }
-    requires target { IsLegal target.now }
-    requires same { source.now.resolution ≡ target.now.resolution }
+    requires { AreLegalModels source.now target.now }
     ensures { Plans planner source.now target.now result }
 {
     match planner {

@@ -1,7 +1,8 @@
 -- When a proposal is better than a plan, and what is so of the plan that stands in the end.
-use Rattle.std.specs.Prelude.{◌≡◌, ℕ, ◌<◌, ◌≤◌, ℤ, ◌<ℤ◌, ◌≤ℤ◌, List, count_by, length}
+use Rattle.std.specs.Prelude.{◌≡◌, ℕ, ◌<◌, ◌≤◌, ℤ, ◌<ℤ◌, ◌≤ℤ◌, List, None, count_by, length}
 use Rattle.nano_spec.specs.declared.commands.Command.{Command}
 use Rattle.nano_spec.specs.declared.system.Profile.{Profile}
+use Rattle.nano_spec.specs.Grounded.{FirstUngrounded}
 use Rattle.nano_spec.specs.Matrix.{Matrix}
 use Rattle.nano_spec.specs.Spelling.{spellings}
 use Rattle.plan_tape.specs.declared.tape.Plan.{Plan}
@@ -27,6 +28,13 @@ pub record MayStandFor (source target : Matrix) (profile : Profile) (most : Boun
   pub commands : length plan.commands ≤ most.commands → length it.commands ≤ most.commands
   pub bytes : length (spellings plan.commands) ≤ most.bytes → length (spellings it.commands) ≤ most.bytes
   pub bots : HasAtMost source profile plan.commands most.bots → HasAtMost source profile it.commands most.bots
+
+-- a plan that the definitions accept, of a source and for a profile with which others may be judged
+pub record CanImprove (source target : Matrix) (profile : Profile) (plan : Plan) : Type 0 where
+  pub grounded : FirstUngrounded source None
+  pub resolution : source.resolution ≡ target.resolution
+  pub seeds : profile.seeds ≤ 39
+  pub accepted : IsAccepted source target plan.commands profile plan.energy plan.steps
 
 -- the proposal is taken wherever the definitions accept it with less energy and within the bounds
 abbrev pub IsChosen : Matrix → Matrix → Profile → Bounds → Plan → List Command → Plan → Type 0

@@ -1,11 +1,10 @@
 //! Plans of one bot that builds from nothing, or takes all down.
-ghost use Rattle.std.specs.Prelude.{◌≡◌, ◌≤◌, All, None, IfOk, length};
-ghost use Rattle.nano_spec.specs.Grounded.{FirstUngrounded};
+ghost use Rattle.std.specs.Prelude.{◌≡◌, All, IfOk, length};
 ghost use Rattle.nano_spec.specs.Matrix.{empty};
 ghost use Rattle.nano_spec.specs.Profile.{light_profile};
 ghost use Rattle.low_planner.specs.Commands.{IsPlain};
 ghost use Rattle.plan_tape.specs.Progress.{IsAccepted};
-ghost use Rattle.plan_choice.specs.Better.{MayStandFor};
+ghost use Rattle.plan_choice.specs.Better.{CanImprove, MayStandFor};
 
 use crate::bounds::Bounds;
 use crate::builder::build_attached;
@@ -69,10 +68,7 @@ pub fn attach(
     most: Bounds,
     ceiling: i64,
 ) -> Result<Plan, Memory>
-    requires grounded { FirstUngrounded source.now None }
-    requires resolution { source.now.resolution ≡ target.now.resolution }
-    requires seeds { profile.seeds ≤ 39 }
-    requires accepted { IsAccepted source.now target.now plan.commands profile plan.energy plan.steps }
+    requires { CanImprove source.now target.now profile plan }
     ensures stands { IfOk result (λ it. MayStandFor source.now target.now profile most plan it) }
     ensures alone { length plan.commands ≡ 1 → IfOk result (λ it. it.commands ≡ plan.commands) }
 {

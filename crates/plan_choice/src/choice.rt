@@ -1,9 +1,10 @@
 //! A proposal is judged, and chosen where it is cheaper.
-ghost use Rattle.std.specs.Prelude.{◌≡◌, ◌⊎◌, ◌<◌, ◌≤◌, ℕ, ℤ, IfOk, IfSome, None, Ok, length};
+ghost use Rattle.std.specs.Prelude.{◌≡◌, ◌⊎◌, ◌≤◌, ℕ, ℤ, IfOk, IfSome, None, Ok, length};
+ghost use Rattle.vox_geom.specs.Counting.{IsBlankOf};
 ghost use Rattle.nano_spec.specs.Grounded.{FirstUngrounded};
 ghost use Rattle.nano_spec.specs.Verdict.{VerdictOf};
 ghost use Rattle.plan_tape.specs.Progress.{IsAccepted};
-ghost use Rattle.plan_choice.specs.Better.{IsChosen, IsBetter, MayStandFor};
+ghost use Rattle.plan_choice.specs.Better.{CanImprove, IsBetter, IsChosen, MayStandFor};
 
 use crate::bounds::{Bounds, MOST_COMMANDS, bytes_of, fissions_of};
 use nano_spec::{Command, CommandList, Profile, Verdict, one_verdict};
@@ -35,9 +36,7 @@ fn judged_in<L: Ledger>(
     requires resolution { source.now.resolution ≡ target.now.resolution }
     requires seeds { profile.seeds ≤ 39 }
     requires few { length commands.now ≤ 1073741824 }
-    requires name { blank.name ≡ L.name }
-    requires parts { blank.parts ≡ L.parts }
-    requires some { 0 < L.parts }
+    requires blank { IsBlankOf blank L.name L.parts }
     ensures { IfOk result (λ v. VerdictOf source.now target.now commands.now profile v) }
 {
     let mut steps: Steps<L> = Steps::new(blank);
@@ -124,10 +123,7 @@ pub fn cheaper(
     proposal: CommandList,
     most: Bounds,
 ) -> Result<Plan, Memory>
-    requires grounded { FirstUngrounded source.now None }
-    requires resolution { source.now.resolution ≡ target.now.resolution }
-    requires seeds { profile.seeds ≤ 39 }
-    requires accepted { IsAccepted source.now target.now plan.commands profile plan.energy plan.steps }
+    requires { CanImprove source.now target.now profile plan }
     ensures stands { IfOk result (λ it. MayStandFor source.now target.now profile most plan it) }
     ensures one { IfOk result (λ it. (it.commands ≡ plan.commands) ⊎ (it.commands ≡ proposal)) }
     ensures chosen { IfOk result (λ it. IsChosen source.now target.now profile most plan proposal it) }

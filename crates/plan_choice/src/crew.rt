@@ -2,6 +2,7 @@
 ghost use Rattle.std.specs.Prelude.{◌≡◌, ◌≤◌, ◌≤ℤ◌, IfOk, None};
 ghost use Rattle.nano_spec.specs.Legal.{IsLegal};
 ghost use Rattle.nano_spec.specs.Matrix.{empty};
+ghost use Rattle.plan_tape.specs.Models.{AreLegalModels};
 ghost use Rattle.group_planner.specs.Bounds.{most_bytes};
 ghost use Rattle.low_planner.specs.Supported.{FirstUnsupported};
 ghost use Rattle.plan_choice.specs.Crew.{IsForCrew, Replaces};
@@ -44,9 +45,7 @@ fn may_pay_alone(source: &Planes, target: &Planes, energy: i64) -> bool {
 
 /// The plan, or the layer planner's, where that may be cheaper and is.
 fn or_layer(alloc: Global, source: &Planes, target: &Planes, plan: Plan) -> Result<Plan, Memory>
-    requires source { IsLegal source.now }
-    requires target { IsLegal target.now }
-    requires same { source.now.resolution ≡ target.now.resolution }
+    requires models { AreLegalModels source.now target.now }
     requires crew { IsForCrew source.now target.now plan }
     requires as_layer { IsNoDearer IsLayerPlan source.now target.now plan.energy }
     ensures crew { IfOk result (IsForCrew source.now target.now) }
@@ -62,9 +61,7 @@ fn or_layer(alloc: Global, source: &Planes, target: &Planes, plan: Plan) -> Resu
 
 /// The plan, or the group planner's, where that may not be too long and is cheaper.
 fn or_group(alloc: Global, source: &Planes, target: &Planes, plan: Plan) -> Result<Plan, Memory>
-    requires source { IsLegal source.now }
-    requires target { IsLegal target.now }
-    requires same { source.now.resolution ≡ target.now.resolution }
+    requires models { AreLegalModels source.now target.now }
     requires crew { IsForCrew source.now target.now plan }
     ensures crew { IfOk result (IsForCrew source.now target.now) }
     ensures no_dearer { IfOk result (λ it. it.energy ≤ℤ plan.energy) }
@@ -143,9 +140,7 @@ fn or_swarm(alloc: Global, source: &Planes, target: &Planes, plan: Plan) -> Resu
 
 /// The plan of a crew before the other planners are asked, which costs no more than the one that the layer planner is proved to make.
 fn proposed_by_crew(alloc: Global, source: &Planes, target: &Planes) -> Result<Plan, Memory>
-    requires source { IsLegal source.now }
-    requires target { IsLegal target.now }
-    requires same { source.now.resolution ≡ target.now.resolution }
+    requires { AreLegalModels source.now target.now }
     ensures crew { IfOk result (IsForCrew source.now target.now) }
     ensures as_layer { IfOk result (λ it. IsNoDearer IsLayerPlan source.now target.now it.energy) }
 {
@@ -165,9 +160,7 @@ fn proposed_by_crew(alloc: Global, source: &Planes, target: &Planes) -> Result<P
 /// The plan of up to forty bots that makes the target of the source: the cheapest of a crew's few proposals and of what the other
 /// planners that make plans of such models make.
 pub fn choose_crew_plan(alloc: Global, source: &Planes, target: &Planes) -> Result<Plan, Memory>
-    requires source { IsLegal source.now }
-    requires target { IsLegal target.now }
-    requires same { source.now.resolution ≡ target.now.resolution }
+    requires { AreLegalModels source.now target.now }
     ensures { IfOk result (λ plan. IsCrewPlan source.now target.now plan.commands plan.energy plan.steps) }
 {
     let plan = proposed_by_crew(alloc, source, target)?;

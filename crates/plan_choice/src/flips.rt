@@ -1,8 +1,8 @@
 //! Plans that are under High no longer than some voxel floats.
-ghost use Rattle.std.specs.Prelude.{◌≡◌, ◌<◌, ◌≤◌, None, IfOk, length};
+ghost use Rattle.std.specs.Prelude.{◌≡◌, ◌≤◌, None, IfOk, length};
+ghost use Rattle.vox_geom.specs.Counting.{IsBlankOf};
 ghost use Rattle.nano_spec.specs.Grounded.{FirstUngrounded};
-ghost use Rattle.plan_tape.specs.Progress.{IsAccepted};
-ghost use Rattle.plan_choice.specs.Better.{MayStandFor};
+ghost use Rattle.plan_choice.specs.Better.{CanImprove, MayStandFor};
 
 use crate::alone::affordable;
 use crate::bounds::Bounds;
@@ -67,9 +67,7 @@ fn lowered_in<L: Ledger>(
 ) -> Result<CommandList, Memory>
     requires grounded { FirstUngrounded source.now None }
     requires seeds { profile.seeds ≤ 39 }
-    requires name { blank.name ≡ L.name }
-    requires parts { blank.parts ≡ L.parts }
-    requires some { 0 < L.parts }
+    requires blank { IsBlankOf blank L.name L.parts }
 {
     let mut steps: Steps<L> = Steps::new(blank);
     let mut machine = Machine::start(alloc, source.copy(alloc)?, profile, &mut steps)?;
@@ -131,10 +129,7 @@ pub fn lower(
     most: Bounds,
     ceiling: i64,
 ) -> Result<Plan, Memory>
-    requires grounded { FirstUngrounded source.now None }
-    requires resolution { source.now.resolution ≡ target.now.resolution }
-    requires seeds { profile.seeds ≤ 39 }
-    requires accepted { IsAccepted source.now target.now plan.commands profile plan.energy plan.steps }
+    requires { CanImprove source.now target.now profile plan }
     ensures stands { IfOk result (λ it. MayStandFor source.now target.now profile most plan it) }
     ensures alone { length plan.commands ≡ 1 → IfOk result (λ it. it.commands ≡ plan.commands) }
 {

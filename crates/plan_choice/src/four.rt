@@ -1,9 +1,7 @@
 //! Plans of four bots that take all down.
-ghost use Rattle.std.specs.Prelude.{◌≡◌, None, IfOk, length};
-ghost use Rattle.nano_spec.specs.Grounded.{FirstUngrounded};
+ghost use Rattle.std.specs.Prelude.{◌≡◌, IfOk, length};
 ghost use Rattle.nano_spec.specs.Profile.{full_profile};
-ghost use Rattle.plan_tape.specs.Progress.{IsAccepted};
-ghost use Rattle.plan_choice.specs.Better.{MayStandFor};
+ghost use Rattle.plan_choice.specs.Better.{CanImprove, MayStandFor};
 
 use crate::bounds::Bounds;
 use crate::trials::{Trial, cheapest};
@@ -44,9 +42,7 @@ pub fn by_slabs(
     most: Bounds,
     ceiling: i64,
 ) -> Result<Plan, Memory>
-    requires grounded { FirstUngrounded source.now None }
-    requires resolution { source.now.resolution ≡ target.now.resolution }
-    requires accepted { IsAccepted source.now target.now plan.commands full_profile plan.energy plan.steps }
+    requires { CanImprove source.now target.now full_profile plan }
     ensures stands { IfOk result (λ it. MayStandFor source.now target.now full_profile most plan it) }
     ensures alone { length plan.commands ≡ 1 → IfOk result (λ it. it.commands ≡ plan.commands) }
 {

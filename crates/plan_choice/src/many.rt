@@ -1,10 +1,9 @@
 //! Plans of squads, each of which builds a strip of columns by itself.
-ghost use Rattle.std.specs.Prelude.{◌≡◌, ◌≤◌, None, IfOk, length};
-ghost use Rattle.nano_spec.specs.Grounded.{FirstUngrounded};
+ghost use Rattle.std.specs.Prelude.{◌≡◌, IfOk, length};
 ghost use Rattle.nano_spec.specs.Matrix.{empty};
 ghost use Rattle.nano_spec.specs.Profile.{full_profile, light_profile};
 ghost use Rattle.plan_tape.specs.Progress.{IsAccepted};
-ghost use Rattle.plan_choice.specs.Better.{MayStandFor};
+ghost use Rattle.plan_choice.specs.Better.{CanImprove, MayStandFor};
 
 use crate::alone::is_void;
 use crate::bounds::Bounds;
@@ -152,9 +151,7 @@ pub fn by_few(
     most: Bounds,
     ceiling: i64,
 ) -> Result<Plan, Memory>
-    requires grounded { FirstUngrounded source.now None }
-    requires resolution { source.now.resolution ≡ target.now.resolution }
-    requires accepted { IsAccepted source.now target.now plan.commands full_profile plan.energy plan.steps }
+    requires { CanImprove source.now target.now full_profile plan }
     ensures stands { IfOk result (λ it. MayStandFor source.now target.now full_profile most plan it) }
     ensures alone { length plan.commands ≡ 1 → IfOk result (λ it. it.commands ≡ plan.commands) }
 {
@@ -180,9 +177,7 @@ pub(crate) fn by_crew(
     plan: Plan,
     most: Bounds,
 ) -> Result<Plan, Memory>
-    requires grounded { FirstUngrounded source.now None }
-    requires resolution { source.now.resolution ≡ target.now.resolution }
-    requires accepted { IsAccepted source.now target.now plan.commands full_profile plan.energy plan.steps }
+    requires { CanImprove source.now target.now full_profile plan }
     ensures stands { IfOk result (λ it. MayStandFor source.now target.now full_profile most plan it) }
     ensures alone { length plan.commands ≡ 1 → IfOk result (λ it. it.commands ≡ plan.commands) }
 {

@@ -2,6 +2,7 @@
 ghost use Rattle.std.specs.Prelude.{◌≡◌, ◌*◌, IfErr, IfOk, None};
 ghost use Rattle.nano_spec.specs.Legal.{IsLegal};
 ghost use Rattle.nano_spec.specs.Matrix.{empty};
+ghost use Rattle.plan_tape.specs.Models.{AreLegalModels};
 ghost use Rattle.low_planner.specs.Fault.{HasCause};
 ghost use Rattle.low_planner.specs.Supported.{FirstUnsupported};
 ghost use Rattle.plan_choice.specs.Planners.{IsGroupPlan, IsLayerPlan, IsLowPlan, IsSwarmPlan, IsVoidPlan};
@@ -31,9 +32,7 @@ pub(crate) fn layer_plan(
     target: &Planes,
     ceiling: i64,
 ) -> Result<Plan, Memory>
-    requires source { IsLegal source.now }
-    requires target { IsLegal target.now }
-    requires same { source.now.resolution ≡ target.now.resolution }
+    requires { AreLegalModels source.now target.now }
     ensures { IfOk result (λ plan. IsLayerPlan source.now target.now plan.commands plan.energy plan.steps) }
 {
     let plan = plan_layers(alloc, source, target)?;
@@ -51,9 +50,7 @@ pub(crate) fn layer_plan(
 
 /// The plan of one bot that makes the target of the source.
 pub fn choose_layer_plan(alloc: Global, source: &Planes, target: &Planes) -> Result<Plan, Memory>
-    requires source { IsLegal source.now }
-    requires target { IsLegal target.now }
-    requires same { source.now.resolution ≡ target.now.resolution }
+    requires { AreLegalModels source.now target.now }
     ensures { IfOk result (λ plan. IsLayerPlan source.now target.now plan.commands plan.energy plan.steps) }
 {
     layer_plan(alloc, source, target, i64::MAX)
@@ -86,9 +83,7 @@ pub(crate) fn group_plan(
     target: &Planes,
     ceiling: i64,
 ) -> Result<Plan, Memory>
-    requires source { IsLegal source.now }
-    requires target { IsLegal target.now }
-    requires same { source.now.resolution ≡ target.now.resolution }
+    requires { AreLegalModels source.now target.now }
     ensures { IfOk result (λ plan. IsGroupPlan source.now target.now plan.commands plan.energy plan.steps) }
 {
     let plan = plan_groups(alloc, source, target)?;
@@ -104,9 +99,7 @@ pub(crate) fn group_plan(
 
 /// The plan of two bots that makes the target of the source.
 pub fn choose_group_plan(alloc: Global, source: &Planes, target: &Planes) -> Result<Plan, Memory>
-    requires source { IsLegal source.now }
-    requires target { IsLegal target.now }
-    requires same { source.now.resolution ≡ target.now.resolution }
+    requires { AreLegalModels source.now target.now }
     ensures { IfOk result (λ plan. IsGroupPlan source.now target.now plan.commands plan.energy plan.steps) }
 {
     group_plan(alloc, source, target, i64::MAX)

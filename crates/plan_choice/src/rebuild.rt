@@ -1,7 +1,7 @@
 //! Plans of a crew that takes all of the source down and then builds the target.
 ghost use Rattle.std.specs.Prelude.{◌≡◌, IfOk, length};
-ghost use Rattle.nano_spec.specs.Legal.{IsLegal};
 ghost use Rattle.nano_spec.specs.Profile.{full_profile};
+ghost use Rattle.plan_tape.specs.Models.{AreLegalModels};
 ghost use Rattle.plan_tape.specs.Progress.{IsAccepted};
 ghost use Rattle.plan_choice.specs.Better.{MayStandFor};
 
@@ -41,9 +41,7 @@ fn rebuilt(
     target: &Planes,
     most: Bounds,
 ) -> Result<CommandList, Memory>
-    requires source { IsLegal source.now }
-    requires target { IsLegal target.now }
-    requires same { source.now.resolution ≡ target.now.resolution }
+    requires { AreLegalModels source.now target.now }
 {
     let most = Bounds { bots: CREW, ..most };
     let nothing = Planes::empty(alloc, source.resolution())?;
@@ -63,9 +61,7 @@ pub(crate) fn by_rebuilding(
     plan: Plan,
     most: Bounds,
 ) -> Result<Plan, Memory>
-    requires source { IsLegal source.now }
-    requires target { IsLegal target.now }
-    requires same { source.now.resolution ≡ target.now.resolution }
+    requires models { AreLegalModels source.now target.now }
     requires accepted { IsAccepted source.now target.now plan.commands full_profile plan.energy plan.steps }
     ensures stands { IfOk result (λ it. MayStandFor source.now target.now full_profile most plan it) }
     ensures alone { length plan.commands ≡ 1 → IfOk result (λ it. it.commands ≡ plan.commands) }

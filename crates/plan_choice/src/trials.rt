@@ -1,8 +1,7 @@
 //! Proposals that are made one after another, each of which is judged: the cheapest stands in the end.
-ghost use Rattle.std.specs.Prelude.{◌≡◌, ◌≤◌, None, IfOk};
+ghost use Rattle.std.specs.Prelude.{◌≤◌, None, IfOk};
 ghost use Rattle.nano_spec.specs.Grounded.{FirstUngrounded};
-ghost use Rattle.plan_tape.specs.Progress.{IsAccepted};
-ghost use Rattle.plan_choice.specs.Better.{MayStandFor};
+ghost use Rattle.plan_choice.specs.Better.{CanImprove, MayStandFor};
 
 use crate::alone::{affordable, is_void};
 use crate::bounds::Bounds;
@@ -207,10 +206,7 @@ pub(crate) fn cheapest(
     most: Bounds,
     ceiling: i64,
 ) -> Result<Plan, Memory>
-    requires grounded { FirstUngrounded source.now None }
-    requires resolution { source.now.resolution ≡ target.now.resolution }
-    requires seeds { profile.seeds ≤ 39 }
-    requires accepted { IsAccepted source.now target.now plan.commands profile plan.energy plan.steps }
+    requires { CanImprove source.now target.now profile plan }
     ensures { IfOk result (λ it. MayStandFor source.now target.now profile most plan it) }
 {
     let symmetric = is_symmetric(source) && is_symmetric(target);

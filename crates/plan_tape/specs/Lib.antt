@@ -5,4 +5,5 @@ pub mod Reaches
 pub mod Fissions
 pub mod Frame
 pub mod Lowest
+pub mod Models
 pub mod Parts

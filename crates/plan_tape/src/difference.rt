@@ -1,5 +1,6 @@
 //! The lowest layer in which two models differ.
 ghost use Rattle.std.specs.Prelude.{◌≡◌, ◌<◌, IfNone, IfSome};
+ghost use Rattle.vox_geom.specs.Counting.{IsBlankOf};
 ghost use Rattle.vox_geom.specs.Least.{LeastOf};
 ghost use Rattle.vox_planes.specs.Difference.{in_layer_differ};
 ghost use Rattle.plan_tape.specs.Lowest.{IsLowest};
@@ -13,9 +14,7 @@ use vox_planes::Planes;
 fn difference_in<L: Ledger>(source: &Planes, target: &Planes, y: u16, blank: Blank) -> Option<Coord>
     requires same { source.now.resolution ≡ target.now.resolution }
     requires within { y < source.now.resolution }
-    requires name { blank.name ≡ L.name }
-    requires parts { blank.parts ≡ L.parts }
-    requires some { 0 < L.parts }
+    requires blank { IsBlankOf blank L.name L.parts }
     ensures { LeastOf source.now.resolution (in_layer_differ source.now target.now y) result }
 {
     let mut steps: Steps<L> = Steps::new(blank);

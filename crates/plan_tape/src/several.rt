@@ -1,5 +1,6 @@
 //! A step of all bots.
-ghost use Rattle.std.specs.Prelude.{◌≡◌, ℕ, ◌<◌, ◌<ℤ◌, ◌+ℤ◌, pos, length, All, None};
+ghost use Rattle.std.specs.Prelude.{◌≡◌, ℕ, ◌<ℤ◌, ◌+ℤ◌, pos, length, All, None};
+ghost use Rattle.vox_geom.specs.Counting.{IsBlankOf};
 ghost use Rattle.vox_geom.specs.Space.{IsInSpace};
 ghost use Rattle.nano_spec.specs.Rules.{broken as broken_of};
 ghost use Rattle.nano_spec.specs.Step.{after};
@@ -18,9 +19,7 @@ fn advance_in<L: Ledger>(system: &mut System, turns: &mut Turns, commands: &[Com
     requires commands { length commands.now ≡ length system.old.bots }
     requires judged { (step : ℕ) × (broken_of system.old commands.now step ≡ None) }
     requires payable { IsPayable system.old.energy }
-    requires name { blank.name ≡ L.name }
-    requires parts { blank.parts ≡ L.parts }
-    requires at_least { 0 < L.parts }
+    requires blank { IsBlankOf blank L.name L.parts }
     ensures { system.new ≡ after system.old commands.now }
 {
     let mut steps: Steps<L> = Steps::new(blank);

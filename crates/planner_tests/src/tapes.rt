@@ -1,6 +1,7 @@
 //! A plan of two bots on a tape of `plan_tape`, whose energies were worked out by hand from the rules, and the lowest
 //! difference of two matrices.
-ghost use Rattle.std.specs.Prelude.{◌≡◌, ◌<◌, IfOk, IsTrue, None, OnOk};
+ghost use Rattle.std.specs.Prelude.{◌≡◌, IfOk, IsTrue, None, OnOk};
+ghost use Rattle.vox_geom.specs.Counting.{IsBlankOf};
 ghost use Rattle.nano_spec.specs.Grounded.{FirstUngrounded};
 ghost use Rattle.plan_tape.specs.Progress.{state_of};
 
@@ -143,9 +144,7 @@ fn planned<L: Ledger>(
 
 /// That plan at resolution 3.
 fn of_two<L: Ledger>(rt: &impl Abort, alloc: Global, blank: Blank) -> Result<Plan, Memory>
-    requires name { blank.name ≡ L.name }
-    requires parts { blank.parts ≡ L.parts }
-    requires some { 0 < L.parts }
+    requires blank { IsBlankOf blank L.name L.parts }
 {
     let mut steps: Steps<L> = Steps::new(blank);
     let source = Planes::empty(alloc, 3)?;

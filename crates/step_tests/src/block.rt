@@ -1,5 +1,5 @@
 //! A block that eight bots void at once, on a machine of `step_machine`.
-ghost use Rattle.std.specs.Prelude.{◌≡◌, ◌<◌};
+ghost use Rattle.vox_geom.specs.Counting.{IsBlankOf};
 
 use crate::asserted::{assert_goes, assert_made};
 use crate::common::{far, long, near, source};
@@ -89,9 +89,7 @@ fn cube(alloc: Global) -> Result<Vec<Coord>, Memory> {
 
 /// Eight bots void a block of 3 by 3 by 3 at once.
 fn block<L: Ledger>(rt: &impl Abort, blank: Blank, alloc: Global) -> Result<(), Memory>
-    requires name { blank.name ≡ L.name }
-    requires parts { blank.parts ≡ L.parts }
-    requires some { 0 < L.parts }
+    requires blank { IsBlankOf blank L.name L.parts }
 {
     let mut steps: Steps<L> = Steps::new(blank);
     let block = source(rt, alloc, 5, &cube(alloc)?, &mut steps)?;

@@ -1,5 +1,5 @@
 //! Sessions of `step_debugger`: steps forwards and backwards, and a step group by group.
-ghost use Rattle.std.specs.Prelude.{◌≡◌, ◌<◌};
+ghost use Rattle.vox_geom.specs.Counting.{IsBlankOf};
 
 use crate::common::{at, empty, long, near};
 use nano_spec::{Bot, Broken, Command, CommandList, Profile, Rule};
@@ -132,9 +132,7 @@ fn made_by_groups<L: Ledger>(rt: &impl Abort, debugger: &mut Debugger, steps: &m
 
 /// Forwards by a step and by groups, and back to the start.
 fn walk<L: Ledger>(rt: &impl Abort, blank: Blank, alloc: Global) -> Result<(), Memory>
-    requires name { blank.name ≡ L.name }
-    requires parts { blank.parts ≡ L.parts }
-    requires some { 0 < L.parts }
+    requires blank { IsBlankOf blank L.name L.parts }
 {
     let mut steps: Steps<L> = Steps::new(blank);
     let trace = [
@@ -167,9 +165,7 @@ fn a_trace_is_walked_forwards_and_backwards(rt: HostRuntime) -> Result<(), Fail>
 
 /// A voxel that floats breaks the step, and the debugger stands where it stood.
 fn floating<L: Ledger>(rt: &impl Abort, blank: Blank, alloc: Global) -> Result<(), Memory>
-    requires name { blank.name ≡ L.name }
-    requires parts { blank.parts ≡ L.parts }
-    requires some { 0 < L.parts }
+    requires blank { IsBlankOf blank L.name L.parts }
 {
     let mut steps: Steps<L> = Steps::new(blank);
     let above = at(1, 1, 0);

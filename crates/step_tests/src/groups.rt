@@ -1,5 +1,5 @@
 //! The groups of a step of two bots by `step_groups`, and a step of one bot.
-ghost use Rattle.std.specs.Prelude.{◌≡◌, ◌<◌};
+ghost use Rattle.vox_geom.specs.Counting.{IsBlankOf};
 
 use crate::bots::{are_within, one_bot, two_bots};
 use crate::common::{at, far, near};
@@ -80,9 +80,7 @@ fn assert_filling(rt: &impl Abort, groups: &Groups) {
 
 /// Two bots that fill a row between them are one group; apart they are two.
 fn of_groups<L: Ledger>(rt: &impl Abort, blank: Blank, alloc: Global) -> Result<(), Memory>
-    requires name { blank.name ≡ L.name }
-    requires parts { blank.parts ≡ L.parts }
-    requires some { 0 < L.parts }
+    requires blank { IsBlankOf blank L.name L.parts }
 {
     let mut steps: Steps<L> = Steps::new(blank);
     let planes = Planes::empty(alloc, 5)?;

@@ -1,5 +1,5 @@
 //! Traces that `trace_judge` judges.
-ghost use Rattle.std.specs.Prelude.{◌≡◌, ◌<◌};
+ghost use Rattle.vox_geom.specs.Counting.{IsBlankOf};
 
 use crate::common::{at, empty, long, near, source};
 use nano_spec::{Broken, Command, Rule, Verdict};
@@ -39,9 +39,7 @@ fn assert_verdict<L: Ledger>(
 
 /// A bot fills the voxel (1,0,1) and comes home.
 fn traces<L: Ledger>(rt: &impl Abort, blank: Blank, alloc: Global) -> Result<(), Memory>
-    requires name { blank.name ≡ L.name }
-    requires parts { blank.parts ≡ L.parts }
-    requires some { 0 < L.parts }
+    requires blank { IsBlankOf blank L.name L.parts }
 {
     let mut steps: Steps<L> = Steps::new(blank);
     let trace = [

@@ -1,5 +1,5 @@
 //! Steps of a machine of `step_machine` under Low: levels that are repaired, and voxels that float.
-ghost use Rattle.std.specs.Prelude.{◌≡◌, ◌<◌};
+ghost use Rattle.vox_geom.specs.Counting.{IsBlankOf};
 
 use crate::asserted::{assert_goes, assert_level, assert_made, assert_refused, ungrounded};
 use crate::common::{at, empty, near, source};
@@ -22,9 +22,7 @@ fn assert_kept<L: Ledger>(rt: &impl Abort, machine: &Machine, steps: &mut Steps<
 
 /// Under Low a bot fills two voxels, one on the other, and the lower one is voided.
 fn posts<L: Ledger>(rt: &impl Abort, blank: Blank, alloc: Global) -> Result<(), Memory>
-    requires name { blank.name ≡ L.name }
-    requires parts { blank.parts ≡ L.parts }
-    requires some { 0 < L.parts }
+    requires blank { IsBlankOf blank L.name L.parts }
 {
     let mut steps: Steps<L> = Steps::new(blank);
     let source = empty(alloc, 4)?;
@@ -99,9 +97,7 @@ fn ring_levels<L: Ledger>(
 /// Of a ring on two posts the one is voided: the corner above it hangs then on the other. On that post alone a ring floats
 /// without it, and the machine is spent.
 fn rings<L: Ledger>(rt: &impl Abort, blank: Blank, alloc: Global) -> Result<(), Memory>
-    requires name { blank.name ≡ L.name }
-    requires parts { blank.parts ≡ L.parts }
-    requires some { 0 < L.parts }
+    requires blank { IsBlankOf blank L.name L.parts }
 {
     let mut steps: Steps<L> = Steps::new(blank);
     let posts = [at(1, 0, 1), at(3, 0, 3)];

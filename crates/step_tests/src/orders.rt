@@ -1,5 +1,6 @@
 //! Steps of a machine of `step_machine` whose groups come in any order, and a step that is taken back.
-ghost use Rattle.std.specs.Prelude.{◌≡◌, ◌<◌, length, IfOk, IsPermutation};
+ghost use Rattle.std.specs.Prelude.{◌≡◌, length, IfOk, IsPermutation};
+ghost use Rattle.vox_geom.specs.Counting.{IsBlankOf};
 ghost use Rattle.nano_spec.specs.Act.{acts};
 ghost use Rattle.nano_spec.specs.Serial.{leader_bids};
 ghost use Rattle.nano_spec.specs.State.{IsWellFormed};
@@ -92,9 +93,7 @@ fn both_orders<L: Ledger>(
 
 /// One bot waits and the other moves; one splits and the other fills a voxel.
 fn orders<L: Ledger>(rt: &impl Abort, blank: Blank, alloc: Global) -> Result<(), Memory>
-    requires name { blank.name ≡ L.name }
-    requires parts { blank.parts ≡ L.parts }
-    requires some { 0 < L.parts }
+    requires blank { IsBlankOf blank L.name L.parts }
 {
     let mut steps: Steps<L> = Steps::new(blank);
     let moves = [Command::Wait, Command::SMove(long(rt, 0, 0, 2))];
@@ -153,9 +152,7 @@ fn made_and_undone<L: Ledger>(
 
 /// A bot fills a voxel, and the step is taken back.
 fn noted<L: Ledger>(rt: &impl Abort, blank: Blank, alloc: Global) -> Result<(), Memory>
-    requires name { blank.name ≡ L.name }
-    requires parts { blank.parts ≡ L.parts }
-    requires some { 0 < L.parts }
+    requires blank { IsBlankOf blank L.name L.parts }
 {
     let mut steps: Steps<L> = Steps::new(blank);
     let mut machine = empty_machine(alloc, &mut steps)?;

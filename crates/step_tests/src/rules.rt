@@ -1,5 +1,5 @@
 //! Steps of one and of two bots: what each breaks first by `step_groups`.
-ghost use Rattle.std.specs.Prelude.{◌≡◌, ◌<◌};
+ghost use Rattle.vox_geom.specs.Counting.{IsBlankOf};
 
 use crate::bots::{are_within, one_bot, two_bots};
 use crate::common::{at, far, long, near};
@@ -61,9 +61,7 @@ fn at_origin(rule: Rule) -> Option<Broken> {
 
 /// Steps of one bot at resolution 3, in which one voxel is full.
 fn of_one<L: Ledger>(rt: &impl Abort, blank: Blank, alloc: Global) -> Result<(), Memory>
-    requires name { blank.name ≡ L.name }
-    requires parts { blank.parts ≡ L.parts }
-    requires some { 0 < L.parts }
+    requires blank { IsBlankOf blank L.name L.parts }
 {
     let mut steps: Steps<L> = Steps::new(blank);
     let mut planes = Planes::empty(alloc, 3)?;
@@ -122,9 +120,7 @@ fn one_bot_breaks_rules(rt: HostRuntime) -> Result<(), Fail> {
 
 /// Steps of one bot under the light profile.
 fn of_light<L: Ledger>(rt: &impl Abort, blank: Blank, alloc: Global) -> Result<(), Memory>
-    requires name { blank.name ≡ L.name }
-    requires parts { blank.parts ≡ L.parts }
-    requires some { 0 < L.parts }
+    requires blank { IsBlankOf blank L.name L.parts }
 {
     let mut steps: Steps<L> = Steps::new(blank);
     let planes = Planes::empty(alloc, 3)?;
@@ -159,9 +155,7 @@ fn the_light_profile_forbids(rt: HostRuntime) -> Result<(), Fail> {
 
 /// Steps of two bots.
 fn of_two<L: Ledger>(rt: &impl Abort, blank: Blank, alloc: Global) -> Result<(), Memory>
-    requires name { blank.name ≡ L.name }
-    requires parts { blank.parts ≡ L.parts }
-    requires some { 0 < L.parts }
+    requires blank { IsBlankOf blank L.name L.parts }
 {
     let mut steps: Steps<L> = Steps::new(blank);
     let planes = Planes::empty(alloc, 5)?;

@@ -1,6 +1,6 @@
 //! Steps of one and of two bots in a state of `system_state` at resolution 3: the first broken rule, and the energy after
 //! the turns.
-ghost use Rattle.std.specs.Prelude.{◌≡◌, ◌<◌};
+ghost use Rattle.vox_geom.specs.Counting.{IsBlankOf};
 
 use crate::common::{long, near};
 use nano_spec::{Command, Profile, Rule};
@@ -72,9 +72,7 @@ fn assert_ended<L: Ledger>(rt: &impl Abort, system: &System, full: u32, steps: &
 
 /// One bot fills a voxel and comes home.
 fn of_one<L: Ledger>(rt: &impl Abort, blank: Blank, alloc: Global) -> Result<(), Memory>
-    requires name { blank.name ≡ L.name }
-    requires parts { blank.parts ≡ L.parts }
-    requires some { 0 < L.parts }
+    requires blank { IsBlankOf blank L.name L.parts }
 {
     let mut steps: Steps<L> = Steps::new(blank);
     let mut turns = Turns::new();
@@ -105,9 +103,7 @@ fn one_bot_takes_its_turns(rt: HostRuntime) -> Result<(), Fail> {
 
 /// A bot splits, two Flips cancel, and the two fuse again.
 fn of_two<L: Ledger>(rt: &impl Abort, blank: Blank, alloc: Global) -> Result<(), Memory>
-    requires name { blank.name ≡ L.name }
-    requires parts { blank.parts ≡ L.parts }
-    requires some { 0 < L.parts }
+    requires blank { IsBlankOf blank L.name L.parts }
 {
     let mut steps: Steps<L> = Steps::new(blank);
     let mut turns = Turns::new();

@@ -37,6 +37,13 @@ pub record CanStand (m : Matrix) (w d : ℕ) (c : Coord) : Type 0 where
   pub z : c.z + d < m.resolution
   pub above : IsVoidFrom m c.y
 
+-- under High and by the full profile, bots may split or fuse at the corners of the square of two
+pub record CanRegroup (p : TapeState) : Type 0 where
+  pub high : p.harmonics ≡ High
+  pub full : p.profile ≡ full_profile
+  pub stand : CanStand p.matrix 1 1 (spot p.bots)
+  pub limit : p.steps < 1073741824
+
 -- under High, four bots stand at the corners of a rectangle
 pub record IsRectangle (p : TapeState) (w d : ℕ) : Type 0 where
   pub bots_are : p.bots ≡ four (spot p.bots) w d

@@ -1,27 +1,23 @@
 //! How one bot becomes four, and four become one again.
-ghost use Rattle.std.specs.Prelude.{◌≡◌, ◌+◌, ◌<◌, ◌≤◌, OnOk};
-ghost use Rattle.nano_spec.specs.Profile.{full_profile};
+ghost use Rattle.std.specs.Prelude.{◌≡◌, ◌+◌, ◌≤◌, OnOk};
 ghost use Rattle.plan_tape.specs.Progress.{spot, IsVoidFrom};
 ghost use Rattle.plan_tape.specs.Fissions.{fissions};
 ghost use Rattle.plan_tape.specs.Frame.{HasRisen};
 ghost use Rattle.void_planner.specs.Phases.{IsGathered, IsSpread};
-ghost use Rattle.void_planner.specs.Square.{Becomes, CanStand, IsRectangle, four, one, steps_to, two};
+ghost use Rattle.void_planner.specs.Square.{Becomes, CanRegroup, IsRectangle, four, one, steps_to, two};
 ghost use Rattle.void_planner.specs.Tiles.{far_of};
 ghost use Rattle.vox_geom.specs.Point.{coord};
 
 use crate::four::{set_depth, set_width};
 use crate::tiles::far;
-use nano_spec::{Command, Harmonics};
+use nano_spec::Command;
 use plan_tape::{Axis, Tape, ahead, behind};
 use vox_geom::Memory;
 
 /// The only bot makes a second one beside it along x.
 fn split(tape: &mut Tape) -> Result<(), Memory>
     requires bots { tape.old.bots ≡ one (spot tape.old.bots) }
-    requires high { tape.old.harmonics ≡ Harmonics.High }
-    requires full { tape.old.profile ≡ full_profile }
-    requires stand { CanStand tape.old.matrix 1 1 (spot tape.old.bots) }
-    requires limit { tape.old.steps < 1073741824 }
+    requires can { CanRegroup tape.old }
     ensures { OnOk result (Becomes tape.old tape.new (two (spot tape.old.bots)) 1) }
 {
     tape.split_all(&[Command::Fission(ahead(Axis::X), 1)])
@@ -30,10 +26,7 @@ fn split(tape: &mut Tape) -> Result<(), Memory>
 /// Both bots make one more beside them along z.
 fn split_both(tape: &mut Tape) -> Result<(), Memory>
     requires bots { tape.old.bots ≡ two (spot tape.old.bots) }
-    requires high { tape.old.harmonics ≡ Harmonics.High }
-    requires full { tape.old.profile ≡ full_profile }
-    requires stand { CanStand tape.old.matrix 1 1 (spot tape.old.bots) }
-    requires limit { tape.old.steps < 1073741824 }
+    requires can { CanRegroup tape.old }
     ensures { OnOk result (Becomes tape.old tape.new (four (spot tape.old.bots) 1 1) 2) }
 {
     tape.split_all(&[
@@ -45,10 +38,7 @@ fn split_both(tape: &mut Tape) -> Result<(), Memory>
 /// The fourth bot fuses with the first, and the third with the second.
 fn fuse_both(tape: &mut Tape) -> Result<(), Memory>
     requires bots { tape.old.bots ≡ four (spot tape.old.bots) 1 1 }
-    requires high { tape.old.harmonics ≡ Harmonics.High }
-    requires full { tape.old.profile ≡ full_profile }
-    requires stand { CanStand tape.old.matrix 1 1 (spot tape.old.bots) }
-    requires limit { tape.old.steps < 1073741824 }
+    requires can { CanRegroup tape.old }
     ensures { OnOk result (Becomes tape.old tape.new (two (spot tape.old.bots)) 0) }
 {
     tape.fuse_all(&[
@@ -62,10 +52,7 @@ fn fuse_both(tape: &mut Tape) -> Result<(), Memory>
 /// The second bot fuses with the first.
 fn fuse(tape: &mut Tape) -> Result<(), Memory>
     requires bots { tape.old.bots ≡ two (spot tape.old.bots) }
-    requires high { tape.old.harmonics ≡ Harmonics.High }
-    requires full { tape.old.profile ≡ full_profile }
-    requires stand { CanStand tape.old.matrix 1 1 (spot tape.old.bots) }
-    requires limit { tape.old.steps < 1073741824 }
+    requires can { CanRegroup tape.old }
     ensures { OnOk result (Becomes tape.old tape.new (one (spot tape.old.bots)) 0) }
 {
     tape.fuse_all(&[

@@ -1,5 +1,6 @@
 //! The plan.
-ghost use Rattle.std.specs.Prelude.{◌≡◌, ◌<◌, ◌≤◌, ◌↔◌, [], ◌∷◌, IfOk, IsTrue};
+ghost use Rattle.std.specs.Prelude.{◌≡◌, ◌≤◌, ◌↔◌, [], ◌∷◌, IfOk, IsTrue};
+ghost use Rattle.vox_geom.specs.Counting.{IsBlankOf};
 ghost use Rattle.nano_spec.specs.Legal.{IsLegal};
 ghost use Rattle.nano_spec.specs.Matrix.{empty, full_count};
 ghost use Rattle.nano_spec.specs.Profile.{full_profile};
@@ -20,9 +21,7 @@ use vox_planes::Planes;
 
 /// Whether no voxel is full, counted in a ledger of its own.
 fn is_empty_in<L: Ledger>(planes: &Planes, blank: Blank) -> bool
-    requires name { blank.name ≡ L.name }
-    requires parts { blank.parts ≡ L.parts }
-    requires some { 0 < L.parts }
+    requires blank { IsBlankOf blank L.name L.parts }
     ensures { IsTrue result ↔ (full_count planes.now ≡ 0) }
 {
     let mut steps: Steps<L> = Steps::new(blank);

@@ -1,3 +1,4 @@
+pub mod Counting
 pub mod Difference
 pub mod Least
 pub mod Point

@@ -1,5 +1,6 @@
 //! Voxels that are read by a counter of touches that nobody reads.
-ghost use Rattle.std.specs.Prelude.{◌≡◌, ◌<◌, ◌&&◌, find};
+ghost use Rattle.std.specs.Prelude.{◌≡◌, ◌&&◌, find};
+ghost use Rattle.vox_geom.specs.Counting.{IsBlankOf};
 ghost use Rattle.vox_geom.specs.Point.{point};
 ghost use Rattle.vox_geom.specs.Region.{is_within, span};
 ghost use Rattle.vox_geom.specs.Space.{IsInSpace};
@@ -13,9 +14,7 @@ use vox_planes::Planes;
 /// Whether the voxel is full, counted in a ledger of its own.
 fn is_full_in<L: Ledger>(planes: &Planes, c: Coord, blank: Blank) -> bool
     requires within { IsInSpace planes.now.resolution c }
-    requires name { blank.name ≡ L.name }
-    requires parts { blank.parts ≡ L.parts }
-    requires some { 0 < L.parts }
+    requires blank { IsBlankOf blank L.name L.parts }
     ensures { result ≡ is_full_of planes.now c }
 {
     let mut steps: Steps<L> = Steps::new(blank);
@@ -33,9 +32,7 @@ pub fn is_full(planes: &Planes, c: Coord) -> bool
 /// The least full voxel of a region, counted in a ledger of its own.
 fn first_full_in<L: Ledger>(planes: &Planes, region: &Region, blank: Blank) -> Option<Coord>
     requires within { IsInSpace planes.now.resolution region.now.high }
-    requires name { blank.name ≡ L.name }
-    requires parts { blank.parts ≡ L.parts }
-    requires some { 0 < L.parts }
+    requires blank { IsBlankOf blank L.name L.parts }
     ensures { result
         ≡ find (λ c. is_full_of planes.now c && is_within (span region.now) (point c)) (all_of planes.now) }
 {

@@ -1,5 +1,6 @@
 //! The forest of a whole matrix: the levels that `support_forest` gives it at once are those that it has voxel by voxel.
-ghost use Rattle.std.specs.Prelude.{◌≡◌, ◌<◌, false, IfOk};
+ghost use Rattle.std.specs.Prelude.{◌≡◌, false, IfOk};
+ghost use Rattle.vox_geom.specs.Counting.{IsBlankOf};
 
 use crate::common::{at, set};
 use crate::edits::{add_void, assert_floating, assert_level, inside};
@@ -85,9 +86,7 @@ fn assert_same<L: Ledger>(rt: &impl Abort, one: &Forest, other: &Forest, steps: 
 
 /// The forest of a matrix at once has the levels that it has voxel by voxel.
 fn arm_at_once<L: Ledger>(rt: &impl Abort, blank: Blank, alloc: Global) -> Result<(), ForestFault>
-    requires name { blank.name ≡ L.name }
-    requires parts { blank.parts ≡ L.parts }
-    requires some { 0 < L.parts }
+    requires blank { IsBlankOf blank L.name L.parts }
 {
     let mut steps: Steps<L> = Steps::new(blank);
     let Ok(mut planes) = Planes::empty(alloc, 5) else {

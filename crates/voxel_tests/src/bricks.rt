@@ -1,5 +1,6 @@
 //! Slots of `brick_arena`: that they can be had, which no clause says, and the worked example of seventy of them.
-ghost use Rattle.std.specs.Prelude.{◌≡◌, ℕ, ◌<◌, ◌≢◌, slice_index, IfOk, OnOk};
+ghost use Rattle.std.specs.Prelude.{ℕ, ◌<◌, ◌≢◌, slice_index, IfOk, OnOk};
+ghost use Rattle.vox_geom.specs.Counting.{IsBlankOf};
 ghost use Rattle.brick_arena.specs.Slots.{IsLive};
 
 use brick_arena::{Bricks, MOST_SLOTS};
@@ -79,9 +80,7 @@ fn assert_marked<L: Ledger>(
 
 /// Of seventy slots the fourth and the sixty-ninth are given back, and two are taken.
 fn reused<L: Ledger>(rt: &impl Abort, blank: Blank, alloc: Global) -> Result<(), Memory>
-    requires name { blank.name ≡ L.name }
-    requires parts { blank.parts ≡ L.parts }
-    requires some { 0 < L.parts }
+    requires blank { IsBlankOf blank L.name L.parts }
 {
     let mut steps: Steps<L> = Steps::new(blank);
     let mut bricks = Bricks::new(alloc);

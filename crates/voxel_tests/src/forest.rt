@@ -1,5 +1,6 @@
 //! Levels of `support_forest` that edits change: that the calls succeed, which no clause says, and worked levels.
-ghost use Rattle.std.specs.Prelude.{◌≡◌, ◌<◌, false, IfOk};
+ghost use Rattle.std.specs.Prelude.{◌≡◌, false, IfOk};
+ghost use Rattle.vox_geom.specs.Counting.{IsBlankOf};
 ghost use Rattle.vox_geom.specs.Space.{IsInSpace};
 
 use crate::common::at;
@@ -81,9 +82,7 @@ fn without_posts<L: Ledger>(
 
 /// The ring keeps its levels by the other post, and floats without both.
 fn ring_on_posts<L: Ledger>(rt: &impl Abort, blank: Blank, alloc: Global) -> Result<(), ForestFault>
-    requires name { blank.name ≡ L.name }
-    requires parts { blank.parts ≡ L.parts }
-    requires some { 0 < L.parts }
+    requires blank { IsBlankOf blank L.name L.parts }
 {
     let mut steps: Steps<L> = Steps::new(blank);
     let Ok(mut forest) = Forest::empty(alloc, 5) else {
@@ -140,9 +139,7 @@ fn without_pairs<L: Ledger>(
 
 /// The ring on both posts, from which voxels go two at once.
 fn pairs_go<L: Ledger>(rt: &impl Abort, blank: Blank, alloc: Global) -> Result<(), ForestFault>
-    requires name { blank.name ≡ L.name }
-    requires parts { blank.parts ≡ L.parts }
-    requires some { 0 < L.parts }
+    requires blank { IsBlankOf blank L.name L.parts }
 {
     let mut steps: Steps<L> = Steps::new(blank);
     let Ok(mut forest) = Forest::empty(alloc, 5) else {
@@ -180,9 +177,7 @@ fn voxels_at_once<L: Ledger>(
     blank: Blank,
     alloc: Global,
 ) -> Result<(), ForestFault>
-    requires name { blank.name ≡ L.name }
-    requires parts { blank.parts ≡ L.parts }
-    requires some { 0 < L.parts }
+    requires blank { IsBlankOf blank L.name L.parts }
 {
     let mut steps: Steps<L> = Steps::new(blank);
     let Ok(mut forest) = Forest::empty(alloc, 5) else {
@@ -203,9 +198,7 @@ fn assert_two_slots(rt: &impl Abort, forest: &Forest, one: Coord, other: Coord)
 
 /// Two bricks have two slots, and their words say levels and parents.
 fn two_bricks<L: Ledger>(rt: &impl Abort, blank: Blank, alloc: Global) -> Result<(), ForestFault>
-    requires name { blank.name ≡ L.name }
-    requires parts { blank.parts ≡ L.parts }
-    requires some { 0 < L.parts }
+    requires blank { IsBlankOf blank L.name L.parts }
 {
     let mut steps: Steps<L> = Steps::new(blank);
     let Ok(mut forest) = Forest::empty(alloc, 9) else {

@@ -1,5 +1,6 @@
 //! Voxels of `vox_planes` by their places, planes whose voxels stand on one another, and lists of changes.
-ghost use Rattle.std.specs.Prelude.{◌≡◌, ◌+◌, ◌<◌, ◌≤◌};
+ghost use Rattle.std.specs.Prelude.{◌+◌, ◌≤◌};
+ghost use Rattle.vox_geom.specs.Counting.{IsBlankOf};
 ghost use Rattle.nano_spec.specs.Model.{volume};
 
 use crate::common::{at, set};
@@ -29,9 +30,7 @@ fn assert_places<L: Ledger>(
 
 /// Voxels by their places, across the ends of rows and of a wall.
 fn placed<L: Ledger>(rt: &impl Abort, blank: Blank, alloc: Global) -> Result<(), Memory>
-    requires name { blank.name ≡ L.name }
-    requires parts { blank.parts ≡ L.parts }
-    requires some { 0 < L.parts }
+    requires blank { IsBlankOf blank L.name L.parts }
 {
     let mut steps: Steps<L> = Steps::new(blank);
     let mut planes = Planes::empty(alloc, 70)?;
@@ -72,9 +71,7 @@ fn assert_heap<L: Ledger>(rt: &impl Abort, planes: &Planes, heap: bool, steps: &
 
 /// Voxels that stand on one another, one that floats, and one that is held from beside alone.
 fn heaps<L: Ledger>(rt: &impl Abort, blank: Blank, alloc: Global) -> Result<(), Memory>
-    requires name { blank.name ≡ L.name }
-    requires parts { blank.parts ≡ L.parts }
-    requires some { 0 < L.parts }
+    requires blank { IsBlankOf blank L.name L.parts }
 {
     let mut steps: Steps<L> = Steps::new(blank);
     let mut planes = Planes::empty(alloc, 70)?;

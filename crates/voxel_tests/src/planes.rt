@@ -1,5 +1,6 @@
 //! Planes of `vox_planes` with ample memory, at a small resolution and at one whose rows take more than a word.
-ghost use Rattle.std.specs.Prelude.{◌≡◌, ◌<◌, IfOk};
+ghost use Rattle.std.specs.Prelude.{◌≡◌, IfOk};
+ghost use Rattle.vox_geom.specs.Counting.{IsBlankOf};
 ghost use Rattle.vox_geom.specs.Space.{IsInSpace};
 
 use crate::common::{at, set};
@@ -140,9 +141,7 @@ fn assert_lists<L: Ledger>(
 
 /// Two full voxels at resolution 3, and a copy that differs.
 fn small<L: Ledger>(rt: &impl Abort, blank: Blank, alloc: Global) -> Result<(), Memory>
-    requires name { blank.name ≡ L.name }
-    requires parts { blank.parts ≡ L.parts }
-    requires some { 0 < L.parts }
+    requires blank { IsBlankOf blank L.name L.parts }
 {
     let mut steps: Steps<L> = Steps::new(blank);
     let planes = two_voxels(rt, alloc, &mut steps)?;
@@ -206,9 +205,7 @@ fn assert_wide_lists<L: Ledger>(
 
 /// That row, a copy that differs, and regions of it that become full and void.
 fn wide<L: Ledger>(rt: &impl Abort, blank: Blank, alloc: Global) -> Result<(), Memory>
-    requires name { blank.name ≡ L.name }
-    requires parts { blank.parts ≡ L.parts }
-    requires some { 0 < L.parts }
+    requires blank { IsBlankOf blank L.name L.parts }
 {
     let mut steps: Steps<L> = Steps::new(blank);
     let mut planes = wide_row(rt, alloc, &mut steps)?;

@@ -1,5 +1,5 @@
 //! Rows of a table: words over known files, and what they answer.
-ghost use Rattle.std.specs.Prelude.{◌≡◌, ◌<◌};
+ghost use Rattle.vox_geom.specs.Counting.{IsBlankOf};
 ghost use Rattle.nanobot_words.specs.Rows.{MayRead, MayStore, texts};
 
 use nanobot_app::{Status, drive};
@@ -89,9 +89,7 @@ fn counted<D: Depot, O: Sink, L: Ledger>(
     out: &mut O,
     blank: Blank,
 ) -> Status
-    requires name { blank.name ≡ L.name }
-    requires parts { blank.parts ≡ L.parts }
-    requires some { 0 < L.parts }
+    requires blank { IsBlankOf blank L.name L.parts }
     requires may_fetch { MayRead D.may_fetch (texts words.now) }
     requires may_store { MayStore D.may_store (texts words.now) }
 {

@@ -48,9 +48,7 @@ impl Machine {
         fault: &mut StepFault,
         steps: &mut Steps<L>,
     ) -> bool
-        requires stands { self.old.spent ≡ false }
-        requires one { length self.old.state.bots ≡ 1 }
-        requires held { self.old.state.harmonics ≡ Low → FirstUngrounded self.old.state.matrix None }
+        requires alone { IsSolo self.old }
         requires steps { self.old.steps < 1073741824 }
         ensures stepped { Stepped self.old self.new (SMove d ∷ []) (answer_of result self.new.state fault.new)
             steps.old steps.new }
@@ -65,9 +63,7 @@ impl Machine {
     /// The step of the only bot by a straight move whose way is seen to be void at once: whether it was made. Otherwise all stays.
     #[inline(always)]
     fn move_at_once<L: Ledger>(&mut self, d: Long, steps: &mut Steps<L>) -> bool
-        requires stands { self.old.spent ≡ false }
-        requires one { length self.old.state.bots ≡ 1 }
-        requires held { self.old.state.harmonics ≡ Low → FirstUngrounded self.old.state.matrix None }
+        requires alone { IsSolo self.old }
         requires steps { self.old.steps < 1073741824 }
         ensures made { result ≡ true → (fault : Fault)
             → Stepped self.old self.new (SMove d ∷ []) (answer_of true self.new.state fault) steps.old steps.new }
@@ -88,9 +84,7 @@ impl Machine {
     /// The step of the only bot by a straight move, after a try at once.
     #[inline(never)]
     fn move_far<L: Ledger>(&mut self, d: Long, fault: &mut StepFault, steps: &mut Steps<L>) -> bool
-        requires stands { self.old.spent ≡ false }
-        requires one { length self.old.state.bots ≡ 1 }
-        requires held { self.old.state.harmonics ≡ Low → FirstUngrounded self.old.state.matrix None }
+        requires alone { IsSolo self.old }
         requires steps { self.old.steps < 1073741824 }
         ensures stepped { (began : ℕ)
             → steps.old ≤ began + volatile_total self.old.state.matrix (acts self.old.state.bots (SMove d ∷ []))
@@ -112,9 +106,7 @@ impl Machine {
     /// whether it was made. Otherwise all stays.
     #[inline(always)]
     fn edit_at_once<const FULL: bool, L: Ledger>(&mut self, d: Near, steps: &mut Steps<L>) -> bool
-        requires stands { self.old.spent ≡ false }
-        requires one { length self.old.state.bots ≡ 1 }
-        requires held { self.old.state.harmonics ≡ Low → FirstUngrounded self.old.state.matrix None }
+        requires alone { IsSolo self.old }
         requires steps { self.old.steps < 1073741824 }
         ensures made { result ≡ true → (fault : Fault)
             → Stepped self.old self.new (edit_of FULL d ∷ []) (answer_of true self.new.state fault) steps.old
@@ -201,9 +193,7 @@ impl Machine {
         fault: &mut StepFault,
         steps: &mut Steps<L>,
     ) -> bool
-        requires stands { self.old.spent ≡ false }
-        requires one { length self.old.state.bots ≡ 1 }
-        requires held { self.old.state.harmonics ≡ Low → FirstUngrounded self.old.state.matrix None }
+        requires alone { IsSolo self.old }
         requires steps { self.old.steps < 1073741824 }
         ensures { Stepped self.old self.new (edit_of FULL d ∷ []) (answer_of result self.new.state fault.new)
             steps.old steps.new }

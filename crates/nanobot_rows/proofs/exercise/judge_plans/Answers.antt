@@ -1,15 +1,23 @@
-use Rattle.std.proofs.Common.{◌≡◌, ap}
+use Rattle.std.proofs.Common.{rules, ◌≡◌, ap}
 use Rattle.nano_spec.specs.Matrix.{Matrix}
 use Rattle.plan_choice.specs.Planners.{IsGroupPlan, IsLayerPlan}
 use Rattle.plan_choice.proofs.Empty.{legal_where_empty}
 use Rattle.nanobot_rows.proofs.Exercised.{costs_of, exercised}
 use Rattle.nanobot_rows.proofs.exercise.judge_plans.Goals as goal
 
-pub choose_layer_plan-requires-clause-source : goal.choose_layer_plan-requires-clause-source
-choose_layer_plan-requires-clause-source g c = legal_where_empty c.in_ok-nothing.nothing c.args.resolution (c.in_ok-nothing.ensures {u = tt}).value
+pub choose_layer_plan-requires : goal.choose_layer_plan-requires
+choose_layer_plan-requires g c = record {
+  source = legal_where_empty c.in_ok-nothing.nothing c.args.resolution (c.in_ok-nothing.ensures {u = tt}).value;
+  target = search rules;
+  same = search rules;
+}
 
-pub choose_group_plan-requires-clause-source : goal.choose_group_plan-requires-clause-source
-choose_group_plan-requires-clause-source g c = legal_where_empty c.in_ok-nothing.nothing c.args.resolution (c.in_ok-nothing.ensures {u = tt}).value
+pub choose_group_plan-requires : goal.choose_group_plan-requires
+choose_group_plan-requires g c = record {
+  source = legal_where_empty c.in_ok-nothing.nothing c.args.resolution (c.in_ok-nothing.ensures {u = tt}).value;
+  target = search rules;
+  same = search rules;
+}
 
 pub returns : goal.returns
 returns g c =

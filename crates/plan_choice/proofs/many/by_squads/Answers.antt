@@ -1,5 +1,11 @@
+use Rattle.std.proofs.Common.{rules}
 use Rattle.nano_spec.proofs.EmptyModel.{empty_is_grounded}
 use Rattle.plan_choice.proofs.many.by_squads.Goals as goal
 
-pub cheapest-requires-clause-grounded : goal.cheapest-requires-clause-grounded
-cheapest-requires-clause-grounded c = empty_is_grounded c.in_ok-nothing.nothing c.resolution.result c.in_ok-nothing.ensures.value
+pub cheapest-requires : goal.cheapest-requires
+cheapest-requires c = record {
+  grounded = empty_is_grounded c.in_ok-nothing.nothing c.resolution.result c.in_ok-nothing.ensures.value;
+  resolution = search rules;
+  seeds = search rules;
+  accepted = search rules;
+}

@@ -10,8 +10,18 @@ use Rattle.swarm_planner.specs.Bounds.{width}
 use Rattle.plan_choice.proofs.Chosen.{alone_stays}
 use Rattle.plan_choice.proofs.plans.swarm_plan.Goals as goal
 
-pub lower-requires-clause-grounded : goal.lower-requires-clause-grounded
-lower-requires-clause-grounded c = empty_is_grounded c.in_ok-nothing.nothing c.resolution-2.result c.in_ok-nothing.ensures.value
+pub lower-requires : goal.lower-requires
+lower-requires c =
+    let target = c.args.target.now in
+    let plan = c.in_ok-plan-2.plan in
+    let void : c.in_ok-nothing.nothing ≡ empty target.resolution = c.in_ok-nothing.ensures.value ∙ ap empty c.resolution-2.ensures.value in
+    record {
+      grounded = empty_is_grounded c.in_ok-nothing.nothing c.resolution-2.result c.in_ok-nothing.ensures.value;
+      resolution = search rules;
+      seeds = search rules;
+      accepted = subst (λ (m : Matrix). IsAccepted m target plan.commands c.light-profile.result plan.energy plan.steps) (sym void)
+          (subst (λ (p : Profile). IsAccepted (empty target.resolution) target plan.commands p plan.energy plan.steps) (sym c.light-profile.ensures) c.in_ok-plan-2.ensures.stands.accepted);
+    }
 
 pub returns : goal.returns
 returns c =

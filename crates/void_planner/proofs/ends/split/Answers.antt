@@ -14,12 +14,12 @@ split_all-requires-clause-commands c = sym (ap (λ (bs : List Bot). length bs) c
 pub split_all-requires-clause-free : goal.split_all-requires-clause-free
 split_all-requires-clause-free c =
     let tape = c.args.tape.now in
-    split_free tape (spot tape.bots) c.ahead.result c.requires.bots c.requires.full c.requires.stand c.ahead.ensures
+    split_free tape (spot tape.bots) c.ahead.result c.requires.bots c.requires.can.full c.requires.can.stand c.ahead.ensures
 
 pub returns : goal.returns
 returns c =
     let tape = c.args.tape.now in
     let commands_here = Fission c.ahead.result 1 ∷ [] in
     on_ok_weaker c.split_all.result
-    (λ (s : AllStep tape c.split_all.new.self commands_here tape.matrix tape.harmonics (bots_split tape.bots commands_here)). becomes tape c.split_all.new.self commands_here (bots_split tape.bots commands_here) (two (spot tape.bots)) 1 refl (split_makes tape (spot tape.bots) c.ahead.result c.requires.bots c.requires.full c.requires.stand c.ahead.ensures) c.requires.high c.requires.full s)
+    (λ (s : AllStep tape c.split_all.new.self commands_here tape.matrix tape.harmonics (bots_split tape.bots commands_here)). becomes tape c.split_all.new.self commands_here (bots_split tape.bots commands_here) (two (spot tape.bots)) 1 refl (split_makes tape (spot tape.bots) c.ahead.result c.requires.bots c.requires.can.full c.requires.can.stand c.ahead.ensures) c.requires.can.high c.requires.can.full s)
     c.split_all.ensures.ok

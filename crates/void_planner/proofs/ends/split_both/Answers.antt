@@ -14,12 +14,12 @@ split_all-requires-clause-commands c = sym (ap (λ (bs : List Bot). length bs) c
 pub split_all-requires-clause-free : goal.split_all-requires-clause-free
 split_all-requires-clause-free c =
     let tape = c.args.tape.now in
-    split_both_free tape (spot tape.bots) c.ahead.result c.ahead-2.result c.requires.bots c.requires.full c.requires.stand c.ahead.ensures c.ahead-2.ensures
+    split_both_free tape (spot tape.bots) c.ahead.result c.ahead-2.result c.requires.bots c.requires.can.full c.requires.can.stand c.ahead.ensures c.ahead-2.ensures
 
 pub returns : goal.returns
 returns c =
     let tape = c.args.tape.now in
     let commands_here = Fission c.ahead.result 0 ∷ Fission c.ahead-2.result 0 ∷ [] in
     on_ok_weaker c.split_all.result
-    (λ (s : AllStep tape c.split_all.new.self commands_here tape.matrix tape.harmonics (bots_split tape.bots commands_here)). becomes tape c.split_all.new.self commands_here (bots_split tape.bots commands_here) (four (spot tape.bots) 1 1) 2 refl (split_both_makes tape (spot tape.bots) c.ahead.result c.ahead-2.result c.requires.bots c.requires.full c.requires.stand c.ahead.ensures c.ahead-2.ensures) c.requires.high c.requires.full s)
+    (λ (s : AllStep tape c.split_all.new.self commands_here tape.matrix tape.harmonics (bots_split tape.bots commands_here)). becomes tape c.split_all.new.self commands_here (bots_split tape.bots commands_here) (four (spot tape.bots) 1 1) 2 refl (split_both_makes tape (spot tape.bots) c.ahead.result c.ahead-2.result c.requires.bots c.requires.can.full c.requires.can.stand c.ahead.ensures c.ahead-2.ensures) c.requires.can.high c.requires.can.full s)
     c.split_all.ensures.ok

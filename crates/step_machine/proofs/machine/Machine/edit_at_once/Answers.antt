@@ -29,11 +29,11 @@ settled g c = subst (λ (k : Command). IsSettled c.self.inside.system (k ∷ [])
 changed : (g : Over) (c : goal.After-self-1 g)
     → c.edit_alone.new.self ≡ after c.self.inside.system (edit_of (full_of g) c.args.d ∷ [])
 changed g c =
-    let only = only_bot c.self.inside.system.bots (ap (λ (v : Situation). length v.state.bots) c.self.view_is ∙ c.requires.one) in
+    let only = only_bot c.self.inside.system.bots (ap (λ (v : Situation). length v.state.bots) c.self.view_is ∙ c.requires.alone.one) in
     c.edit_alone.ensures.value only.0 c.args.d only.1 (c.in-Ok.ensures.named only.0 only.1)
 
 one_left : (g : Over) (c : goal.After-self-1 g) → length c.edit_alone.new.self.bots ≡ 1
-one_left g c = ap length c.edit_alone.ensures.bots ∙ (ap (λ (v : Situation). length v.state.bots) c.self.view_is ∙ c.requires.one)
+one_left g c = ap length c.edit_alone.ensures.bots ∙ (ap (λ (v : Situation). length v.state.bots) c.self.view_is ∙ c.requires.alone.one)
 
 pub invariant_of-self-2 : goal.invariant_of-self-2
 invariant_of-self-2 g c =
@@ -50,7 +50,7 @@ returns-clause-made g c = λ _ fault.
     let commands : List Command = edit_of (full_of g) c.args.d ∷ [] in
     let settled_there = settled g c in
     let formed = subst (λ (k : Command). (t : State) (step : ℕ) → IsWellFormed state → Next state (k ∷ []) step (Goes t) → IsWellFormed t) c.edit.ensures c.recall_step.ensures.well_formed in
-    made state commands c.self.inside.steps c.self.inside.spent c.args.self.now c.self.view_is (ap (λ (v : Situation). v.spent) c.self.view_is ∙ c.requires.stands) c.args.steps.now
+    made state commands c.self.inside.steps c.self.inside.spent c.args.self.now c.self.view_is (ap (λ (v : Situation). v.spent) c.self.view_is ∙ c.requires.alone.stands) c.args.steps.now
     c.args.steps.now (keeps g c) (omega arith)
     c.edit_alone.new.self c.settle_at_once.new.forest (record { energy = c.edit_alone.new.self.energy; halted = false }) c.settle_at_once.new.steps c.settle_at_once.new.steps settled_there (changed g c) refl (bots_left c.edit_alone.new.self.bots (one_left g c))
     (formed_on state c.edit_alone.new.self commands (c.self.inside.steps + 1) formed settled_there.goes (changed g c))

@@ -15,10 +15,10 @@ use Rattle.step_machine.proofs.machine.Machine.move_at_once.Goals as goal
 settled : (g : Over) (c : goal.After-self-1 g) → IsSettled c.self.inside.system (SMove c.args.d ∷ [])
     (c.self.inside.steps + 1) c.self.inside.forest c.move_at_once.new.steps c.move_at_once.new.steps
 settled g c =
-    let stands : c.self.inside.spent ≡ false = ap (λ (v : Situation). v.spent) c.self.view_is ∙ c.requires.stands in
-    still c.self.inside.system c.args.d (ap (λ (v : Situation). length v.state.bots) c.self.view_is ∙ c.requires.one) c.recall.ensures.whole (c.self.inside.steps + 1) c.self.inside.forest c.move_at_once.new.steps
+    let stands : c.self.inside.spent ≡ false = ap (λ (v : Situation). v.spent) c.self.view_is ∙ c.requires.alone.stands in
+    still c.self.inside.system c.args.d (ap (λ (v : Situation). length v.state.bots) c.self.view_is ∙ c.requires.alone.one) c.recall.ensures.whole (c.self.inside.steps + 1) c.self.inside.forest c.move_at_once.new.steps
     (c.if-not-move_at_once.ensures.keeps refl (c.self.inside.steps + 1))
-    (subst (λ (v : Situation). v.state.harmonics ≡ Low → FirstUngrounded v.state.matrix None) (sym c.self.view_is) c.requires.held)
+    (subst (λ (v : Situation). v.state.harmonics ≡ Low → FirstUngrounded v.state.matrix None) (sym c.self.view_is) c.requires.alone.held)
     (c.self.invariant.tied stands) (c.self.invariant.stands stands)
 
 pub invariant_of-self-2 : goal.invariant_of-self-2
@@ -31,7 +31,7 @@ pub returns-clause-made : goal.returns-clause-made
 returns-clause-made g c = λ _ fault.
     let state : State = c.self.inside.system in
     let settled_there = settled g c in
-    made state (SMove c.args.d ∷ []) c.self.inside.steps c.self.inside.spent c.args.self.now c.self.view_is (ap (λ (v : Situation). v.spent) c.self.view_is ∙ c.requires.stands) c.args.steps.now
+    made state (SMove c.args.d ∷ []) c.self.inside.steps c.self.inside.spent c.args.self.now c.self.view_is (ap (λ (v : Situation). v.spent) c.self.view_is ∙ c.requires.alone.stands) c.args.steps.now
     c.move_at_once.new.steps (c.if-not-move_at_once.ensures.keeps refl (c.self.inside.steps + 1)) (omega (arith, c.move_at_once.ensures.touches))
     c.move_at_once.new.self c.self.inside.forest (record { energy = c.move_at_once.new.self.energy; halted = false }) c.move_at_once.new.steps c.move_at_once.new.steps settled_there (c.if-not-move_at_once.ensures.moved refl) refl (bots_left c.move_at_once.new.self.bots (c.if-not-move_at_once.ensures.one refl))
     (formed_on state c.move_at_once.new.self (SMove c.args.d ∷ []) (c.self.inside.steps + 1) c.recall_step.ensures.well_formed settled_there.goes (c.if-not-move_at_once.ensures.moved refl))

@@ -1,0 +1,10 @@
+-- The models that a plan leads from and to.
+use Rattle.std.specs.Prelude.{◌≡◌}
+use Rattle.nano_spec.specs.Legal.{IsLegal}
+use Rattle.nano_spec.specs.Matrix.{Matrix}
+
+-- both models are legal, and of one resolution
+pub record AreLegalModels (s t : Matrix) : Type 0 where
+  pub source : IsLegal s
+  pub target : IsLegal t
+  pub same : s.resolution ≡ t.resolution
