@@ -28,7 +28,7 @@ mod parts;
 use crate::known::recall_all;
 use crate::moves::{move_bots, target};
 use crate::prices::{add_cost, cost_of_moves, upkeep_at};
-use crate::turns::{Turn, Turns, list_turns, turn_of};
+use crate::turns::{Turn, Turns, list_lone_turns, list_turns, turn_of};
 use crate::voxels::pay_turn;
 use alone::{cost_of_edit, cost_of_move};
 use bot_crew::{Crew, crew_is_ready, group_is_replaced};
@@ -220,6 +220,10 @@ impl System {
         ensures { AreTurns (acts self.now.bots commands.now) (leaders (acts self.now.bots commands.now)) turns.new }
     {
         let bots = self.crew.bots();
+        if all_act_alone(commands) {
+            list_lone_turns(&mut turns.turns, bots);
+            return;
+        }
         let numbers = number_groups(bots, commands);
         list_turns(&mut turns.turns, bots, numbers.as_slice());
     }

@@ -167,7 +167,7 @@ pub(crate) fn turn_of(turns: &[Turn], leader: u8) -> Turn
 }
 
 /// The turns of bots each of which is a group of its own.
-fn list_lone_turns(turns: &mut ArrayVec<Turn, MOST_BOTS>, bots: &[Bot])
+pub(crate) fn list_lone_turns(turns: &mut ArrayVec<Turn, MOST_BOTS>, bots: &[Bot])
     requires { length bots.now ≤ 40 }
     ensures { (commands : List Command) → length commands ≡ length bots.now → AreLone (acts bots.now commands)
         → AreTurns (acts bots.now commands) (leaders (acts bots.now commands)) turns.new.items }
