@@ -9,6 +9,7 @@ use nano_spec::Command;
 use vox_geom::{Diff, Far, Long, Near, Short};
 
 /// The command's spelling.
+#[inline(always)]
 pub fn encode_one(command: Command) -> ArrayVec<u8, 4>
     ensures spelling { result.items ≡ spelling command }
     ensures is_command { IsCommand command }
