@@ -43,12 +43,31 @@ pub record IsPrepared (s : State) (all : List Command) (taken : List Turn) (list
   pub stands : forest.spent ≡ false
   pub tied : forest.matrix ≡ s.matrix
 
--- the step is one of the only bot, which fills the voxel at the coordinate, or else voids it
-pub record IsOneEdit (s : State) (commands : List Command) (d : Diff) (at : Coord) (full : Bool) : Type 0 where
+-- the step breaks no rule at its start, and the turns are those of its leaders
+pub record CanTakeTurns (s : State) (commands : List Command) (taken : List Turn) : Type 0 where
+  pub judged : (step : ℕ) × (broken s commands step ≡ None)
+  pub turns : AreTurns (acts s.bots commands) (leaders (acts s.bots commands)) taken
+
+-- the step breaks no rule at its start, and the forest is one of the state's matrix
+pub record CanRefit (s : State) (commands : List Command) (forest : Standing) : Type 0 where
+  pub judged : (step : ℕ) × (broken s commands step ≡ None)
+  pub stands : forest.spent ≡ false
+  pub tied : forest.matrix ≡ s.matrix
+
+-- the step breaks no rule at its start, and what its groups change may be listed and made
+pub record CanBeSettled (s : State) (commands : List Command) (step : ℕ) (taken : List Turn) (list : Changes) (forest : Standing) : Type 0 where
+  pub judged : broken s commands step ≡ None
+  pub few : length commands ≤ length s.bots
+  pub prepared : IsPrepared s commands taken list forest
+
+-- the step is one of the only bot, which fills the voxel at the coordinate, or else voids it, and the forest is one of the state's matrix
+pub record CanEditOne (s : State) (commands : List Command) (d : Diff) (at : Coord) (full : Bool) (forest : Standing) : Type 0 where
   pub one : length s.bots ≡ 1
   pub command : commands ≡ edit_of full d ∷ []
   pub named : (b : Bot) → s.bots ≡ b ∷ [] → point at ≡ plus (point b.pos) d
   pub within : IsInSpace s.matrix.resolution at
+  pub stands : forest.spent ≡ false
+  pub tied : forest.matrix ≡ s.matrix
 
 -- the region is what the act voids, and the act fills nothing
 pub record IsVoidedRegion (m : Matrix) (a : Act) (k : Corners) : Type 0 where

@@ -1,5 +1,5 @@
 //! Which voxels the groups of a step change.
-ghost use Rattle.std.specs.Prelude.{◌≡◌, ℕ, ◌+◌, ◌≤◌, ◌&&◌, ◌++◌, filter, length, IsTrue, None};
+ghost use Rattle.std.specs.Prelude.{◌≡◌, ◌+◌, ◌≤◌, ◌&&◌, ◌++◌, filter, length, IsTrue};
 ghost use Rattle.std.specs.List.{list_any};
 ghost use Rattle.vox_geom.specs.Point.{point};
 ghost use Rattle.vox_geom.specs.Region.{is_within, size, span};
@@ -7,10 +7,9 @@ ghost use Rattle.vox_geom.specs.Space.{IsInSpace};
 ghost use Rattle.nano_spec.specs.Act.{acts, stays_in_space};
 ghost use Rattle.nano_spec.specs.Group.{leaders};
 ghost use Rattle.nano_spec.specs.Matrix.{all_of};
-ghost use Rattle.nano_spec.specs.Rules.{broken as broken_of};
 ghost use Rattle.vox_planes.specs.Voxel.{is_state};
 ghost use Rattle.step_machine.specs.Edits.{cells_of, cells_of_all, edit_count, edits_total, is_change};
-ghost use Rattle.system_state.specs.Turns.{AreTurns};
+ghost use Rattle.step_machine.specs.Settling.{CanTakeTurns};
 ghost use Rattle.step_groups.specs.Judging.{act};
 
 use nano_spec::{Bot, Command};
@@ -95,9 +94,7 @@ pub(crate) fn list_changes<L: Ledger>(
     list: &mut ChangeList,
     steps: &mut Steps<L>,
 )
-    requires judged { (step : ℕ) × (broken_of system.now commands.now step ≡ None) }
-    requires turns { AreTurns (acts system.now.bots commands.now) (leaders (acts system.now.bots commands.now))
-        turns.now }
+    requires can { CanTakeTurns system.now commands.now turns.now }
     requires room { edits_total system.now.matrix full (leaders (acts system.now.bots commands.now)) ≤ list.old.spare }
     ensures items { list.new.items
         ≡ list.old.items ++ cells_of_all system.now.matrix full (leaders (acts system.now.bots commands.now)) }

@@ -1,13 +1,10 @@
 //! A step whose bots are all of one group, which voids a region: nothing else changes, and no voxel is listed.
-ghost use Rattle.std.specs.Prelude.{◌≡◌, ℕ, ◌≤◌, IsTrue, IfOk, IfErr, IfSome, None, false, count_by};
+ghost use Rattle.std.specs.Prelude.{◌≤◌, IsTrue, IfOk, IfErr, IfSome, count_by};
 ghost use Rattle.vox_geom.specs.Space.{IsInSpace};
-ghost use Rattle.nano_spec.specs.Act.{acts, stays_in_space};
-ghost use Rattle.nano_spec.specs.Group.{leaders};
-ghost use Rattle.nano_spec.specs.Rules.{broken as broken_of};
+ghost use Rattle.nano_spec.specs.Act.{stays_in_space};
 ghost use Rattle.step_groups.specs.Judging.{act};
-ghost use Rattle.system_state.specs.Turns.{AreTurns};
 ghost use Rattle.step_machine.specs.Edits.{is_edit};
-ghost use Rattle.step_machine.specs.Settling.{IsOnlyRegion, IsRefitted, IsVoidedRegion};
+ghost use Rattle.step_machine.specs.Settling.{CanRefit, CanTakeTurns, IsOnlyRegion, IsRefitted, IsVoidedRegion};
 
 use nano_spec::{Bot, Command};
 use std::sync::ledger::Ledger;
@@ -33,9 +30,7 @@ fn voided_region(matrix: &Planes, bot: &Bot, command: &Command) -> Option<Region
 
 /// The region that the only group of a step voids, where there is one group and it voids one.
 pub(crate) fn only_region(system: &System, commands: &[Command], turns: &Turns) -> Option<Region>
-    requires judged { (step : ℕ) × (broken_of system.now commands.now step ≡ None) }
-    requires turns { AreTurns (acts system.now.bots commands.now) (leaders (acts system.now.bots commands.now))
-        turns.now }
+    requires { CanTakeTurns system.now commands.now turns.now }
     ensures { IfSome result (IsOnlyRegion system.now commands.now) }
 {
     let matrix = system.matrix();
@@ -56,10 +51,8 @@ pub(crate) fn refit_region<L: Ledger>(
     forest: &mut Forest,
     steps: &mut Steps<L>,
 ) -> Result<(), Memory>
-    requires judged { (step : ℕ) × (broken_of system.now commands.now step ≡ None) }
+    requires can { CanRefit system.now commands.now forest.old }
     requires region { IsOnlyRegion system.now commands.now b.now }
-    requires stands { forest.old.spent ≡ false }
-    requires tied { forest.old.matrix ≡ system.now.matrix }
     ensures refitted { IfOk result (λ _. IsRefitted system.now commands.now forest.new steps.old steps.new) }
     ensures edits { IfErr result (λ _. 1 ≤ count_by is_edit commands.now) }
 {

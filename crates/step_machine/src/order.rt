@@ -1,13 +1,11 @@
 //! In which order the groups of a step are applied.
-ghost use Rattle.std.specs.Prelude.{◌≡◌, ℕ, ◌+◌, ◌≤◌, length, IfSome, IsPermutation, None};
+ghost use Rattle.std.specs.Prelude.{◌≡◌, ◌+◌, ◌≤◌, length, IfSome, IsPermutation};
 ghost use Rattle.nano_spec.specs.Act.{acts};
-ghost use Rattle.nano_spec.specs.Group.{leaders};
-ghost use Rattle.nano_spec.specs.Rules.{broken as broken_of};
 ghost use Rattle.nano_spec.specs.Serial.{leader_bids};
 ghost use Rattle.nano_spec.specs.Step.{after};
 ghost use Rattle.nano_spec.specs.Work.{volatile_total};
 ghost use Rattle.system_state.specs.Bounds.{IsPayable};
-ghost use Rattle.system_state.specs.Turns.{AreTurns};
+ghost use Rattle.step_machine.specs.Settling.{CanTakeTurns};
 
 use nano_spec::Command;
 use std::sync::ledger::Ledger;
@@ -22,9 +20,7 @@ pub(crate) fn take_turns<L: Ledger>(
     order: Option<&[u8]>,
     steps: &mut Steps<L>,
 )
-    requires judged { (step : ℕ) × (broken_of system.old commands.now step ≡ None) }
-    requires turns { AreTurns (acts system.old.bots commands.now) (leaders (acts system.old.bots commands.now))
-        turns.old }
+    requires can { CanTakeTurns system.old commands.now turns.old }
     requires commands { IfSome order (λ _. length commands.now ≡ length system.old.bots) }
     requires order { IfSome order (λ o. IsPermutation (leader_bids (acts system.old.bots commands.now)) o.now) }
     requires payable { IsPayable system.old.energy }

@@ -4,7 +4,6 @@ ghost use Rattle.nano_spec.specs.declared.system.Harmonics.TheVariants.{Low};
 ghost use Rattle.nano_spec.specs.Act.{acts};
 ghost use Rattle.nano_spec.specs.Cutting.{AreCommands};
 ghost use Rattle.nano_spec.specs.Grounded.{FirstUngrounded};
-ghost use Rattle.nano_spec.specs.Group.{leaders};
 ghost use Rattle.nano_spec.specs.Matrix.{is_full};
 ghost use Rattle.nano_spec.specs.Rules.{broken as broken_of};
 ghost use Rattle.nano_spec.specs.Step.{after};
@@ -12,9 +11,8 @@ ghost use Rattle.nano_spec.specs.Work.{volatile_total};
 ghost use Rattle.vox_planes.specs.Layers.{bit_index};
 ghost use Rattle.support_forest.specs.Standing.{AreAdded, AreRemoved, IsCheap, MayAdd, MayRemove};
 ghost use Rattle.step_machine.specs.Edits.{edits_of, is_edit};
-ghost use Rattle.step_machine.specs.Settling.{IsOneEdit, IsPaidBy, IsPrepared, IsRefitted, IsSettled, IsUnsettled};
+ghost use Rattle.step_machine.specs.Settling.{CanBeSettled, CanEditOne, CanRefit, CanTakeTurns, IsPaidBy, IsPrepared, IsRefitted, IsSettled, IsUnsettled};
 ghost use Rattle.step_machine.specs.Undoing.{IsUndoneBy, matrix_before, without_filled};
-ghost use Rattle.system_state.specs.Turns.{AreTurns};
 ghost use Rattle.step_machine.specs.declared.TheConstants.{MOST_CHANGED};
 
 use crate::MOST_CHANGED;
@@ -82,9 +80,7 @@ fn list_edits<L: Ledger>(
     list: &mut ChangeList,
     steps: &mut Steps<L>,
 ) -> usize
-    requires judged { (step : ℕ) × (broken_of system.now commands.now step ≡ None) }
-    requires turns { AreTurns (acts system.now.bots commands.now) (leaders (acts system.now.bots commands.now))
-        turns.now }
+    requires can { CanTakeTurns system.now commands.now turns.now }
     requires commands { AreCommands commands.now }
     requires room { MOST_CHANGED ≤ list.old.spare + length list.old.items }
     ensures items { list.new.items ≡ edits_of system.now commands.now true ++ edits_of system.now commands.now false }
@@ -111,11 +107,9 @@ fn refit_cells<L: Ledger>(
     forest: &mut Forest,
     steps: &mut Steps<L>,
 ) -> Result<(), Memory>
-    requires judged { (step : ℕ) × (broken_of system.now commands.now step ≡ None) }
+    requires can { CanRefit system.now commands.now forest.old }
     requires removed { removed.now ≡ edits_of system.now commands.now true }
     requires added { added.now ≡ edits_of system.now commands.now false }
-    requires stands { forest.old.spent ≡ false }
-    requires tied { forest.old.matrix ≡ system.now.matrix }
     ensures refitted { IfOk result
         (λ _. (before : ℕ) → steps.old ≤ before + volatile_total system.now.matrix (acts system.now.bots commands.now)
         → IsRefitted system.now commands.now forest.new before steps.new) }
@@ -214,9 +208,7 @@ fn refit_one<L: Ledger>(
     steps: &mut Steps<L>,
 ) -> Result<bool, Memory>
     requires judged { (step : ℕ) × (broken_of system.now commands.now step ≡ None) }
-    requires edit { IsOneEdit system.now commands.now d at full }
-    requires stands { forest.old.spent ≡ false }
-    requires tied { forest.old.matrix ≡ system.now.matrix }
+    requires edit { CanEditOne system.now commands.now d at full forest.old }
     ensures refitted { IfOk result
         (λ _. (before : ℕ) → steps.old ≤ before + 9 → IsRefitted system.now commands.now forest.new before steps.new) }
     ensures was { IfOk result (λ was. was ≡ is_full system.now.matrix at) }
@@ -269,10 +261,8 @@ pub(crate) fn settle_at_once<L: Ledger>(
     steps: &mut Steps<L>,
 ) -> Option<bool>
     requires judged { broken_of system.now commands.now step ≡ None }
-    requires edit { IsOneEdit system.now commands.now d at full }
+    requires edit { CanEditOne system.now commands.now d at full forest.old }
     requires bit { bit ≡ bit_index system.now.matrix.resolution at }
-    requires stands { forest.old.spent ≡ false }
-    requires tied { forest.old.matrix ≡ system.now.matrix }
     requires held { system.now.harmonics ≡ Low → FirstUngrounded system.now.matrix None }
     ensures settled { IfSome result (λ _. IsSettled system.now commands.now step forest.new steps.old steps.new) }
     ensures was { IfSome result (λ was. was ≡ is_full system.now.matrix at) }
@@ -353,9 +343,7 @@ pub(crate) fn settle<L: Ledger>(
     forest: &mut Forest,
     steps: &mut Steps<L>,
 ) -> Result<usize, StepFault>
-    requires judged { broken_of system.now commands.now step ≡ None }
-    requires few { length commands.now ≤ length system.now.bots }
-    requires prepared { IsPrepared system.now commands.now turns.now list.old forest.old }
+    requires { CanBeSettled system.now commands.now step turns.now list.old forest.old }
     ensures settled { IfOk result (λ _. IsSettled system.now commands.now step forest.new steps.old steps.new) }
     ensures unsettled { IfErr result (λ fault. IsUnsettled system.now commands.now step fault steps.old steps.new) }
     ensures memory { result ≡ Err StepFault.Memory → 1 ≤ count_by is_edit commands.now }
@@ -378,9 +366,7 @@ pub(crate) fn settle_unlisted<L: Ledger>(
     forest: &mut Forest,
     steps: &mut Steps<L>,
 ) -> Result<(), StepFault>
-    requires judged { broken_of system.now commands.now step ≡ None }
-    requires few { length commands.now ≤ length system.now.bots }
-    requires prepared { IsPrepared system.now commands.now turns.now list.old forest.old }
+    requires { CanBeSettled system.now commands.now step turns.now list.old forest.old }
     ensures settled { IfOk result (λ _. IsSettled system.now commands.now step forest.new steps.old steps.new) }
     ensures unsettled { IfErr result (λ fault. IsUnsettled system.now commands.now step fault steps.old steps.new) }
     ensures memory { result ≡ Err StepFault.Memory → 1 ≤ count_by is_edit commands.now }
@@ -405,9 +391,7 @@ pub(crate) fn settle_one<L: Ledger>(
     steps: &mut Steps<L>,
 ) -> Result<bool, StepFault>
     requires judged { broken_of system.now commands.now step ≡ None }
-    requires edit { IsOneEdit system.now commands.now d at full }
-    requires stands { forest.old.spent ≡ false }
-    requires tied { forest.old.matrix ≡ system.now.matrix }
+    requires edit { CanEditOne system.now commands.now d at full forest.old }
     ensures settled { IfOk result
         (λ _. (before : ℕ) → steps.old ≤ before + 9 → IsSettled system.now commands.now step forest.new before
         steps.new) }

@@ -1,7 +1,6 @@
 //! Notes of steps, by which they are taken back.
-ghost use Rattle.std.specs.Prelude.{◌≡◌, ◌+◌, ◌≤◌, length, take, drop, IfOk, IfErr, None};
-ghost use Rattle.nano_spec.specs.Rules.{broken as broken_of};
-ghost use Rattle.step_machine.specs.Settling.{IsPrepared, IsSettled, IsUnsettled};
+ghost use Rattle.std.specs.Prelude.{◌≡◌, ◌+◌, ◌≤◌, length, take, drop, IfOk, IfErr};
+ghost use Rattle.step_machine.specs.Settling.{CanBeSettled, IsSettled, IsUnsettled};
 ghost use Rattle.step_machine.specs.Undoing.{IsNote};
 ghost use Rattle.step_machine.specs.declared.TheConstants.{MOST_CHANGED};
 
@@ -83,9 +82,7 @@ pub(crate) fn settle_noted<L: Ledger>(
     steps: &mut Steps<L>,
 ) -> Result<Undo, StepFault>
     requires step { 1 ≤ step }
-    requires judged { broken_of system.now commands.now step ≡ None }
-    requires few { length commands.now ≤ length system.now.bots }
-    requires prepared { IsPrepared system.now commands.now turns.now list.old forest.old }
+    requires can { CanBeSettled system.now commands.now step turns.now list.old forest.old }
     ensures settled { IfOk result (λ _. IsSettled system.now commands.now step forest.new steps.old steps.new) }
     ensures unsettled { IfErr result (λ fault. IsUnsettled system.now commands.now step fault steps.old steps.new) }
     ensures note { IfOk result (λ undo. IsNote system.now commands.now step undo) }

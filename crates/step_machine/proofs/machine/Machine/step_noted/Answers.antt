@@ -41,22 +41,20 @@ returns-clause-undo g c =
 pub returns-then-self-clause-stepped : goal.returns-then-self-clause-stepped
 returns-then-self-clause-stepped g c = already_spent c.args.self.now c.args.commands.now c.args.steps.now (sym (ap (λ (v : Situation). v.spent) c.self.view_is) ∙ c.if-self.true)
 
-pub settle_noted-requires-clause-judged : goal.settle_noted-requires-clause-judged
-settle_noted-requires-clause-judged g c = sym c.judge.ensures.value ∙ c.in_default.is
-
-pub settle_noted-requires-clause-few : goal.settle_noted-requires-clause-few
-settle_noted-requires-clause-few g c =
+pub settle_noted-requires-clause-can : goal.settle_noted-requires-clause-can
+settle_noted-requires-clause-can g c =
     let same : length c.args.commands.now ≡ length c.self.inside.system.bots = c.requires.commands ∙ ap (λ (v : Situation). length v.state.bots) (sym c.self.view_is) in
-    omega (arith, same)
-
-pub settle_noted-requires-clause-prepared : goal.settle_noted-requires-clause-prepared
-settle_noted-requires-clause-prepared g c = record {
-  commands = c.recall_step.ensures.commands;
-  turns = c.in_default.ensures.turns;
-  room = c.self.invariant.room;
-  stands = c.self.invariant.stands c.if-self.false;
-  tied = c.self.invariant.tied c.if-self.false;
-}
+    record {
+      judged = sym c.judge.ensures.value ∙ c.in_default.is;
+      few = omega (arith, same);
+      prepared = record {
+        commands = c.recall_step.ensures.commands;
+        turns = c.in_default.ensures.turns;
+        room = c.self.invariant.room;
+        stands = c.self.invariant.stands c.if-self.false;
+        tied = c.self.invariant.tied c.if-self.false;
+      };
+    }
 
 pub invariant_of-self-2 : goal.invariant_of-self-2
 invariant_of-self-2 g c =
