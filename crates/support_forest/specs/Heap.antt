@@ -69,3 +69,11 @@ pub record IsSomeHeap (m : Matrix) (g : Grid) (p : ℕ) : Type 0 where
 -- the lowest bits of a number are the voxels from a place on
 abbrev pub AreBits : Matrix → ℕ → ℕ → ℕ → Type 0
 AreBits m from count bits = (k : ℕ) → k < count → bit bits k ≡ voxel_at m (from + k)
+
+-- the full ones of some voxels of a row in one brick may be stacked, by their bits: those before them are in the heap or listed
+pub record CanStackPart (m : Matrix) (g : Grid) (c : Coord) (n word : ℕ) (rest : List Coord) : Type 0 where
+  pub brick : c.z % 8 + n ≤ 8
+  pub within : IsInSpace m.resolution c
+  pub row : c.z + n ≤ m.resolution
+  pub bits : AreBits m (place m.resolution c) n word
+  pub heaped : IsHeaped m g (place m.resolution c) rest

@@ -1,12 +1,12 @@
 -- A voxel that becomes full beside others whose levels stay as they are.
-use Rattle.std.specs.Prelude.{◌≡◌, true, ℕ, ◌+◌, ◌*◌, ◌/◌, ◌%◌, ◌<◌, ◌≤◌, ◌⊎◌, Bool, List, MatchBool, length}
+use Rattle.std.specs.Prelude.{◌≡◌, true, ℕ, ◌+◌, ◌*◌, ◌/◌, ◌%◌, ◌<◌, ◌≤◌, ◌⊎◌, Bool, List, MatchBool, Some, length}
 use Rattle.std.specs.List.{Contains}
 use Rattle.vox_geom.specs.declared.coordinate.Coord.{Coord}
 use Rattle.vox_geom.specs.Space.{IsInSpace}
 use Rattle.support_forest.specs.declared.beside.Beside.{Beside}
 use Rattle.support_forest.specs.declared.place.Around.{Around}
 use Rattle.support_forest.specs.Directions.{Toward, AreBeside}
-use Rattle.support_forest.specs.Grid.{Grid, StandsIn, brick, brick_number, word_at, word_index}
+use Rattle.support_forest.specs.Grid.{Grid, StandsIn, brick, brick_number, slot_of, word_at, word_index}
 use Rattle.support_forest.specs.Waiting.{CanAdd}
 use Rattle.support_forest.specs.Words.{height, AreExact, IsSound}
 
@@ -109,6 +109,11 @@ pub record CanPlace (g : Grid) (c : Coord) : Type 0 where
   pub exact : AreExact g.resolution (word_at g)
   pub within : IsInSpace g.resolution c
   pub void : word_at g c ≡ 0
+
+-- the same of a voxel whose brick has the slot
+pub record CanPlaceIn (g : Grid) (c : Coord) (own : ℕ) : Type 0 where
+  pub can : CanPlace g c
+  pub slot : slot_of g c ≡ Some own
 
 -- the voxel became full, and the words are exact
 pub record HavePlaced (old new : Grid) (c : Coord) (before after : ℕ) : Type 0 where

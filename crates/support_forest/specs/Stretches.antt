@@ -72,6 +72,12 @@ pub record RowIsFree (w : Coord → ℕ) (c : Coord) (n : ℕ) : Type 0 where
   pub own : RowHangsNot w c n 6
   pub far : (p : Coord) → p.x ≡ c.x → p.y ≡ c.y → p.z ≡ c.z + n → HangsNot (w p) 5
 
+-- the row of the brick may become void: the words are exact, and nothing beside it hangs on it
+pub record CanClear (g : Grid) (slot : ℕ) (c : Coord) (n : ℕ) : Type 0 where
+  pub row : IsBrickRow g slot c n
+  pub exact : AreExact g.resolution (word_at g)
+  pub free : RowIsFree (word_at g) c n
+
 -- one voxel after another of a whole row got the word: the stores in between
 pub record AreWritten (old new : Grid) (c : Coord) (word : ℕ) : Type 0 where
   pub after : ℕ → Grid

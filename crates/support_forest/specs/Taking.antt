@@ -1,5 +1,5 @@
 -- A voxel that becomes void while the levels of the others stay as they are.
-use Rattle.std.specs.Prelude.{◌≡◌, ℕ, ◌+◌, ◌*◌, ◌%◌, ◌<◌, ◌≤◌, ◌⊎◌, Bool, List, MatchBool, length}
+use Rattle.std.specs.Prelude.{◌≡◌, ℕ, ◌+◌, ◌*◌, ◌%◌, ◌<◌, ◌≤◌, ◌⊎◌, Bool, false, List, MatchBool, length}
 use Rattle.std.specs.List.{Contains}
 use Rattle.vox_geom.specs.declared.coordinate.Coord.{Coord}
 use Rattle.support_forest.specs.declared.beside.Beside.{Beside}
@@ -24,6 +24,11 @@ pub record NoneHangs (b : Beside) : Type 0 where
 -- no voxel has its parent there
 abbrev pub IsNoParent : (Coord → ℕ) → Coord → Type 0
 IsNoParent w c = (q : Coord) → 8 ≤ w q → Toward (w q % 8) q c → ⊥
+
+-- where no is told, no voxel has its parent there; it takes six touches at most
+pub record TellsParent (told : Bool) (g : Grid) (c : Coord) (before after : ℕ) : Type 0 where
+  pub parent : told ≡ false → IsNoParent (word_at g) c
+  pub touches : after ≤ before + 6
 
 -- the words are exact, and the voxel is full
 pub record CanTake (g : Grid) (c : Coord) : Type 0 where

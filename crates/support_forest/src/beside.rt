@@ -1,9 +1,7 @@
 //! The words of all six neighbours of a voxel, and its own.
-ghost use Rattle.std.specs.Prelude.{◌≡◌, ◌+◌, ◌<◌, ◌≤◌, Some};
-ghost use Rattle.brick_arena.specs.Slots.{HasSlot, start_in_chunk as start_in_chunk_of};
-ghost use Rattle.vox_geom.specs.Space.{IsInSpace};
-ghost use Rattle.vox_geom.specs.declared.coordinate.Coord.{Coord};
-ghost use Rattle.support_forest.specs.Grid.{slot_of, word_at, word_index as word_index_of};
+ghost use Rattle.std.specs.Prelude.{◌≡◌, ◌+◌, ◌≤◌};
+ghost use Rattle.support_forest.specs.Access.{IsReadIn, LieInBrick, LieInSpace};
+ghost use Rattle.support_forest.specs.Grid.{word_at};
 ghost use Rattle.support_forest.specs.Placing.{AreBesideWords};
 
 use crate::cells::{Cells, word_index};
@@ -34,10 +32,7 @@ pub fn word_here<L: Ledger>(
     start: usize,
     steps: &mut Steps<L>,
 ) -> u32
-    requires within { IsInSpace cells.now.resolution c }
-    requires slot { slot_of cells.now c ≡ Some slot }
-    requires chunk { HasSlot cells.now.bricks slot chunk.now }
-    requires start { start ≡ start_in_chunk_of slot }
+    requires { IsReadIn cells.now c slot chunk.now start }
     ensures value { result ≡ word_at cells.now c }
     ensures touch { steps.new ≤ steps.old + 1 }
 {
@@ -48,8 +43,7 @@ pub fn word_here<L: Ledger>(
 /// The words of the neighbours of a voxel whose brick has no slot.
 #[inline(never)]
 pub fn words_beyond<L: Ledger>(cells: &Cells, c: Coord, steps: &mut Steps<L>) -> Beside
-    requires within { IsInSpace cells.now.resolution c }
-    requires space { (q : Coord) → 0 < word_at cells.now q → IsInSpace cells.now.resolution q }
+    requires { LieInSpace cells.now c }
     ensures words { AreBesideWords (word_at cells.now) c result }
     ensures touches { steps.new ≤ steps.old + 6 }
 {
@@ -67,9 +61,7 @@ pub fn words_beyond<L: Ledger>(cells: &Cells, c: Coord, steps: &mut Steps<L>) ->
 /// each is quicker than a loop.
 #[inline(always)]
 pub fn words_in<L: Ledger>(cells: &Cells, c: Coord, slot: u32, steps: &mut Steps<L>) -> Beside
-    requires within { IsInSpace cells.now.resolution c }
-    requires slot { slot_of cells.now c ≡ Some slot }
-    requires space { (q : Coord) → 0 < word_at cells.now q → IsInSpace cells.now.resolution q }
+    requires { LieInBrick cells.now c slot }
     ensures words { AreBesideWords (word_at cells.now) c result }
     ensures touches { steps.new ≤ steps.old + 6 }
 {
@@ -89,8 +81,7 @@ pub fn words_in<L: Ledger>(cells: &Cells, c: Coord, slot: u32, steps: &mut Steps
 /// The words of a voxel's neighbours.
 #[inline(always)]
 pub fn words_beside<L: Ledger>(cells: &Cells, c: Coord, steps: &mut Steps<L>) -> Beside
-    requires within { IsInSpace cells.now.resolution c }
-    requires space { (q : Coord) → 0 < word_at cells.now q → IsInSpace cells.now.resolution q }
+    requires { LieInSpace cells.now c }
     ensures words { AreBesideWords (word_at cells.now) c result }
     ensures few { cells.now.resolution ≤ 400 }
     ensures touches { steps.new ≤ steps.old + 6 }

@@ -4,7 +4,7 @@ ghost use Rattle.nano_spec.specs.Model.{volume};
 ghost use Rattle.vox_geom.specs.Space.{IsInSpace, place as place_of};
 ghost use Rattle.vox_geom.specs.declared.coordinate.Coord.{Coord as Coordinate};
 ghost use Rattle.support_forest.specs.Grid.{slot_of, word_at};
-ghost use Rattle.support_forest.specs.Heap.{AreBits, AreBrickSlots, CanStack, HaveStacked, IsHeaped, IsPile, IsSomeHeap, RowStands};
+ghost use Rattle.support_forest.specs.Heap.{AreBrickSlots, CanStack, CanStackPart, HaveStacked, IsHeaped, IsPile, IsSomeHeap, RowStands};
 ghost use Rattle.support_forest.specs.Standing.{matrix_of};
 ghost use Rattle.support_forest.specs.Stretches.{LieInRow};
 ghost use Rattle.support_forest.specs.Words.{AreExact};
@@ -181,12 +181,8 @@ fn stack_each<L: Ledger>(
     rest: &mut Vec<Coord>,
     steps: &mut Steps<L>,
 ) -> Result<(), AllocError>
-    requires brick { first.z % 8 + count ≤ 8 }
-    requires within { IsInSpace planes.now.resolution first }
-    requires row { first.z + count ≤ planes.now.resolution }
-    requires bits { AreBits planes.now (place_of planes.now.resolution first) count bits }
+    requires part { CanStackPart planes.now cells.old first count bits rest.old.items }
     requires slots { AreBrickSlots cells.old first own below }
-    requires heaped { IsHeaped planes.now cells.old (place_of planes.now.resolution first) rest.old.items }
     ensures heaped { IfOk result
         (λ _. IsHeaped planes.now cells.new (place_of planes.now.resolution first + count) rest.new.items) }
     ensures touches { IfOk result (λ _. steps.new ≤ steps.old + 7 * count) }
@@ -218,11 +214,7 @@ fn stack_part<L: Ledger>(
     rest: &mut Vec<Coord>,
     steps: &mut Steps<L>,
 ) -> Result<(), AllocError>
-    requires brick { first.z % 8 + count ≤ 8 }
-    requires within { IsInSpace planes.now.resolution first }
-    requires row { first.z + count ≤ planes.now.resolution }
-    requires bits { AreBits planes.now (place_of planes.now.resolution first) count bits }
-    requires heaped { IsHeaped planes.now cells.old (place_of planes.now.resolution first) rest.old.items }
+    requires { CanStackPart planes.now cells.old first count bits rest.old.items }
     ensures heaped { IfOk result
         (λ _. IsHeaped planes.now cells.new (place_of planes.now.resolution first + count) rest.new.items) }
     ensures touches { IfOk result (λ _. steps.new ≤ steps.old + 8 * count) }

@@ -1,8 +1,8 @@
 //! Puts a voxel beside others whose levels stay as they are.
-ghost use Rattle.std.specs.Prelude.{◌≡◌, ℕ, ◌+◌, ◌<◌, ◌≤◌, IfOk, Some, true};
+ghost use Rattle.std.specs.Prelude.{◌≡◌, ℕ, ◌+◌, ◌<◌, ◌≤◌, IfOk, true};
 ghost use Rattle.vox_geom.specs.declared.coordinate.Coord.{Coord};
-ghost use Rattle.support_forest.specs.Grid.{slot_of, word_at};
-ghost use Rattle.support_forest.specs.Placing.{AreBesideWords, CanPlace, IsAround, IsWordToward, LeavesRoom, MayLieUnder, MayStand, PlacesOrStays, StandsOrStays};
+ghost use Rattle.support_forest.specs.Grid.{word_at};
+ghost use Rattle.support_forest.specs.Placing.{AreBesideWords, CanPlace, CanPlaceIn, IsAround, IsWordToward, LeavesRoom, MayLieUnder, MayStand, PlacesOrStays, StandsOrStays};
 
 use crate::beside::{Beside, words_beyond, words_in};
 use crate::cells::{BRICK_SIDE, Cells};
@@ -148,9 +148,8 @@ fn place_first<L: Ledger>(
 /// [`place`] on the floor, where a full voxel has level 0: that over it is the only one that can get another level.
 #[inline(always)]
 fn place_on_floor<L: Ledger>(cells: &mut Cells, c: Coord, slot: u32, steps: &mut Steps<L>) -> bool
-    requires can { CanPlace cells.old c }
+    requires place { CanPlaceIn cells.old c slot }
     requires floor { c.y ≡ 0 }
-    requires slot { slot_of cells.old c ≡ Some slot }
     ensures { StandsOrStays result cells.old cells.new c steps.old steps.new }
 {
     let over = word_over_floor(cells, c, slot, steps);
@@ -169,8 +168,7 @@ fn place_in<L: Ledger>(
     slot: u32,
     steps: &mut Steps<L>,
 ) -> Result<bool, AllocError>
-    requires can { CanPlace cells.old c }
-    requires slot { slot_of cells.old c ≡ Some slot }
+    requires { CanPlaceIn cells.old c slot }
     ensures { IfOk result (λ done. PlacesOrStays done cells.old cells.new c steps.old steps.new) }
 {
     cells.recall();
@@ -206,8 +204,7 @@ pub fn place<L: Ledger>(
 /// kept.
 #[inline(always)]
 fn stand_by<L: Ledger>(cells: &mut Cells, c: Coord, slot: u32, steps: &mut Steps<L>) -> bool
-    requires can { CanPlace cells.old c }
-    requires slot { slot_of cells.old c ≡ Some slot }
+    requires { CanPlaceIn cells.old c slot }
     ensures { StandsOrStays result cells.old cells.new c steps.old steps.new }
 {
     cells.recall();
@@ -245,8 +242,7 @@ fn stand_by<L: Ledger>(cells: &mut Cells, c: Coord, slot: u32, steps: &mut Steps
 /// [`stand_in`] of a voxel that is the lowest of its brick.
 #[inline(never)]
 fn stand_lowest<L: Ledger>(cells: &mut Cells, c: Coord, slot: u32, steps: &mut Steps<L>) -> bool
-    requires can { CanPlace cells.old c }
-    requires slot { slot_of cells.old c ≡ Some slot }
+    requires { CanPlaceIn cells.old c slot }
     ensures { StandsOrStays result cells.old cells.new c steps.old steps.new }
 {
     stand_by(cells, c, slot, steps)
@@ -256,8 +252,7 @@ fn stand_lowest<L: Ledger>(cells: &mut Cells, c: Coord, slot: u32, steps: &mut S
 /// chunk for those that follow.
 #[inline(always)]
 fn stand_in<L: Ledger>(cells: &mut Cells, c: Coord, slot: u32, steps: &mut Steps<L>) -> bool
-    requires can { CanPlace cells.old c }
-    requires slot { slot_of cells.old c ≡ Some slot }
+    requires { CanPlaceIn cells.old c slot }
     ensures { StandsOrStays result cells.old cells.new c steps.old steps.new }
 {
     if c.y % BRICK_SIDE == 0 {

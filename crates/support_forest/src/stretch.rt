@@ -6,7 +6,7 @@ ghost use Rattle.vox_geom.specs.Space.{IsInSpace};
 ghost use Rattle.vox_geom.specs.declared.coordinate.Coord.{Coord};
 ghost use Rattle.brick_arena.specs.Slots.{HasSlot};
 ghost use Rattle.support_forest.specs.Grid.{Grid, word_at};
-ghost use Rattle.support_forest.specs.Stretches.{AreCleared, EndsAreFree, IsBrickRow, IsStretch, LieInRow, RowHangsNot, RowIsFree, SideHangsNot, SidesAreFree, TakesMore, WordsHangNot, whole_row_start};
+ghost use Rattle.support_forest.specs.Stretches.{AreCleared, CanClear, EndsAreFree, IsBrickRow, IsStretch, LieInRow, RowHangsNot, RowIsFree, SideHangsNot, SidesAreFree, TakesMore, WordsHangNot, whole_row_start};
 ghost use Rattle.support_forest.specs.Words.{AreExact};
 
 use crate::cells::{BRICK_SIDE, Cells, word_index};
@@ -315,9 +315,7 @@ fn clear_voxels<L: Ledger>(
     count: u16,
     steps: &mut Steps<L>,
 )
-    requires row { IsBrickRow cells.old own first count }
-    requires exact { AreExact cells.old.resolution (word_at cells.old) }
-    requires free { RowIsFree (word_at cells.old) first count }
+    requires { CanClear cells.old own first count }
     ensures { AreCleared cells.old cells.new first 0 count steps.old steps.new }
 {
     let mut left = count;
@@ -342,9 +340,7 @@ fn clear_at_once<L: Ledger>(
     count: u16,
     steps: &mut Steps<L>,
 ) -> bool
-    requires row { IsBrickRow cells.old own first count }
-    requires exact { AreExact cells.old.resolution (word_at cells.old) }
-    requires free { RowIsFree (word_at cells.old) first count }
+    requires { CanClear cells.old own first count }
     ensures cleared { result ≡ true → AreCleared cells.old cells.new first 0 count steps.old steps.new }
     ensures stays { result ≡ false → cells.new ≡ cells.old × steps.new ≡ steps.old }
 {
@@ -367,9 +363,7 @@ pub fn clear_row<L: Ledger>(
     count: u16,
     steps: &mut Steps<L>,
 )
-    requires row { IsBrickRow cells.old own first count }
-    requires exact { AreExact cells.old.resolution (word_at cells.old) }
-    requires free { RowIsFree (word_at cells.old) first count }
+    requires { CanClear cells.old own first count }
     ensures { AreCleared cells.old cells.new first 0 count steps.old steps.new }
 {
     if clear_at_once(cells, own, first, count, steps) {

@@ -1,10 +1,9 @@
 //! Takes away a voxel on which no other hangs.
-ghost use Rattle.std.specs.Prelude.{◌≡◌, ◌+◌, ◌<◌, ◌≤◌, Some, false};
-ghost use Rattle.vox_geom.specs.Space.{IsInSpace};
-ghost use Rattle.vox_geom.specs.declared.coordinate.Coord.{Coord};
-ghost use Rattle.support_forest.specs.Grid.{slot_of, word_at};
+ghost use Rattle.std.specs.Prelude.{◌≡◌, Some, false};
+ghost use Rattle.support_forest.specs.Access.{LieInBrick};
+ghost use Rattle.support_forest.specs.Grid.{slot_of};
 ghost use Rattle.support_forest.specs.Placing.{voxel_of};
-ghost use Rattle.support_forest.specs.Taking.{CanTake, HangsNot, IsNoParent, TakesOrStays};
+ghost use Rattle.support_forest.specs.Taking.{CanTake, HangsNot, TakesOrStays, TellsParent};
 
 use crate::cells::{BRICK_SIDE, Cells};
 use crate::toward::{word_over_floor, word_toward};
@@ -24,11 +23,8 @@ pub fn hangs(word: u32, toward: u32) -> bool
 /// that none is kept.
 #[inline(always)]
 fn is_parent_in<L: Ledger>(cells: &Cells, c: Coord, slot: u32, steps: &mut Steps<L>) -> bool
-    requires within { IsInSpace cells.now.resolution c }
-    requires slot { slot_of cells.now c ≡ Some slot }
-    requires space { (q : Coord) → 0 < word_at cells.now q → IsInSpace cells.now.resolution q }
-    ensures parent { result ≡ false → IsNoParent (word_at cells.now) c }
-    ensures touches { steps.new ≤ steps.old + 6 }
+    requires { LieInBrick cells.now c slot }
+    ensures { TellsParent result cells.now c steps.old steps.new }
 {
     cells.recall();
     let chunk = cells.chunk(slot);
@@ -67,11 +63,8 @@ fn is_parent_highest<L: Ledger>(
     slot: u32,
     steps: &mut Steps<L>,
 ) -> bool
-    requires within { IsInSpace cells.now.resolution (voxel_of x y z) }
-    requires slot { slot_of cells.now (voxel_of x y z) ≡ Some slot }
-    requires space { (q : Coord) → 0 < word_at cells.now q → IsInSpace cells.now.resolution q }
-    ensures parent { result ≡ false → IsNoParent (word_at cells.now) (voxel_of x y z) }
-    ensures touches { steps.new ≤ steps.old + 6 }
+    requires { LieInBrick cells.now (voxel_of x y z) slot }
+    ensures { TellsParent result cells.now (voxel_of x y z) steps.old steps.new }
 {
     is_parent_in(cells, Coord { x, y, z }, slot, steps)
 }
@@ -80,11 +73,8 @@ fn is_parent_highest<L: Ledger>(
 /// its chunk for those that follow.
 #[inline(always)]
 fn is_parent<L: Ledger>(cells: &Cells, c: Coord, slot: u32, steps: &mut Steps<L>) -> bool
-    requires within { IsInSpace cells.now.resolution c }
-    requires slot { slot_of cells.now c ≡ Some slot }
-    requires space { (q : Coord) → 0 < word_at cells.now q → IsInSpace cells.now.resolution q }
-    ensures parent { result ≡ false → IsNoParent (word_at cells.now) c }
-    ensures touches { steps.new ≤ steps.old + 6 }
+    requires { LieInBrick cells.now c slot }
+    ensures { TellsParent result cells.now c steps.old steps.new }
 {
     if c.y % BRICK_SIDE == BRICK_SIDE - 1 {
         return is_parent_highest(cells, c.x, c.y, c.z, slot, steps);

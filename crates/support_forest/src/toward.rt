@@ -1,8 +1,8 @@
 //! The word of a voxel's neighbour in one direction.
 ghost use Rattle.std.specs.Prelude.{◌≡◌, ◌+◌, ◌%◌, ◌<◌, ◌≤◌, ℕ, MatchOption, Some};
-ghost use Rattle.brick_arena.specs.Slots.{HasSlot, start_in_chunk as start_in_chunk_of};
 ghost use Rattle.vox_geom.specs.Space.{IsInSpace};
 ghost use Rattle.vox_geom.specs.declared.coordinate.Coord.{Coord};
+ghost use Rattle.support_forest.specs.Access.{IsReadIn, LieInSpace};
 ghost use Rattle.support_forest.specs.Grid.{side as side_of, slot_of, word_at, word_index as word_index_of};
 ghost use Rattle.support_forest.specs.Placing.{EndsBrick, IsIndexToward, IsOwnSpot, IsSpotToward, IsWordToward, NoneToward, voxel_of};
 
@@ -156,8 +156,7 @@ fn word_across<const D: u8, L: Ledger>(
 #[inline(always)]
 pub fn word_beyond<L: Ledger>(cells: &Cells, c: Coord, d: u8, steps: &mut Steps<L>) -> u32
     requires direction { (0 < d) × (d ≤ 6) }
-    requires within { IsInSpace cells.now.resolution c }
-    requires space { (q : Coord) → 0 < word_at cells.now q → IsInSpace cells.now.resolution q }
+    requires inside { LieInSpace cells.now c }
     ensures word { IsWordToward (word_at cells.now) c d result }
     ensures touch { steps.new ≤ steps.old + 1 }
 {
@@ -181,10 +180,7 @@ pub fn word_toward<const D: u8, const APART: bool, L: Ledger>(
     steps: &mut Steps<L>,
 ) -> u32
     requires direction { (0 < D) × (D ≤ 6) }
-    requires within { IsInSpace cells.now.resolution c }
-    requires slot { slot_of cells.now c ≡ Some slot }
-    requires chunk { HasSlot cells.now.bricks slot chunk.now }
-    requires start { start ≡ start_in_chunk_of slot }
+    requires read { IsReadIn cells.now c slot chunk.now start }
     requires space { (q : Coord) → 0 < word_at cells.now q → IsInSpace cells.now.resolution q }
     ensures word { IsWordToward (word_at cells.now) c D result }
     ensures touch { steps.new ≤ steps.old + 1 }

@@ -39,5 +39,11 @@ returns-then-is_pile-clause-heaped g c =
 pub stack_each-requires-clause-slots : goal.stack_each-requires-clause-slots
 stack_each-requires-clause-slots g c = record { here = c.in_ok-own.ensures.slot; there = c.slot_under-below.ensures }
 
-pub stack_each-requires-clause-heaped : goal.stack_each-requires-clause-heaped
-stack_each-requires-clause-heaped g c = heaped_same _ _ _ _ _ c.take_slot.ensures.resolution c.in_ok-own.ensures.same c.requires.heaped
+pub stack_each-requires-clause-part : goal.stack_each-requires-clause-part
+stack_each-requires-clause-part g c = record {
+  brick = c.requires.brick;
+  within = c.requires.within;
+  row = c.requires.row;
+  bits = c.requires.bits;
+  heaped = heaped_same _ _ _ _ _ c.take_slot.ensures.resolution c.in_ok-own.ensures.same c.requires.heaped;
+}

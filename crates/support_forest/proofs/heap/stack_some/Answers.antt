@@ -1,4 +1,4 @@
-use Rattle.std.proofs.Common.{◌≡◌, ℕ, ◌+◌, ◌∙◌, ap, arith}
+use Rattle.std.proofs.Common.{◌≡◌, ℕ, ◌+◌, ◌∙◌, ap, arith, rules}
 use Rattle.vox_geom.specs.Space.{place}
 use Rattle.vox_planes.specs.Places.{voxel_at}
 use Rattle.support_forest.specs.Heap.{AreBits}
@@ -8,18 +8,21 @@ use Rattle.support_forest.proofs.heap.stack_some.Goals as goal
 pub loop-k-init : goal.loop-k-init
 loop-k-init g c = record { few = omega arith; heaped = heaped_at _ _ _ _ _ (omega arith) c.requires.heaped; touches = omega arith }
 
-pub stack_part-requires-clause-bits : goal.stack_part-requires-clause-bits
-stack_part-requires-clause-bits g c =
+pub stack_part-requires : goal.stack_part-requires
+stack_part-requires g c =
     let planes = c.args.planes.now in
     let from : c.place-from.result ≡ place planes.resolution c.args.first = c.place-from.ensures.value ∙ ap (λ (r : ℕ). place r c.args.first)
     c.resolution.ensures.value in
     let read : AreBits planes (place planes.resolution c.args.first) c.args.count c.places-bits.result = λ k l. c.places-bits.ensures.bits k
     (omega (arith, l, c.from.ensures)) ∙ ap (λ (p : ℕ). voxel_at planes (p + k)) from in
-    bits_from planes (place planes.resolution c.args.first) c.args.count c.places-bits.result c.loop-k.k c.min-part.result _ read
-    (omega (arith, c.min-part.ensures, c.loop-k-test.true)) (omega arith)
-
-pub stack_part-requires-clause-heaped : goal.stack_part-requires-clause-heaped
-stack_part-requires-clause-heaped g c = heaped_at _ _ _ _ _ (omega arith) c.loop-k.invariant.heaped
+    record {
+      brick = search rules;
+      within = search rules;
+      row = search rules;
+      bits = bits_from planes (place planes.resolution c.args.first) c.args.count c.places-bits.result c.loop-k.k c.min-part.result _ read
+          (omega (arith, c.min-part.ensures, c.loop-k-test.true)) (omega arith);
+      heaped = heaped_at _ _ _ _ _ (omega arith) c.loop-k.invariant.heaped;
+    }
 
 pub loop-k-preserved : goal.loop-k-preserved
 loop-k-preserved g c = record {

@@ -4,7 +4,7 @@ use Rattle.support_forest.proofs.remove.handle.Goals as goal
 
 pub returns-in_default-clause-done : goal.returns-in_default-clause-done
 returns-in_default-clause-done g c = inl (record {
-  other = λ a b. let none_read = reads_none c.args.cells.now c.args.x.at c.requires.within c.in_default.ensures.value in absurd (omega arith);
+  other = λ a b. let none_read = reads_none c.args.cells.now c.args.x.at c.requires.inside.within c.in_default.ensures.value in absurd (omega arith);
   cells = refl;
   queued = refl;
   freshly = refl;

@@ -14,4 +14,4 @@ returns-in_default c =
     let some : 0 < c.args.word = let hangs_over_ensured = c.if-not-hangs_over.ensures.0 in let height = c.requires.height in omega arith in
     let there = c.requires.word.some some in
     let full : 0 < word_at c.args.cells.now there.0 = let same = c.requires.word.each there.0 there.1 in omega arith in
-    absurd (c.in_default.ensures there.0 there.1 (subst (λ (r : ℕ). IsInSpace r there.0) (sym c.resolution.ensures.value) (c.requires.space there.0 full)))
+    absurd (c.in_default.ensures there.0 there.1 (subst (λ (r : ℕ). IsInSpace r there.0) (sym c.resolution.ensures.value) (c.requires.inside.space there.0 full)))

@@ -8,13 +8,13 @@ use Rattle.support_forest.proofs.remove.remove_and_settle.Goals as goal
 pub loop-i-init : goal.loop-i-init
 loop-i-init g c = handled_none _ _ _ _ _ _ _ c.in_ok-vanish.ensures c.take_fresh-fresh.ensures
 
-pub handle-requires-clause-within : goal.handle-requires-clause-within
-handle-requires-clause-within g c =
+pub handle-requires-clause-inside : goal.handle-requires-clause-inside
+handle-requires-clause-inside g c =
     let below_length : c.loop-i.i < length c.loop-i.queue.items = let len_ensured = c.len.ensures in let queue_ok = c.loop-i.queue.ok in let goes_on = c.loop-i-test.true in omega arith in
-    orphan_inside _ _ _ _ _ _ _ _ _ c.requires.exact c.loop-i.invariant below_length c.index-x.ensures
-
-pub handle-requires-clause-space : goal.handle-requires-clause-space
-handle-requires-clause-space g c = λ q f. still_inside _ _ _ _ _ _ _ _ c.requires.exact c.loop-i.invariant q f
+    record {
+      within = orphan_inside _ _ _ _ _ _ _ _ _ c.requires.exact c.loop-i.invariant below_length c.index-x.ensures;
+      space = λ q f. still_inside _ _ _ _ _ _ _ _ c.requires.exact c.loop-i.invariant q f;
+    }
 
 pub handle-requires-clause-height : goal.handle-requires-clause-height
 handle-requires-clause-height g c =

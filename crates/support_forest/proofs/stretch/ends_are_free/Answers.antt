@@ -1,4 +1,4 @@
-use Rattle.std.proofs.Common.{◌≡◌, ◌-◌, Bool, Some, arith, false, not, refl, sym, true}
+use Rattle.std.proofs.Common.{◌≡◌, ◌-◌, Bool, Some, arith, false, not, refl, rules, sym, true}
 use Rattle.support_forest.specs.Grid.{word_at}
 use Rattle.support_forest.proofs.Stretches.{end_free, far_free, row_slot}
 use Rattle.support_forest.proofs.stretch.ends_are_free.Goals as goal
@@ -10,10 +10,15 @@ not_so false e = refl
 pub chunk-chunk-requires : goal.chunk-chunk-requires
 chunk-chunk-requires g c = c.recall.ensures.store.live _ c.args.own c.requires.own
 
-pub word_toward-requires-2-clause-slot : goal.word_toward-requires-2-clause-slot
-word_toward-requires-2-clause-slot g c =
+pub word_toward-requires-2-clause-read : goal.word_toward-requires-2-clause-read
+word_toward-requires-2-clause-read g c =
     let some_required = c.requires.some in
-    sym (row_slot c.args.cells.now c.args.first c.args.count (c.args.count - 1) (Some c.args.own) c.requires.row (omega arith) (sym c.requires.own))
+    record {
+      within = search rules;
+      slot = sym (row_slot c.args.cells.now c.args.first c.args.count (c.args.count - 1) (Some c.args.own) c.requires.row (omega arith) (sym c.requires.own));
+      chunk = search rules;
+      start = search rules;
+    }
 
 pub returns-clause-free : goal.returns-clause-free
 returns-clause-free g c t = record {

@@ -14,7 +14,7 @@ returns-in-Some-clause-word g c = record {
 pub returns-in-None-clause-word : goal.returns-in-None-clause-word
 returns-in-None-clause-word g c = record {
   each = λ q t. elim (cases_lt 0 (word_at c.args.cells.now q)) [
-    | inl f ↦ absurd (c.in-None.ensures q t (subst (λ (r : ℕ). IsInSpace r q) (sym c.resolution.ensures.value) (c.requires.space q f)))
+    | inl f ↦ absurd (c.in-None.ensures q t (subst (λ (r : ℕ). IsInSpace r q) (sym c.resolution.ensures.value) (c.requires.inside.space q f)))
     | inr f ↦ omega arith
   ];
   some = λ f. absurd (omega arith);

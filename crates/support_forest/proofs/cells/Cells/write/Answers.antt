@@ -1,4 +1,4 @@
-use Rattle.std.proofs.Common.{subst, arith}
+use Rattle.std.proofs.Common.{subst, arith, rules}
 use Rattle.support_forest.specs.Grid.{Grid, word_at}
 use Rattle.support_forest.specs.Words.{IsWritten}
 use Rattle.support_forest.proofs.Writes.{wrote, count_few}
@@ -23,10 +23,15 @@ invariant_of-self g c =
     let wrote_here = wrote (record { resolution = inside.resolution; table = inside.table.items; bricks = inside.bricks }) c.args.self.now c.set_word.new.self c.args.at c.args.slot c.word_index.result c.args.old c.args.word inside.floating c.floats.result c.floats-2.result c.self.view_is c.self.invariant.1.0 c.self.invariant.1.1 c.requires.within c.requires.slot c.requires.stands c.word_index.ensures.value c.set_word.ensures.value c.set_word.ensures.written c.floats.ensures.value c.floats-2.ensures.value in
     (c.self.invariant.0, (wrote_here.store, wrote_here.count))
 
-pub returns-clause-written : goal.returns-clause-written
-returns-clause-written g c =
+pub returns : goal.returns
+returns g c =
     let inside = c.self.inside in
     let old : Grid = record { resolution = inside.resolution; table = inside.table.items; bricks = inside.bricks } in
     let new : Grid = record { resolution = inside.resolution; table = inside.table.items; bricks = c.set_word.new.self } in
     let wrote_here = wrote old c.args.self.now c.set_word.new.self c.args.at c.args.slot c.word_index.result c.args.old c.args.word inside.floating c.floats.result c.floats-2.result c.self.view_is c.self.invariant.1.0 c.self.invariant.1.1 c.requires.within c.requires.slot c.requires.stands c.word_index.ensures.value c.set_word.ensures.value c.set_word.ensures.written c.floats.ensures.value c.floats-2.ensures.value in
-    subst (λ (q : Grid). IsWritten (word_at q) (word_at new) c.args.at c.args.word) c.self.view_is wrote_here.written
+    record {
+      resolution = search rules;
+      slots = search rules;
+      written = subst (λ (q : Grid). IsWritten (word_at q) (word_at new) c.args.at c.args.word) c.self.view_is wrote_here.written;
+      touch = search rules;
+    }

@@ -1,0 +1,32 @@
+-- What the reads and the write of a voxel's word ask for and leave.
+use Rattle.std.specs.Prelude.{◌≡◌, ℕ, ◌+◌, ◌<◌, List, Some}
+use Rattle.brick_arena.specs.Slots.{HasSlot, start_in_chunk}
+use Rattle.vox_geom.specs.declared.coordinate.Coord.{Coord}
+use Rattle.vox_geom.specs.Space.{IsInSpace}
+use Rattle.support_forest.specs.Grid.{Grid, slot_of, word_at}
+use Rattle.support_forest.specs.Words.{IsWritten}
+
+-- the voxel lies in space, and so do all full ones
+pub record LieInSpace (g : Grid) (c : Coord) : Type 0 where
+  pub within : IsInSpace g.resolution c
+  pub space : (q : Coord) → 0 < word_at g q → IsInSpace g.resolution q
+
+-- the same of a voxel whose brick has the slot
+pub record LieInBrick (g : Grid) (c : Coord) (own : ℕ) : Type 0 where
+  pub within : IsInSpace g.resolution c
+  pub slot : slot_of g c ≡ Some own
+  pub space : (q : Coord) → 0 < word_at g q → IsInSpace g.resolution q
+
+-- the voxel lies in space, and the chunk has the words of the slot of its brick, from that start on
+pub record IsReadIn (g : Grid) (c : Coord) (own : ℕ) (words : List ℕ) (from : ℕ) : Type 0 where
+  pub within : IsInSpace g.resolution c
+  pub slot : slot_of g c ≡ Some own
+  pub chunk : HasSlot g.bricks own words
+  pub start : from ≡ start_in_chunk own
+
+-- the word of the voxel was written, by one touch
+pub record HasWritten (old new : Grid) (c : Coord) (word before after : ℕ) : Type 0 where
+  pub resolution : new.resolution ≡ old.resolution
+  pub slots : new.table ≡ old.table
+  pub written : IsWritten (word_at old) (word_at new) c word
+  pub touch : after ≡ before + 1
