@@ -3,30 +3,46 @@ use Rattle.std.proofs.Common.{◌≡◌, ℕ, List, [], ◌∷◌, false, true, 
 use Rattle.std.specs.Prelude.{ℤ, Result, Ok, Err}
 use Rattle.nano_spec.specs.declared.commands.Command.{Command}
 use Rattle.nano_spec.specs.declared.outcomes.Broken.{Broken}
+use Rattle.step_machine.specs.Alone.{IsTried}
+use Rattle.step_machine.specs.Edits.{is_edit}
 use Rattle.step_machine.specs.Situation.{Situation}
 use Rattle.step_machine.specs.Stepped.{Stepped, answer_of}
 use Rattle.step_machine.specs.declared.machine.StepFault.{StepFault}
 use Rattle.step_machine.specs.declared.machine.StepFault.TheVariants as fault
+use Rattle.step_machine.specs.declared.machine.StepFault.TheVariants.{Memory}
 use Rattle.step_machine.specs.declared.machine.StepOk.{StepOk}
 use Rattle.step_machine.specs.declared.machine.alone.Tried.TheVariants as tried
 
 pub declined_made : {A : Type 0} → tried.Declined ≡ tried.Made → A
 declined_made e = cc
 
-pub declined_refused : {A : Type 0} → tried.Declined ≡ tried.Refused → A
+declined_refused : {A : Type 0} → tried.Declined ≡ tried.Refused → A
 declined_refused e = cc
 
-pub made_refused : {A : Type 0} → tried.Made ≡ tried.Refused → A
+made_refused : {A : Type 0} → tried.Made ≡ tried.Refused → A
 made_refused e = cc
 
-pub made_declined : {A : Type 0} → tried.Made ≡ tried.Declined → A
+made_declined : {A : Type 0} → tried.Made ≡ tried.Declined → A
 made_declined e = cc
 
 pub refused_made : {A : Type 0} → tried.Refused ≡ tried.Made → A
 refused_made e = cc
 
-pub refused_declined : {A : Type 0} → tried.Refused ≡ tried.Declined → A
+refused_declined : {A : Type 0} → tried.Refused ≡ tried.Declined → A
 refused_declined e = cc
+
+-- what a try has come to that made its step, that refused it, and that declined it
+module _ {old new : Situation} {command : Command} {fault : StepFault} {began ended : ℕ} where
+  pub is_made : Stepped old new (command ∷ []) (answer_of true new.state fault) began ended
+      → IsTried old new command tried.Made fault began ended
+  is_made s = record { made = λ _. s; refused = made_refused; memory = λ e _. made_refused e; stays = made_declined; untouched = made_declined }
+
+  pub is_refused : Stepped old new (command ∷ []) (Err fault) began ended → (fault ≡ Memory → is_edit command ≡ true)
+      → IsTried old new command tried.Refused fault began ended
+  is_refused s m = record { made = refused_made; refused = λ _. s; memory = λ _. m; stays = refused_declined; untouched = refused_declined }
+
+  pub is_declined : new ≡ old → ended ≡ began → IsTried old new command tried.Declined fault began ended
+  is_declined n e = record { made = declined_made; refused = declined_refused; memory = λ f _. declined_refused f; stays = λ _. n; untouched = λ _. e }
 
 -- memory was not refused where the answer is another
 pub spent_memory : {A : Type 0} → ◌≡◌ {A = Result StepOk StepFault} (Err fault.Spent) (Err fault.Memory) → A

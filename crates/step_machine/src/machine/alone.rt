@@ -1,12 +1,12 @@
 //! The step of the only bot by a command that needs no other, made at once: no turns and no changes are listed.
-ghost use Rattle.std.specs.Prelude.{◌≡◌, ◌≢◌, ℕ, ◌+◌, ◌<◌, ◌≤◌, [], ◌∷◌, false, true, length, None, Err};
+ghost use Rattle.std.specs.Prelude.{◌≡◌, ◌≢◌, ℕ, ◌+◌, ◌<◌, ◌≤◌, [], ◌∷◌, false, true, length, None};
 ghost use Rattle.nano_spec.specs.declared.commands.Command.TheVariants.{SMove};
 ghost use Rattle.nano_spec.specs.declared.system.Harmonics.TheVariants.{Low};
 ghost use Rattle.nano_spec.specs.Act.{acts};
 ghost use Rattle.nano_spec.specs.Grounded.{FirstUngrounded};
 ghost use Rattle.nano_spec.specs.Work.{volatile_total};
 ghost use Rattle.step_groups.specs.Judging.{edit_of};
-ghost use Rattle.step_machine.specs.Alone.{IsSolo};
+ghost use Rattle.step_machine.specs.Alone.{IsSolo, IsTried};
 ghost use Rattle.step_machine.specs.Edits.{is_edit};
 ghost use Rattle.step_machine.specs.Settling.{IsDeclined};
 ghost use Rattle.step_machine.specs.Stepped.{Stepped, answer_of};
@@ -224,15 +224,8 @@ impl Machine {
         steps: &mut Steps<L>,
     ) -> Tried
         requires steps { self.old.steps < 1073741824 }
-        ensures made { result ≡ Tried.Made
-            → Stepped self.old self.new (command.now ∷ []) (answer_of true self.new.state fault.new) steps.old
-            steps.new }
-        ensures refused { result ≡ Tried.Refused
-            → Stepped self.old self.new (command.now ∷ []) (Err fault.new) steps.old steps.new }
-        ensures memory { result ≡ Tried.Refused → fault.new ≡ StepFault.Memory → is_edit command.now ≡ true }
+        ensures tried { IsTried self.old self.new command.now result fault.new steps.old steps.new }
         ensures one { result ≢ Tried.Declined → length self.old.state.bots ≡ 1 }
-        ensures stays { result ≡ Tried.Declined → self.new ≡ self.old }
-        ensures untouched { result ≡ Tried.Declined → steps.new ≡ steps.old }
     {
         if !self.is_alone() {
             return Tried::Declined;
@@ -250,15 +243,8 @@ impl Machine {
     ) -> Tried
         requires alone { IsSolo self.old }
         requires steps { self.old.steps < 1073741824 }
-        ensures made { result ≡ Tried.Made
-            → Stepped self.old self.new (command.now ∷ []) (answer_of true self.new.state fault.new) steps.old
-            steps.new }
-        ensures refused { result ≡ Tried.Refused
-            → Stepped self.old self.new (command.now ∷ []) (Err fault.new) steps.old steps.new }
-        ensures memory { result ≡ Tried.Refused → fault.new ≡ StepFault.Memory → is_edit command.now ≡ true }
+        ensures tried { IsTried self.old self.new command.now result fault.new steps.old steps.new }
         ensures alone { result ≡ Tried.Made → IsSolo self.new }
-        ensures stays { result ≡ Tried.Declined → self.new ≡ self.old }
-        ensures untouched { result ≡ Tried.Declined → steps.new ≡ steps.old }
     {
         match command {
             Command::SMove(d) => {

@@ -7,4 +7,4 @@ returns-in-Made-clause-stepped g c =
     let one = only_command c.args.commands.now c.index-commands-0.result (search rules) (search rules) in
     let paid : to_z w64 (of_z w64 c.energy.result) ≡ c.step_alone.new.self.state.energy = search rules in
     made_alone c.args.self.now c.step_alone.new.self c.args.commands.now c.index-commands-0.result (to_z w64 (of_z w64 c.energy.result)) c.step_alone.new.fault c.args.steps.now c.step_alone.new.steps
-    one paid (c.step_alone.ensures.made c.in-Made.is)
+    one paid (c.step_alone.ensures.tried.made c.in-Made.is)
