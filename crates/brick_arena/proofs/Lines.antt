@@ -69,8 +69,8 @@ module _ {M : Type 1} {𝓤 : Ura M} (𝓛 : Logic 𝓤) (b : ℕ) where
         use1 𝓛 (‵ (froom (ty_array (ty_int w32) n) b (i * 4 + o))) (subst (λ (k : ℕ). ent 𝓤 (sem 𝓛 (word_places b (i * 4 + o) mid)) (H.room (ty_array (ty_int w32) k) b (i * 4 + o))) long (to_room 𝓛 b mid (i * 4 + o))) $
         move ! (2 ∷ 1 ∷ []) $ fjoin ! $ move ! (1 ∷ []) $ done !
 
-    pub line_in : (w : ℕ) → i + n ≤ length cs
-        → ent 𝓤 (sep 𝓤 (H.at full_share (ty_array (ty_int w32) n) b (i * 4 + o) (vstruct (of_list (line n w)))) (sem 𝓛 Around))
+    pub line_in : (w : ℕ) → i + n ≤ length cs → ent 𝓤
+        (sep 𝓤 (H.at full_share (ty_array (ty_int w32) n) b (i * 4 + o) (vstruct (of_list (line n w)))) (sem 𝓛 Around))
         (sem 𝓛 (word_places b o (lined n w cs i)))
     line_in w lt =
         let zs : List (Option ℕ) = replicate n (Some w) in

@@ -30,11 +30,13 @@ slot_words m slot = values m (SLOT_WORDS * slot) SLOT_WORDS
 -- the slots that were reached and are not vacant, each with its words
 unfoldable pub live_slots : (ℕ → ℕ) → List ℕ → ℕ → Slots
 live_slots m vacant zero = empty
-live_slots m vacant (suc slot) = cond (is_listed slot vacant) (live_slots m vacant slot) (insert (live_slots m vacant slot) slot (slot_words m slot))
+live_slots m vacant (suc slot) =
+    cond (is_listed slot vacant) (live_slots m vacant slot) (insert (live_slots m vacant slot) slot (slot_words m slot))
 
 -- what an arena shows: its live slots
 abbrev pub view_of : List (List ℕ) → ℕ → ℕ → ℕ → Slots
-view_of chunks first_vacant vacant reached = live_slots (chunk_word chunks) (chain (chunk_word chunks) first_vacant vacant) reached
+view_of chunks first_vacant vacant reached =
+    live_slots (chunk_word chunks) (chain (chunk_word chunks) first_vacant vacant) reached
 
 -- what is so of an arena's fields
 pub record IsArena (cs : List (List ℕ)) (first_vacant vacant reached : ℕ) : Type 0 where

@@ -45,7 +45,8 @@ pub record IsCleared (old new : List (List ℕ)) (slot : ℕ) : Type 0 where
   pub same_length : length new ≡ length old
   pub chunks : AreChunks new
   pub zeros : (k : ℕ) → k < SLOT_WORDS → chunk_word new (SLOT_WORDS * slot + k) ≡ 0
-  pub others : (other k : ℕ) → (other ≡ slot → ⊥) → k < SLOT_WORDS → chunk_word new (SLOT_WORDS * other + k) ≡ chunk_word old (SLOT_WORDS * other + k)
+  pub others : (other k : ℕ) → (other ≡ slot → ⊥) → k < SLOT_WORDS
+      → chunk_word new (SLOT_WORDS * other + k) ≡ chunk_word old (SLOT_WORDS * other + k)
 
 -- there is a chunk for the slot, and each word stays: those of a new chunk are 0, as past the last one
 pub record HasRoom (old new : List (List ℕ)) (slot : ℕ) : Type 0 where

@@ -34,4 +34,5 @@ start_in_chunk slot = slot % CHUNK_SLOTS * SLOT_WORDS
 -- the chunk has the words of the slot
 pub record HasSlot (slots : Slots) (slot : ℕ) (chunk : List ℕ) : Type 0 where
   pub full : length chunk ≡ CHUNK_WORDS
-  pub each : (index : ℕ) → index < SLOT_WORDS → slice_index chunk (start_in_chunk slot + index) ≡ slice_index (words_of slots slot) index
+  pub each : (index : ℕ) → index < SLOT_WORDS
+      → slice_index chunk (start_in_chunk slot + index) ≡ slice_index (words_of slots slot) index

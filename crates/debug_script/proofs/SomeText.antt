@@ -171,8 +171,8 @@ module _ (commands : List Command) (are : AreCommands commands) (stays_ready : R
     tries_group : (bid : ℕ) → HasAnswer (TriesGroup commands bid s)
     tries_group bid = by (next_broken commands s) refl
       where
-        by : (o : Option Broken) → next_broken commands s ≡ o
-            → HasAnswer (λ t report. MatchOption o (BeginsGroup commands bid s t report) (λ b. (t ≡ s) × (report ≡ Refused b)))
+        by : (o : Option Broken) → next_broken commands s ≡ o → HasAnswer
+            (λ t report. MatchOption o (BeginsGroup commands bid s t report) (λ b. (t ≡ s) × (report ≡ Refused b)))
         by None e = begins_group bid e
         by (Some b) e = (s, Refused b, (refl, refl), orderly)
 

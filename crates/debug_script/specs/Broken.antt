@@ -12,6 +12,5 @@ printed_place c = concat (decimal c.x ∷ codes " " ∷ decimal c.y ∷ codes " 
 -- the line of a rule that is broken
 abbrev pub broken_line : Broken → List ℕ
 broken_line b =
-    concat
-    (codes "broken " ∷ decimal (rule_number b.rule) ∷ codes " " ∷ name_of b.rule ∷ codes " step " ∷ decimal b.step ∷ codes " bid "
-    ∷ decimal b.bid ∷ codes " at " ∷ printed_place b.at ∷ codes "\n" ∷ [])
+    concat (codes "broken " ∷ decimal (rule_number b.rule) ∷ codes " " ∷ name_of b.rule ∷ codes " step "
+    ∷ decimal b.step ∷ codes " bid " ∷ decimal b.bid ∷ codes " at " ∷ printed_place b.at ∷ codes "\n" ∷ [])

@@ -62,14 +62,17 @@ abbrev pub LineSays : ℕ → List ℕ → Result DebugLine Fault → Type 0
 LineSays r line answer = MatchBool (has_high_byte line) (answer ≡ Err NotAscii) (PartsSay r (line_parts line) answer)
 
 -- what follows a line of this number that says this: the rest is read, or the line is the first faulty one
-abbrev pub FollowsLine : (Result (List DebugLine) FaultyLine → Type 0) → ℕ → Result DebugLine Fault → Result (List DebugLine) FaultyLine → Type 0
-FollowsLine P n (Ok what) answer = (rest : Result (List DebugLine) FaultyLine) × P rest × (answer ≡ with_first what rest)
+abbrev pub FollowsLine : (Result (List DebugLine) FaultyLine → Type 0) → ℕ → Result DebugLine Fault
+    → Result (List DebugLine) FaultyLine → Type 0
+FollowsLine P n (Ok what) answer =
+    (rest : Result (List DebugLine) FaultyLine) × P rest × (answer ≡ with_first what rest)
 FollowsLine P n (Err fault) answer = answer ≡ Err (record { fault = fault; line = n })
 
 -- what the lines say, from the line of this number on: the lines, or the first faulty one
 abbrev pub LinesSay : ℕ → ℕ → List (List ℕ) → Result (List DebugLine) FaultyLine → Type 0
 LinesSay r n [] answer = answer ≡ Ok []
-LinesSay r n (line ∷ more) answer = (what : Result DebugLine Fault) × LineSays r line what × FollowsLine (LinesSay r (n + 1) more) n what answer
+LinesSay r n (line ∷ more) answer =
+    (what : Result DebugLine Fault) × LineSays r line what × FollowsLine (LinesSay r (n + 1) more) n what answer
 
 -- what a script says at a resolution: its lines, or its first faulty line
 abbrev pub ScriptSays : ℕ → List ℕ → Result (List DebugLine) FaultyLine → Type 0

@@ -11,8 +11,8 @@ use Rattle.debug_script.specs.Printing.{printed_report}
 abbrev pub Prints : List Command → List DebugLine → Session → List ℕ → Type 0
 Prints commands [] s text = text ≡ []
 Prints commands (line ∷ more) s text =
-    (t : Session) × (report : DebugReport) × (rest : List ℕ) × AnswersLine commands line s t report × Prints commands more t rest
-    × (text ≡ printed_report report ++ rest)
+    (t : Session) × (report : DebugReport) × (rest : List ℕ) × AnswersLine commands line s t report
+    × Prints commands more t rest × (text ≡ printed_report report ++ rest)
 
 -- the lines over the commands of a trace print this, from the opening of the source on
 abbrev pub PrintsFrom : Matrix → Profile → List Command → List DebugLine → List ℕ → Type 0

@@ -27,7 +27,8 @@ pub record WorkedScripts : Type 0 where
 -- what the lines of a session print
 pub record WorkedPrints : Type 0 where
   pub an_ended_run : printed_report session.Ended ≡ codes "ended\n"
-  pub a_broken_rule : printed_report (session.Refused (record { step = 3; bid = 2; rule = GroupShape; at = coord 10 0 1 }))
+  pub a_broken_rule :
+      printed_report (session.Refused (record { step = 3; bid = 2; rule = GroupShape; at = coord 10 0 1 }))
       ≡ codes "broken 10 GroupShape step 3 bid 2 at 10 0 1\n"
   pub a_step : printed_report (session.Made 4 (pos 92) false) ≡ codes "step 4 energy 92\n"
   pub a_last_step : printed_report (session.Made 4 (pos 92) true) ≡ codes "step 4 energy 92 halted\n"
@@ -35,8 +36,8 @@ pub record WorkedPrints : Type 0 where
   pub a_begun_group : printed_report (session.Begun 2 13) ≡ codes "group 2 of step 13\n"
   pub no_history : printed_report session.NoHistory ≡ codes "no history\n"
   pub a_way_back : printed_report (session.Returned 0 (pos 0)) ≡ codes "back to step 0 energy 0\n"
-  pub two_bots : printed_report
-      (session.Crew (record { bid = 1; pos = coord 0 10 2; seeds = seed_set (5 ∷ 40 ∷ []) } ∷ record { bid = 3; pos = coord 1 1 1; seeds = 0 } ∷ []))
+  pub two_bots : printed_report (session.Crew (record { bid = 1; pos = coord 0 10 2; seeds = seed_set (5 ∷ 40 ∷ []) }
+      ∷ record { bid = 3; pos = coord 1 1 1; seeds = 0 } ∷ []))
       ≡ codes "bot 1 at 0 10 2 seeds 2\nbot 3 at 1 1 1 seeds 0\n"
   pub a_void_voxel : printed_report (session.IsVoid (coord 1 2 3)) ≡ codes "voxel 1 2 3 void\n"
   pub a_full_voxel : printed_report (session.IsFull (coord 1 2 3) (Some 12)) ≡ codes "voxel 1 2 3 full level 12\n"

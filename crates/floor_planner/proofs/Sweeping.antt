@@ -25,9 +25,9 @@ use Rattle.plan_tape.proofs.LegalModels.{empty_is_void, full_in_box, full_within
 
 -- ---- which coordinates are passed
 
-after_one : (x z a b c : ℕ) → b ≡ 0
-    → cond (same_number (pos a) (pos x) && same_number (pos b) (pos 0) && same_number (pos c) (pos z)) true (nat_lt a x || (a == x && nat_lt c z))
-    ≡ (nat_lt a x || (a == x && nat_lt c (z + 1)))
+after_one : (x z a b c : ℕ) → b ≡ 0 → cond
+    (same_number (pos a) (pos x) && same_number (pos b) (pos 0) && same_number (pos c) (pos z)) true
+    (nat_lt a x || (a == x && nat_lt c z)) ≡ (nat_lt a x || (a == x && nat_lt c (z + 1)))
 after_one x z a b c e = grind (arith, nat_tests)
 
 after_row : (x r a c : ℕ) → c < r

@@ -144,8 +144,8 @@ module _ (p : TapeState) (full : Bool) (k l : Command) (first last : ℕ) (h : I
         corners = corners_differ its_first second both.rear_is both.front_is;
       })
     where
-      corners_differ : (a b : Bot) → rear p ≡ a.pos → front p ≡ b.pos
-          → IsFalse (repeats (flat_map (λ (c : Act). corners_of (position c) c.command) (acts (a ∷ b ∷ []) (k ∷ l ∷ []))))
+      corners_differ : (a b : Bot) → rear p ≡ a.pos → front p ≡ b.pos → IsFalse
+          (repeats (flat_map (λ (c : Act). corners_of (position c) c.command) (acts (a ∷ b ∷ []) (k ∷ l ∷ []))))
       corners_differ a b ra rb =
           let rear_together = rear_how in
           let front_together = front_how in

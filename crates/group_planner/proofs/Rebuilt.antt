@@ -53,9 +53,9 @@ pub alike_target : (s t b d : Matrix) (low : ℕ) → IsLegal t → ((c : Coord)
     → AreAlike d t
 alike_target s t b d low h below p q = λ c. q c ∙ (ap (cond (between_layers low (t.resolution - 1) c && is_full t c) true) (p c) ∙ by c (nat_le low c.y) (nat_lt c.y (t.resolution - 1)) refl refl)
   where
-    by : (c : Coord) (u v : Bool) → nat_le low c.y ≡ u → nat_lt c.y (t.resolution - 1) ≡ v
-        → cond ((nat_le low c.y && nat_lt c.y (t.resolution - 1)) && is_full t c) true (cond (nat_le low c.y && is_full s c) false (is_full s c))
-        ≡ is_full t c
+    by : (c : Coord) (u v : Bool) → nat_le low c.y ≡ u → nat_lt c.y (t.resolution - 1) ≡ v → cond
+        ((nat_le low c.y && nat_lt c.y (t.resolution - 1)) && is_full t c) true
+        (cond (nat_le low c.y && is_full s c) false (is_full s c)) ≡ is_full t c
     by c true true e f = (λ i. cond ((e i && f i) && is_full t c) true (cond (e i && is_full s c) false (is_full s c))) ∙ filled (is_full t c) (is_full s c)
     by c true false e f = (λ i. cond ((e i && f i) && is_full t c) true (cond (e i && is_full s c) false (is_full s c))) ∙ emptied (is_full t c) (is_full s c) (void_at_top t h c (not_less_by_test c.y (t.resolution - 1) f))
     by c false v e f = (λ i. cond ((e i && nat_lt c.y (t.resolution - 1)) && is_full t c) true (cond (e i && is_full s c) false (is_full s c))) ∙ below c (let is_more = not_at_most_by_test low c.y e in omega arith)

@@ -48,7 +48,8 @@ pub record PairIsOpened (t : TapeState) : Type 0 where
 
 -- how many steps a plan takes at most without its last way home, by the rows and runs of both models
 abbrev pub plan_steps : Matrix → Matrix → ℕ
-plan_steps source target = 3 * (runs source + runs target) + 135 * (rows source + rows target) + 3 * source.resolution + 40
+plan_steps source target =
+    3 * (runs source + runs target) + 135 * (rows source + rows target) + 3 * source.resolution + 40
 
 -- the voxels of the source have become those of the target, written by the pair
 pub record PairHasRebuilt (t : TapeState) (old target : Matrix) : Type 0 where

@@ -14,9 +14,11 @@ use Rattle.kept_machine.specs.Kept.{Kept, kept_opening}
 pub data IsLedTo (source : Matrix) (profile : Profile) : Kept → Type 0 where
   by_start : {k : Kept} (room : ℕ) → k ≡ kept_opening source profile room → IsLedTo source profile k
   by_keep : {k : Kept} (old : Kept) → IsLedTo source profile old → BeginsTrace old k true → IsLedTo source profile k
-  by_step : {k : Kept} (old : Kept) (commands : List Command) (ok : StepOk) → IsLedTo source profile old → IsMade old commands k ok → IsLedTo source profile k
+  by_step : {k : Kept} (old : Kept) (commands : List Command) (ok : StepOk) → IsLedTo source profile old
+      → IsMade old commands k ok → IsLedTo source profile k
   by_undo : {k : Kept} (old : Kept) → IsLedTo source profile old → IsTakenBack old k → IsLedTo source profile k
-  by_copy : {k : Kept} (old : Kept) → IsLedTo source profile old → k ≡ record old { past = [] } → IsLedTo source profile k
+  by_copy : {k : Kept} (old : Kept) → IsLedTo source profile old → k ≡ record old { past = [] }
+      → IsLedTo source profile k
 
 -- the run of these commands from the source on goes through where the machine stands: whatever follows them, and whatever the target is,
 -- the verdict is the one of what follows from there on

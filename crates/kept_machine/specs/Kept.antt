@@ -33,7 +33,8 @@ present k = record { state = k.state; steps = k.steps }
 
 -- a machine before its first step
 abbrev pub kept_opening : Matrix → Profile → ℕ → Kept
-kept_opening source profile room = record { state = opening source profile; steps = 0; past = []; room = room; trace = None }
+kept_opening source profile room =
+    record { state = opening source profile; steps = 0; past = []; room = room; trace = None }
 
 -- a trace, if it is kept, with more commands at its end
 abbrev pub trace_with : Option (List Command) → List Command → Option (List Command)
@@ -79,7 +80,8 @@ instants_of p (undo ∷ notes) = first_instant p (undo ∷ notes) ∷ instants_o
 -- what is seen of a machine, its notes and its trace
 abbrev pub kept_of : Situation → Buffer Undo → Option (List Command) → Kept
 kept_of m notes trace =
-    record { state = m.state; steps = m.steps; past = instants_of (instant_of m) notes.items; room = notes.capacity; trace = trace }
+    record { state = m.state; steps = m.steps; past = instants_of (instant_of m) notes.items; room = notes.capacity;
+    trace = trace }
 
 -- the steps of the notes can be taken back, one after another
 abbrev pub CanBeTakenBack : Instant → List Undo → Type 0

@@ -47,7 +47,8 @@ sweep_steps_to p c = p.steps + 2 * moves_to (spot p.bots) c
 
 -- the tape has painted the voxels of which the test says so;
 -- with the way to a coordinate it has so many bytes and steps more at most than it had with the way to another
-pub record Paints (old new : TapeState) (goal : Matrix) (done : Coord → Bool) (first last : Coord) (most : ℕ) : Type 0 where
+pub record Paints (old new : TapeState) (goal : Matrix) (done : Coord → Bool) (first last : Coord) (most : ℕ)
+    : Type 0 where
   pub source : new.source ≡ old.source
   pub resolution : new.matrix.resolution ≡ old.matrix.resolution
   pub painted : IsPartlyBuilt new.matrix old.matrix goal done

@@ -16,5 +16,6 @@ end m = coord 0 m.resolution 0
 pub record IsRebuilt (t : TapeState) (target : Matrix) : Type 0 where
   pub matrix : t.matrix ≡ target
   pub ready : CanSweep t target
-  pub bytes_are : bytes t + 2 * moves_to (spot t.bots) origin + 2 ≤ 8 * target.resolution * target.resolution * target.resolution + 200
+  pub bytes_are : bytes t + 2 * moves_to (spot t.bots) origin + 2
+      ≤ 8 * target.resolution * target.resolution * target.resolution + 200
   pub limit : t.steps + moves_to (spot t.bots) origin + 2 ≤ 1073741824

@@ -65,7 +65,8 @@ pub record IsBuilt (m : Matrix) (s : Sweep) (p : TapeState) : Type 0 where
   pub first : s.trail.items ≡ [] → HasNotBegun s p
   pub plain : All IsPlain p.commands
   pub idle : IsEmpty m → p.commands ≡ []
-  pub few : 15 * p.steps + 60 * full_count s.remaining + 15 * (length s.trail.items - 1) ≤ 60 * full_count m + reach m.resolution s.at
+  pub few : 15 * p.steps + 60 * full_count s.remaining + 15 * (length s.trail.items - 1)
+      ≤ 60 * full_count m + reach m.resolution s.at
 
 -- all is built, and from the height of the bot on all is void
 pub record IsFinished (m : Matrix) (p : TapeState) : Type 0 where

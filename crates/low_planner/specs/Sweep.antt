@@ -37,7 +37,8 @@ pub record IsNextFull (m : Matrix) (from c : Coord) : Type 0 where
 
 -- the voxels of a coordinate's row that rest and lie before a component z were visited, from the coordinate on
 abbrev pub IsSweptRow : Matrix → Matrix → Coord → ℕ → Type 0
-IsSweptRow m left from end = (d : Coord) → d.x ≡ from.x → d.y ≡ from.y → from.z ≤ d.z → d.z < end → IsTrue (rests m d) → is_full left d ≡ false
+IsSweptRow m left from end =
+    (d : Coord) → d.x ≡ from.x → d.y ≡ from.y → from.z ≤ d.z → d.z < end → IsTrue (rests m d) → is_full left d ≡ false
 
 -- c is the first voxel of a coordinate's row, from it on, that rests and was not visited
 pub record IsStartInRow (m left : Matrix) (from c : Coord) : Type 0 where
@@ -75,7 +76,8 @@ pub record IsNextRow (r : ℕ) (from next : Coord) : Type 0 where
   pub z : next.z ≡ 0
   pub forth : ((next.y ≡ from.y) × (next.x ≡ from.x + 1)) ⊎ ((next.y ≡ from.y + 1) × (next.x ≡ 0) × (from.x + 1 ≡ r))
   pub near : IsWithinReach r from next
-  pub swept : (m left : Matrix) → m.resolution ≡ r → left.resolution ≡ r → AreSwept m left from → IsSweptRow m left from r → AreSwept m left next
+  pub swept : (m left : Matrix) → m.resolution ≡ r → left.resolution ≡ r → AreSwept m left from
+      → IsSweptRow m left from r → AreSwept m left next
 
 -- the next part begins there
 pub record IsPartStart (m : Matrix) (s : Sweep) (c : Coord) : Type 0 where
@@ -104,7 +106,8 @@ pub record IsSweep (m : Matrix) (s : Sweep) : Type 0 where
   pub resolution : s.remaining.resolution ≡ m.resolution
   pub fewer : (c : Coord) → is_full m c ≡ false → is_full s.remaining c ≡ false
   pub supported : (c : Coord) → IsVisited m s.remaining c → IsSupported m c
-  pub closed : (a b : Coord) → IsVisited m s.remaining a → AreBesideInLayer a b → IsTrue (is_full s.remaining b) → Contains s.trail.items a
+  pub closed : (a b : Coord) → IsVisited m s.remaining a → AreBesideInLayer a b → IsTrue (is_full s.remaining b)
+      → Contains s.trail.items a
   pub ahead : (c : Coord) → IsVisited m s.remaining c → c.y ≤ s.at.y
   pub swept : AreSwept m s.remaining s.at
   pub place : IsInSpace m.resolution s.at

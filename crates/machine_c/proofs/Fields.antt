@@ -54,8 +54,9 @@ module _ {M : Type 1} {𝓤 : Ura M} {𝓛 : Logic 𝓤} {K : Type 0} {Γ : List
       (fact_use 𝓤 (Testable (block_ptr b o)) (dealloc_token-Testable 𝓛 a (bare (τ E)) (block_ptr b o)) (guard_i 𝓤 (Testable (block_ptr b o)) (sem 𝓛 (token E.al a (bare (τ E)) (block_ptr b o))))) $
       learn k (λ t. move k (1 ∷ []) $ box_in E k (record { ptr = block_ptr b o; alloc = a; value = x }) b o x refl refl $ one x b o hv refl t ws fa))
 
-  pub bare_in : K → (a : Global) (hv : Val)
-      → Step K 𝓛 (‵ (Handle.the_row.own_val (record { at = null_ptr; alloc = a; machine = None }) (bare_word hv ∷ [])) ∷ Γ) G (‵ (handle E a hv) ∷ Γ) G
+  pub bare_in : K → (a : Global) (hv : Val) → Step K 𝓛
+      (‵ (Handle.the_row.own_val (record { at = null_ptr; alloc = a; machine = None }) (bare_word hv ∷ [])) ∷ Γ) G
+      (‵ (handle E a hv) ∷ Γ) G
   bare_in k a hv = step (λ s. nothing k $ fpack k (null_ptr ≡ null_ptr) (λ _. ftrue) refl $
       nothing k $ move k (2 ∷ 0 ∷ []) $ fjoin k $ feq_i k (List Val) (vnull ∷ []) (ptr_val null_ptr ∷ []) refl $ fjoin k $
       feq_i k (List Val) (bare_word hv ∷ []) (bare_word hv ∷ []) refl $ fjoin k $

@@ -63,9 +63,9 @@ IsStarted bytes light notes old new told status =
 -- a machine is started over the empty model, unless more notes are asked for than are kept, or there is no such model
 abbrev pub IsStartedEmpty : ℕ → Bool → ℕ → Option Kept → Option Kept → ℕ → Type 0
 IsStartedEmpty r light notes old new status =
-    (((4096 < notes) ⊎ (r ≡ 0) ⊎ (400 < r)) × (new ≡ old) × (status ≡ ARGUMENT))
-    ⊎ ((notes ≤ 4096) × (1 ≤ r) × (r ≤ 400)
-    × (answer : Result Kept ModelFault) × Opens (empty r) (profile_by light) notes answer × Starts old new status answer)
+    (((4096 < notes) ⊎ (r ≡ 0) ⊎ (400 < r)) × (new ≡ old) × (status ≡ ARGUMENT)) ⊎ ((notes ≤ 4096) × (1 ≤ r) × (r ≤ 400)
+    × (answer : Result Kept ModelFault) × Opens (empty r) (profile_by light) notes answer
+    × Starts old new status answer)
 
 -- a copy stands where the machine stands, and no step can be taken back in it
 abbrev pub IsCopied : Option Kept → Option Kept → Option Kept → ℕ → Type 0
@@ -84,7 +84,8 @@ StepComesTo old commands new (Unread fault) = ⊥
 -- the bytes spell commands that make a step, or commands that make none, or they are no commands
 abbrev pub ComesTo : Kept → List ℕ → Kept → StepAnswer → Type 0
 ComesTo old bytes new (Made ok) = (commands : List Command) × Cutting bytes commands × Tries old commands new (Ok ok)
-ComesTo old bytes new (Refused fault) = (commands : List Command) × Cutting bytes commands × Tries old commands new (Err fault)
+ComesTo old bytes new (Refused fault) =
+    (commands : List Command) × Cutting bytes commands × Tries old commands new (Err fault)
 ComesTo old bytes new (Unread fault) = (new ≡ old) × Decodes bytes (Err fault)
 
 -- the status of a step
@@ -170,8 +171,10 @@ GivesAll given before after count status =
 
 -- the active bots, in rising order of their bids
 abbrev pub AreBotsTold : Option Kept → List BotTold → List BotTold → ℕ → ℕ → ℕ → Type 0
-AreBotsTold None before after count_before count status = (after ≡ before) × (count ≡ count_before) × (status ≡ NO_MACHINE)
-AreBotsTold (Some k) before after count_before count status = GivesAll (map bot_told k.state.bots) before after count status
+AreBotsTold None before after count_before count status =
+    (after ≡ before) × (count ≡ count_before) × (status ≡ NO_MACHINE)
+AreBotsTold (Some k) before after count_before count status =
+    GivesAll (map bot_told k.state.bots) before after count status
 
 -- whether a voxel is full, 1 or 0
 abbrev pub bit_of : Bool → ℕ
@@ -210,4 +213,5 @@ IsCounted (Some k) before after status = (after ≡ full_count k.state.matrix) �
 abbrev pub IsModelGiven : Option Kept → List ℕ → List ℕ → ℕ → ℕ → ℕ → Type 0
 IsModelGiven None before after size_before size status = (after ≡ before) × (size ≡ size_before) × (status ≡ NO_MACHINE)
 IsModelGiven (Some k) before after size_before size status =
-    GivesAll (written k.state.matrix) before after size status ⊎ ((after ≡ before) × (size ≡ size_before) × (status ≡ MEMORY))
+    GivesAll (written k.state.matrix) before after size status
+    ⊎ ((after ≡ before) × (size ≡ size_before) × (status ≡ MEMORY))

@@ -16,9 +16,11 @@ use Rattle.machine_c.specs.Told.{fault_told, number_refusal}
 -- what the bytes of a target come to beside a matrix; the target need not be legal
 abbrev pub Compares : Kept → List ℕ → TargetAnswer → Type 0
 Compares k bytes Same =
-    (m : Matrix) × (model bytes ≡ Ok m) × (m.resolution ≡ k.state.matrix.resolution) × (first_difference k.state.matrix m ≡ None)
+    (m : Matrix) × (model bytes ≡ Ok m) × (m.resolution ≡ k.state.matrix.resolution)
+    × (first_difference k.state.matrix m ≡ None)
 Compares k bytes (Differs at) =
-    (m : Matrix) × (model bytes ≡ Ok m) × (m.resolution ≡ k.state.matrix.resolution) × (first_difference k.state.matrix m ≡ Some at)
+    (m : Matrix) × (model bytes ≡ Ok m) × (m.resolution ≡ k.state.matrix.resolution)
+    × (first_difference k.state.matrix m ≡ Some at)
 Compares k bytes Unlike = (m : Matrix) × (model bytes ≡ Ok m) × (m.resolution ≢ k.state.matrix.resolution)
 Compares k bytes (Refused fault) = ReadsModel (model bytes) (Err fault)
 
@@ -40,7 +42,8 @@ refusal_of_target _ = number_refusal 0 0 0
 
 -- a target is compared with the matrix of a machine
 abbrev pub IsCompared : Option Kept → List ℕ → PlaceTold → PlaceTold → ModelTold → ModelTold → ℕ → Type 0
-IsCompared None bytes before after refusal_before refusal status = (after ≡ before) × (refusal ≡ refusal_before) × (status ≡ NO_MACHINE)
+IsCompared None bytes before after refusal_before refusal status =
+    (after ≡ before) × (refusal ≡ refusal_before) × (status ≡ NO_MACHINE)
 IsCompared (Some k) bytes before after refusal_before refusal status =
     (answer : TargetAnswer) × Compares k bytes answer
     × (after ≡ place_by answer) × (refusal ≡ refusal_of_target answer) × (status ≡ status_of_target answer)

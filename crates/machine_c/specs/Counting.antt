@@ -15,7 +15,8 @@ use Rattle.machine_c.specs.Told.{fault_told, number_refusal}
 -- what is counted of the bytes of a target beside a matrix; the target need not be legal
 abbrev pub Counts : Kept → List ℕ → CountAnswer → Type 0
 Counts k bytes (Counted count) =
-    (m : Matrix) × (model bytes ≡ Ok m) × (m.resolution ≡ k.state.matrix.resolution) × (count ≡ difference_count k.state.matrix m)
+    (m : Matrix) × (model bytes ≡ Ok m) × (m.resolution ≡ k.state.matrix.resolution)
+    × (count ≡ difference_count k.state.matrix m)
 Counts k bytes Unlike = (m : Matrix) × (model bytes ≡ Ok m) × (m.resolution ≢ k.state.matrix.resolution)
 Counts k bytes (Refused fault) = ReadsModel (model bytes) (Err fault)
 
@@ -36,7 +37,8 @@ refusal_of_count _ = number_refusal 0 0 0
 
 -- it is told at how many coordinates the matrix of a machine and a target differ
 abbrev pub AreDifferencesTold : Option Kept → List ℕ → ℕ → ℕ → ModelTold → ModelTold → ℕ → Type 0
-AreDifferencesTold None bytes before after refusal_before refusal status = (after ≡ before) × (refusal ≡ refusal_before) × (status ≡ NO_MACHINE)
+AreDifferencesTold None bytes before after refusal_before refusal status =
+    (after ≡ before) × (refusal ≡ refusal_before) × (status ≡ NO_MACHINE)
 AreDifferencesTold (Some k) bytes before after refusal_before refusal status =
     (answer : CountAnswer) × Counts k bytes answer
     × (after ≡ differences_by answer) × (refusal ≡ refusal_of_count answer) × (status ≡ status_of_count answer)

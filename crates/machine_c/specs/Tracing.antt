@@ -27,7 +27,8 @@ GivesTrace commands before after size_before size status =
 -- the trace of a machine is given, if it is kept
 abbrev pub GivesKept : Option (List Command) → List ℕ → List ℕ → ℕ → ℕ → ℕ → Type 0
 GivesKept None before after size_before size status = (after ≡ before) × (size ≡ size_before) × (status ≡ NO_TRACE)
-GivesKept (Some commands) before after size_before size status = GivesTrace commands before after size_before size status
+GivesKept (Some commands) before after size_before size status =
+    GivesTrace commands before after size_before size status
 
 abbrev pub IsTraceGiven : Option Kept → List ℕ → List ℕ → ℕ → ℕ → ℕ → Type 0
 IsTraceGiven None before after size_before size status = (after ≡ before) × (size ≡ size_before) × (status ≡ NO_MACHINE)

@@ -112,8 +112,9 @@ either_full true a b c d e = refl
 either_full false a b c d e = refl
 
 -- the least in the faces is the least outside the legal box
-pub least_outside : (m : Matrix) (e : ℕ) (o : Option Coord) → e + 1 ≡ m.resolution
-    → LeastOf m.resolution (λ c. (((is_full m c && left_box e c) || (is_full m c && right_box e c)) || ((is_full m c && front_box e c) || (is_full m c && back_box e c))) || (is_full m c && top_box e c)) o
+pub least_outside : (m : Matrix) (e : ℕ) (o : Option Coord) → e + 1 ≡ m.resolution → LeastOf m.resolution (λ c.
+    (((is_full m c && left_box e c) || (is_full m c && right_box e c))
+    || ((is_full m c && front_box e c) || (is_full m c && back_box e c))) || (is_full m c && top_box e c)) o
     → LeastOf m.resolution (λ c. is_full m c && not (in_legal_box m.resolution c)) o
 least_outside m e o h l =
     least_same m.resolution (λ c. (((is_full m c && left_box e c) || (is_full m c && right_box e c)) || ((is_full m c && front_box e c) || (is_full m c && back_box e c))) || (is_full m c && top_box e c)) (λ c. is_full m c && not (in_legal_box m.resolution c))

@@ -366,15 +366,18 @@ takes_beside a b s t h near = takes_wider (IsAmong t) (IsBeside s) a b (λ d f k
 
 -- the seven stretches beside one were taken
 pub takes_around : (a b c d e f g h : Flood) (s : Stretch) → IsStart MOST_R s → a.remaining.resolution ≤ MOST_R
-    → s.bits < 2 ^ 64
-    → TakesOut (IsAmong (record { first = record { x = s.first.x + 1; y = s.first.y; z = s.first.z }; bits = s.bits })) a b
-    → TakesOut (IsAmong (record { first = record { x = one_less s.first.x; y = s.first.y; z = s.first.z }; bits = s.bits })) b c
-    → TakesOut (IsAmong (record { first = record { x = s.first.x; y = s.first.y + 1; z = s.first.z }; bits = s.bits })) c d
-    → TakesOut (IsAmong (record { first = record { x = s.first.x; y = one_less s.first.y; z = s.first.z }; bits = s.bits })) d e
-    → TakesOut (IsAmong (record { first = s.first; bits = moved s.bits })) e f
-    → TakesOut (IsAmong (record { first = record { x = s.first.x; y = s.first.y; z = s.first.z + 64 }; bits = s.bits / 2 ^ 63 })) f g
-    → TakesOut (IsAmong (record { first = record { x = s.first.x; y = s.first.y; z = word_less s.first.z }; bits = s.bits * 2 ^ 63 % 2 ^ 64 })) g h
-    → TakesOut (IsBeside s) a h
+    → s.bits < 2 ^ 64 → TakesOut
+    (IsAmong (record { first = record { x = s.first.x + 1; y = s.first.y; z = s.first.z }; bits = s.bits })) a b
+    → TakesOut
+    (IsAmong (record { first = record { x = one_less s.first.x; y = s.first.y; z = s.first.z }; bits = s.bits })) b c
+    → TakesOut (IsAmong (record { first = record { x = s.first.x; y = s.first.y + 1; z = s.first.z }; bits = s.bits }))
+    c d → TakesOut
+    (IsAmong (record { first = record { x = s.first.x; y = one_less s.first.y; z = s.first.z }; bits = s.bits })) d e
+    → TakesOut (IsAmong (record { first = s.first; bits = moved s.bits })) e f → TakesOut
+    (IsAmong (record { first = record { x = s.first.x; y = s.first.y; z = s.first.z + 64 }; bits = s.bits / 2 ^ 63 })) f
+    g → TakesOut (IsAmong
+    (record { first = record { x = s.first.x; y = s.first.y; z = word_less s.first.z }; bits = s.bits * 2 ^ 63 % 2 ^ 64 }))
+    g h → TakesOut (IsBeside s) a h
 takes_around a b c d e f g h s start most fits h1 h2 h3 h4 h5 h6 h7 =
     let b_most : b.remaining.resolution ≤ MOST_R = rw h1.resolution most in
     let c_most : c.remaining.resolution ≤ MOST_R = rw h2.resolution b_most in

@@ -27,9 +27,10 @@ byte_bit n (suc (suc (suc (suc (suc (suc (suc zero))))))) l = omega arith
 byte_bit n (suc (suc (suc (suc (suc (suc (suc (suc i)))))))) l = absurd (omega arith)
 
 -- the bytes of a word, lowest first
-bytes_of : (bytes : List ℕ) (at n : ℕ) → ((k : ℕ) → slice_index bytes k < 256) → n
-    ≡ from_le_bytes w64 (slice_index bytes at ∷ slice_index bytes (at + 1) ∷ slice_index bytes (at + 2) ∷ slice_index bytes (at + 3) ∷ slice_index bytes (at + 4) ∷ slice_index bytes (at + 5) ∷ slice_index bytes (at + 6) ∷ slice_index bytes (at + 7) ∷ [])
-    → (j : ℕ) → j < 8 → n / 2 ^ (8 * j) % 256 ≡ slice_index bytes (at + j)
+bytes_of : (bytes : List ℕ) (at n : ℕ) → ((k : ℕ) → slice_index bytes k < 256) → n ≡ from_le_bytes w64
+    (slice_index bytes at ∷ slice_index bytes (at + 1) ∷ slice_index bytes (at + 2) ∷ slice_index bytes (at + 3)
+    ∷ slice_index bytes (at + 4) ∷ slice_index bytes (at + 5) ∷ slice_index bytes (at + 6) ∷ slice_index bytes (at + 7)
+    ∷ []) → (j : ℕ) → j < 8 → n / 2 ^ (8 * j) % 256 ≡ slice_index bytes (at + j)
 bytes_of bytes at n small e = by (small at) (small (at + 1)) (small (at + 2)) (small (at + 3)) (small (at + 4)) (small (at + 5)) (small (at + 6)) (small (at + 7))
   where
     by : slice_index bytes at < 256 → slice_index bytes (at + 1) < 256 → slice_index bytes (at + 2) < 256
@@ -46,9 +47,10 @@ bytes_of bytes at n small e = by (small at) (small (at + 1)) (small (at + 2)) (s
     by a b c d f g h i (suc (suc (suc (suc (suc (suc (suc zero))))))) l = omega (arith, e)
     by a b c d f g h i (suc (suc (suc (suc (suc (suc (suc (suc j)))))))) l = absurd (omega arith)
 
-pub word_of : (bytes : List ℕ) (at n : ℕ) → ((k : ℕ) → slice_index bytes k < 256) → n
-    ≡ from_le_bytes w64 (slice_index bytes at ∷ slice_index bytes (at + 1) ∷ slice_index bytes (at + 2) ∷ slice_index bytes (at + 3) ∷ slice_index bytes (at + 4) ∷ slice_index bytes (at + 5) ∷ slice_index bytes (at + 6) ∷ slice_index bytes (at + 7) ∷ [])
-    → IsWordOf bytes at n
+pub word_of : (bytes : List ℕ) (at n : ℕ) → ((k : ℕ) → slice_index bytes k < 256) → n ≡ from_le_bytes w64
+    (slice_index bytes at ∷ slice_index bytes (at + 1) ∷ slice_index bytes (at + 2) ∷ slice_index bytes (at + 3)
+    ∷ slice_index bytes (at + 4) ∷ slice_index bytes (at + 5) ∷ slice_index bytes (at + 6) ∷ slice_index bytes (at + 7)
+    ∷ []) → IsWordOf bytes at n
 word_of bytes at n small e i l =
     let whole : i ≡ 8 * (i / 8) + i % 8 = omega arith in
     ap (bit n) whole

@@ -95,9 +95,9 @@ said total (a ∷ b ∷ c ∷ d ∷ more) index sum ns bound h =
     }
 
     by : (lt no_run : Bool) → is_no_run total index sum (number_of_four a b c d) ≡ no_run
-        → (rest : Result (List ℕ) NoModel) → ((ms : List ℕ) → rest ≡ Ok ms → IsSaid (index + 1) more ms)
-        → ◌≡◌ {A = Result (List ℕ) NoModel}
-        (elim lt [ false ↦ Err WideLong | true ↦ elim no_run [ true ↦ Err (WideRun index) | false ↦ with_first (number_of_four a b c d) rest ] ])
+        → (rest : Result (List ℕ) NoModel) → ((ms : List ℕ) → rest ≡ Ok ms → IsSaid (index + 1) more ms) → ◌≡◌
+        {A = Result (List ℕ) NoModel} (elim lt
+        [ false ↦ Err WideLong | true ↦ elim no_run [ true ↦ Err (WideRun index) | false ↦ with_first (number_of_four a b c d) rest ] ])
         (Ok ns) → IsSaid index (a ∷ b ∷ c ∷ d ∷ more) ns
     by false n e rest later k = cc
     by true true e rest later k = cc
@@ -153,8 +153,8 @@ none_said total (a ∷ b ∷ c ∷ []) p h = by (nat_lt 0 total) h
     by false k = cc
 none_said total (a ∷ b ∷ c ∷ d ∷ more) p h = by (nat_lt 0 total) (is_no_run total 0 0 (number_of_four a b c d)) (runs_in total (0 + 1) (0 + number_of_four a b c d) more) h
   where
-    by : (lt no_run : Bool) (rest : Result (List ℕ) NoModel) → ◌≡◌ {A = Result (List ℕ) NoModel}
-        (elim lt [ false ↦ Err WideLong | true ↦ elim no_run [ true ↦ Err (WideRun 0) | false ↦ with_first (number_of_four a b c d) rest ] ])
+    by : (lt no_run : Bool) (rest : Result (List ℕ) NoModel) → ◌≡◌ {A = Result (List ℕ) NoModel} (elim lt
+        [ false ↦ Err WideLong | true ↦ elim no_run [ true ↦ Err (WideRun 0) | false ↦ with_first (number_of_four a b c d) rest ] ])
         (Ok []) → ⊥
     by false n rest k = cc
     by true true rest k = cc
@@ -285,8 +285,8 @@ first_again : (r : ℕ) (more : List ℕ) (m : Matrix) → All (λ b. b < 256) m
 first_again r more m bound h = by (nat_le 1 r && nat_le r 250) (nat_lt (length (r ∷ more)) (wanted r)) (nat_lt (wanted r) (length (r ∷ more))) refl refl refl h
   where
     by : (a b c : Bool) → (nat_le 1 r && nat_le r 250) ≡ a → nat_lt (length (r ∷ more)) (wanted r) ≡ b
-        → nat_lt (wanted r) (length (r ∷ more)) ≡ c → ◌≡◌ {A = Result Matrix NoModel}
-        (elim a [ false ↦ Err (Resolution r) | true ↦ elim b [ true ↦ Err (Short (wanted r) (length (r ∷ more))) | false ↦ elim c [ true ↦ Err (Long (wanted r)) | false ↦ Ok (record { resolution = r; voxels = said_voxels r (r ∷ more) }) ] ] ])
+        → nat_lt (wanted r) (length (r ∷ more)) ≡ c → ◌≡◌ {A = Result Matrix NoModel} (elim a
+        [ false ↦ Err (Resolution r) | true ↦ elim b [ true ↦ Err (Short (wanted r) (length (r ∷ more))) | false ↦ elim c [ true ↦ Err (Long (wanted r)) | false ↦ Ok (record { resolution = r; voxels = said_voxels r (r ∷ more) }) ] ] ])
         (Ok m) → written m ≡ r ∷ cut_last (used_bits r) more
     by false b c e f g k = cc
     by true true c e f g k = cc

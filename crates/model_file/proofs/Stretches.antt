@@ -177,8 +177,8 @@ module _ (s : Stretch) (r : ℕ) (start : IsStart MOST_R s) (most : r ≤ MOST_R
           let sum_is : d.z - s.first.z + 1 ≡ d.z + 1 - s.first.z = omega arith in
           along (d.z + 1) d a.x a.y (omega arith) (omega arith) (ap (bit s.bits) (sym sum_is) ∙ h.1) (omega arith)
 
-  pub near_after : (d : Coord) → IsInSpace r d
-      → IsAmong (record { first = record { x = s.first.x; y = s.first.y; z = s.first.z + 64 }; bits = s.bits / 2 ^ 63 }) d
+  pub near_after : (d : Coord) → IsInSpace r d → IsAmong
+      (record { first = record { x = s.first.x; y = s.first.y; z = s.first.z + 64 }; bits = s.bits / 2 ^ 63 }) d
       → IsBeside s d
   near_after d i a =
       let from = a.from in
@@ -188,8 +188,8 @@ module _ (s : Stretch) (r : ℕ) (start : IsStart MOST_R s) (most : r ≤ MOST_R
       let sum_is : 63 + (d.z - (s.first.z + 64)) ≡ s.first.z + 63 - s.first.z = omega arith in
       along (s.first.z + 63) d a.x a.y (omega arith) (omega arith) (ap (bit s.bits) (sym sum_is) ∙ bit_set) (omega arith)
 
-  pub near_before : (d : Coord) → IsInSpace r d
-      → IsAmong (record { first = record { x = s.first.x; y = s.first.y; z = word_less s.first.z }; bits = s.bits * 2 ^ 63 % 2 ^ 64 }) d
+  pub near_before : (d : Coord) → IsInSpace r d → IsAmong (record
+      { first = record { x = s.first.x; y = s.first.y; z = word_less s.first.z }; bits = s.bits * 2 ^ 63 % 2 ^ 64 }) d
       → IsBeside s d
   near_before d i a =
       let from = a.from in
@@ -221,9 +221,9 @@ module _ (s : Stretch) (r : ℕ) (start : IsStart MOST_R s) (most : r ≤ MOST_R
       → ((d : Coord)
       → IsAmong (record { first = record { x = s.first.x; y = one_less s.first.y; z = s.first.z }; bits = s.bits }) d
       → P d) → ((d : Coord) → IsAmong (record { first = s.first; bits = moved s.bits }) d → P d) → ((d : Coord)
-      → IsAmong (record { first = record { x = s.first.x; y = s.first.y; z = s.first.z + 64 }; bits = s.bits / 2 ^ 63 }) d
-      → P d) → ((d : Coord)
-      → IsAmong (record { first = record { x = s.first.x; y = s.first.y; z = word_less s.first.z }; bits = s.bits * 2 ^ 63 % 2 ^ 64 }) d
+      → IsAmong (record { first = record { x = s.first.x; y = s.first.y; z = s.first.z + 64 }; bits = s.bits / 2 ^ 63 })
+      d → P d) → ((d : Coord) → IsAmong (record
+      { first = record { x = s.first.x; y = s.first.y; z = word_less s.first.z }; bits = s.bits * 2 ^ 63 % 2 ^ 64 }) d
       → P d) → (d : Coord) → IsBeside s d → P d
   of_seven P p1 p2 p3 p4 p5 p6 p7 d h = by (side_of h.one d h.adjacent)
     where

@@ -59,7 +59,8 @@ pub record TakesOut (near : Coord → Type 0) (old new : Flood) : Type 0 where
   pub taken : (d : Coord) → IsTaken old.remaining new.remaining d → near d × HasFound new d
   pub kept : (d : Coord) → HasFound old d → HasFound new d
   pub found : (d : Coord) → HasFound new d → HasFound old d ⊎ IsTaken old.remaining new.remaining d
-  pub starts : (s : Stretch) → Contains new.found.items s → Contains old.found.items s ⊎ (IsInSpace old.remaining.resolution s.first × (s.first.z % 64 ≡ 0))
+  pub starts : (s : Stretch) → Contains new.found.items s
+      → Contains old.found.items s ⊎ (IsInSpace old.remaining.resolution s.first × (s.first.z % 64 ≡ 0))
   pub weighs : weight new ≤ weight old
 
 -- the search of a matrix has come so far: what was taken out is grounded, and what was found is taken out;
@@ -69,7 +70,8 @@ pub record IsFlood (m : Matrix) (f : Flood) : Type 0 where
   pub fewer : (c : Coord) → is_full m c ≡ false → is_full f.remaining c ≡ false
   pub grounded : (c : Coord) → IsTaken m f.remaining c → Grounded m c
   pub found : (c : Coord) → HasFound f c → IsTaken m f.remaining c
-  pub looked : (a b : Coord) → IsTaken m f.remaining a → IsTrue (are_adjacent a b) → IsTrue (is_full f.remaining b) → HasFound f a
+  pub looked : (a b : Coord) → IsTaken m f.remaining a → IsTrue (are_adjacent a b) → IsTrue (is_full f.remaining b)
+      → HasFound f a
   pub floor : (c : Coord) → c.y ≡ 0 → is_full f.remaining c ≡ false
 
 -- what is left is a part of the matrix, and what was taken out of it is grounded
@@ -93,4 +95,5 @@ pub record AreOut (m left : Matrix) (first : Coord) (bits : ℕ) : Type 0 where
 -- the search looked around those voxels of an area that were out: what it took is grounded, and nothing beside them is left
 pub record LooksAround (m : Matrix) (area : Coord → Type 0) (old new : Flood) : Type 0 where
   pub takes : TakesOut (Grounded m) old new
-  pub bare : (c d : Coord) → area c → IsTaken m old.remaining c → IsTrue (are_adjacent c d) → is_full new.remaining d ≡ false
+  pub bare : (c d : Coord) → area c → IsTaken m old.remaining c → IsTrue (are_adjacent c d)
+      → is_full new.remaining d ≡ false

@@ -105,8 +105,8 @@ module _ (number r : ℕ) where
   tallest_of tower [] = record { height_is = omega arith; kept = λ _. refl; newer = λ l. absurd (omega (arith, l)) }
   tallest_of tower (k ∷ ks) = by (nat_lt tower.height (of_column k)) refl (tallest_of (record { height = of_column k; z = k.z }) ks) (tallest_of tower ks)
     where
-      by : (b : Bool) → nat_lt tower.height (of_column k) ≡ b
-          → IsTallest (record { height = of_column k; z = k.z }) ks (highest number r (record { height = of_column k; z = k.z }) ks)
+      by : (b : Bool) → nat_lt tower.height (of_column k) ≡ b → IsTallest (record { height = of_column k; z = k.z }) ks
+          (highest number r (record { height = of_column k; z = k.z }) ks)
           → IsTallest tower ks (highest number r tower ks)
           → IsTallest tower (k ∷ ks) (highest number r (cond b (record { height = of_column k; z = k.z }) tower) ks)
       by true e new same = new_tower tower k ks _ (less tower.height (of_column k) e) new

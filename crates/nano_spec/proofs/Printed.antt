@@ -93,8 +93,10 @@ text_digits : (n : ℕ) (rest : List ℕ) → n < 256
     → In (record { number = pos n; rest = rest }) (digits 3 0 (text n ++ rest))
 text_digits n rest l = by (nat_lt n 10) (nat_lt n 100) refl refl
   where
-    by : (a b : Bool) → nat_lt n 10 ≡ a → nat_lt n 100 ≡ b → In (record { number = pos n; rest = rest })
-        (digits 3 0 (cond a ((48 + n) ∷ []) (cond b ((48 + n / 10) ∷ (48 + n % 10) ∷ []) ((48 + n / 100) ∷ (48 + n / 10 % 10) ∷ (48 + n % 10) ∷ [])) ++ rest))
+    by : (a b : Bool) → nat_lt n 10 ≡ a → nat_lt n 100 ≡ b → In (record { number = pos n; rest = rest }) (digits 3 0
+        (cond a ((48 + n) ∷ [])
+        (cond b ((48 + n / 10) ∷ (48 + n % 10) ∷ []) ((48 + n / 100) ∷ (48 + n / 10 % 10) ∷ (48 + n % 10) ∷ []))
+        ++ rest))
     by true b e f =
         let few : n < 10 = grind (arith, nat_tests) in
         one_digit 2 0 n rest (record { number = pos n; rest = rest }) few (inl (same_read (10 * 0 + n) n rest (omega arith)))
@@ -116,9 +118,11 @@ no_minus d l = grind (arith, nat_tests)
 text_numbers : (n : ℕ) (rest : List ℕ) → n < 256 → numbers (text n ++ rest) ≡ digits 3 0 (text n ++ rest)
 text_numbers n rest l = by (nat_lt n 10) (nat_lt n 100) refl refl
   where
-    by : (a b : Bool) → nat_lt n 10 ≡ a → nat_lt n 100 ≡ b
-        → numbers (cond a ((48 + n) ∷ []) (cond b ((48 + n / 10) ∷ (48 + n % 10) ∷ []) ((48 + n / 100) ∷ (48 + n / 10 % 10) ∷ (48 + n % 10) ∷ [])) ++ rest)
-        ≡ digits 3 0 (cond a ((48 + n) ∷ []) (cond b ((48 + n / 10) ∷ (48 + n % 10) ∷ []) ((48 + n / 100) ∷ (48 + n / 10 % 10) ∷ (48 + n % 10) ∷ [])) ++ rest)
+    by : (a b : Bool) → nat_lt n 10 ≡ a → nat_lt n 100 ≡ b → numbers (cond a ((48 + n) ∷ [])
+        (cond b ((48 + n / 10) ∷ (48 + n % 10) ∷ []) ((48 + n / 100) ∷ (48 + n / 10 % 10) ∷ (48 + n % 10) ∷ []))
+        ++ rest) ≡ digits 3 0 (cond a ((48 + n) ∷ [])
+        (cond b ((48 + n / 10) ∷ (48 + n % 10) ∷ []) ((48 + n / 100) ∷ (48 + n / 10 % 10) ∷ (48 + n % 10) ∷ []))
+        ++ rest)
     by true b e f =
         let few : n < 10 = grind (arith, nat_tests) in
         ap (λ t. cond t (map negative (digits 3 0 rest)) (digits 3 0 ((48 + n) ∷ rest))) (no_minus n few)
@@ -196,8 +200,8 @@ plain_digit d l = grind (arith, nat_tests)
 plain_text : (n : ℕ) → n < 256 → Plain (text n)
 plain_text n l = by (nat_lt n 10) (nat_lt n 100) refl refl
   where
-    by : (a b : Bool) → nat_lt n 10 ≡ a → nat_lt n 100 ≡ b
-        → Plain (cond a ((48 + n) ∷ []) (cond b ((48 + n / 10) ∷ (48 + n % 10) ∷ []) ((48 + n / 100) ∷ (48 + n / 10 % 10) ∷ (48 + n % 10) ∷ [])))
+    by : (a b : Bool) → nat_lt n 10 ≡ a → nat_lt n 100 ≡ b → Plain (cond a ((48 + n) ∷ [])
+        (cond b ((48 + n / 10) ∷ (48 + n % 10) ∷ []) ((48 + n / 100) ∷ (48 + n / 10 % 10) ∷ (48 + n % 10) ∷ [])))
     by true b e f =
         let few : n < 10 = grind (arith, nat_tests) in
         both_true (is_plain (48 + n)) true (plain_digit n few) refl

@@ -125,8 +125,8 @@ none_left value ps zero so_far more h = inl refl
 none_left value ps (suc n) so_far [] h = inl refl
 none_left value ps (suc n) so_far (b ∷ more) h = by (is_digit b) refl
   where
-    by : (t : Bool) → is_digit b ≡ t
-        → (cond t (record { number = pos (10 * so_far + (b - 48)); rest = more } ∷ digits n (10 * so_far + (b - 48)) more) []
+    by : (t : Bool) → is_digit b ≡ t → (cond t
+        (record { number = pos (10 * so_far + (b - 48)); rest = more } ∷ digits n (10 * so_far + (b - 48)) more) []
         ≡ []) ⊎ (readings ps (b ∷ more) ≡ [])
     by true e = inr (no_digit ps b more h e)
     by false e = inl refl
@@ -140,13 +140,15 @@ one_after_digits value ps (suc n) so_far [] h one = tt
 one_after_digits value ps (suc n) so_far (b ∷ more) h one = by (is_digit b) (one_after_digits value ps n (10 * so_far + (b - 48)) more h one)
   where
     split : (digits n (10 * so_far + (b - 48)) more ≡ []) ⊎ (readings ps more ≡ [])
-        → HasOneAtMost (flat_map (behind value ps) (digits n (10 * so_far + (b - 48)) more))
-        → HasOneAtMost (map (λ ns. value (record { number = pos (10 * so_far + (b - 48)); rest = more }) ∷ ns) (readings ps more) ++ flat_map (behind value ps) (digits n (10 * so_far + (b - 48)) more))
+        → HasOneAtMost (flat_map (behind value ps) (digits n (10 * so_far + (b - 48)) more)) → HasOneAtMost
+        (map (λ ns. value (record { number = pos (10 * so_far + (b - 48)); rest = more }) ∷ ns) (readings ps more)
+        ++ flat_map (behind value ps) (digits n (10 * so_far + (b - 48)) more))
     split (inl e) later = one_and_none _ _ (ap (flat_map (behind value ps)) e) (one_mapped (λ ns. value (record { number = pos (10 * so_far + (b - 48)); rest = more }) ∷ ns) (readings ps more) (one more))
     split (inr e) later = one_of_none _ _ (ap (map (λ ns. value (record { number = pos (10 * so_far + (b - 48)); rest = more }) ∷ ns)) e) later
 
-    by : (t : Bool) → HasOneAtMost (flat_map (behind value ps) (digits n (10 * so_far + (b - 48)) more))
-        → HasOneAtMost (flat_map (behind value ps) (cond t (record { number = pos (10 * so_far + (b - 48)); rest = more } ∷ digits n (10 * so_far + (b - 48)) more) []))
+    by : (t : Bool) → HasOneAtMost (flat_map (behind value ps) (digits n (10 * so_far + (b - 48)) more)) → HasOneAtMost
+        (flat_map (behind value ps) (cond t
+        (record { number = pos (10 * so_far + (b - 48)); rest = more } ∷ digits n (10 * so_far + (b - 48)) more) []))
     by true later = split (none_left value ps n (10 * so_far + (b - 48)) more h) later
     by false later = tt
 
@@ -161,8 +163,8 @@ one_after_number : (ps : List Part) (line : List ℕ) → IsTrue (is_free ps)
 one_after_number ps [] h one = tt
 one_after_number ps (b ∷ more) h one = by (b == 45)
   where
-    by : (t : Bool)
-        → HasOneAtMost (flat_map (behind (λ r. r.number) ps) (cond t (map negative (digits 3 0 more)) (digits 3 0 (b ∷ more))))
+    by : (t : Bool) → HasOneAtMost
+        (flat_map (behind (λ r. r.number) ps) (cond t (map negative (digits 3 0 more)) (digits 3 0 (b ∷ more))))
     by true = subst HasOneAtMost (sym (mapped_first negative (behind (λ r. r.number) ps) (digits 3 0 more))) (one_after_digits (λ r. (negative r).number) ps 3 0 more h one)
     by false = one_after_digits (λ r. r.number) ps 3 0 (b ∷ more) h one
 

@@ -93,8 +93,8 @@ runs_sum (a ∷ b ∷ c ∷ d ∷ more) total index sum runs l h =
   where
     by : (p q : Bool) → is_no_run total index sum (number_of_four a b c d) ≡ q → (rest : Result (List ℕ) NoModel)
         → ((ns : List ℕ) → sum + number_of_four a b c d ≤ total → rest ≡ Ok ns
-        → (sum + number_of_four a b c d) + sum_of ns ≡ total) → ◌≡◌ {A = Result (List ℕ) NoModel}
-        (elim p [ false ↦ Err WideLong | true ↦ elim q [ true ↦ Err (WideRun index) | false ↦ with_first (number_of_four a b c d) rest ] ])
+        → (sum + number_of_four a b c d) + sum_of ns ≡ total) → ◌≡◌ {A = Result (List ℕ) NoModel} (elim p
+        [ false ↦ Err WideLong | true ↦ elim q [ true ↦ Err (WideRun index) | false ↦ with_first (number_of_four a b c d) rest ] ])
         (Ok runs) → sum + sum_of runs ≡ total
     by false q e rest later k = cc
     by true true e rest later k = cc

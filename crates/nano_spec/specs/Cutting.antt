@@ -24,7 +24,8 @@ RestOf bytes rest = HasFront bytes rest × ((other : List ℕ) → HasFront byte
 
 -- the rest is a spelling's beginning, but not the whole spelling
 abbrev pub BeginsSpelling : List ℕ → Type 0
-BeginsSpelling rest = (command : Command) × (more : List ℕ) × IsCommand command × (more ≢ []) × (rest ++ more ≡ spelling command)
+BeginsSpelling rest =
+    (command : Command) × (more : List ℕ) × IsCommand command × (more ≢ []) × (rest ++ more ≡ spelling command)
 
 -- why bytes are no trace, and from which offset on: they end within a command, or are no command there
 pub data NoTrace : Type 0 where
@@ -34,5 +35,8 @@ pub data NoTrace : Type 0 where
 -- the commands of the bytes, or why there are none: what follows the longest front that is a join of spellings
 abbrev pub Decoding : List ℕ → Result (List Command) NoTrace → Type 0
 Decoding bytes (Ok commands) = Cutting bytes commands
-Decoding bytes (Err (CutAt offset)) = (rest : List ℕ) × RestOf bytes rest × (rest ≢ []) × (length bytes ≡ offset + length rest) × BeginsSpelling rest
-Decoding bytes (Err (BadAt offset)) = (rest : List ℕ) × RestOf bytes rest × (rest ≢ []) × (length bytes ≡ offset + length rest) × (BeginsSpelling rest → ⊥)
+Decoding bytes (Err (CutAt offset)) =
+    (rest : List ℕ) × RestOf bytes rest × (rest ≢ []) × (length bytes ≡ offset + length rest) × BeginsSpelling rest
+Decoding bytes (Err (BadAt offset)) =
+    (rest : List ℕ) × RestOf bytes rest × (rest ≢ []) × (length bytes ≡ offset + length rest)
+    × (BeginsSpelling rest → ⊥)

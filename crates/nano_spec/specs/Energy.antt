@@ -19,7 +19,8 @@ total (z ∷ more) = z +ℤ total more
 
 -- a price for each coordinate of a region, by whether its voxel is full
 abbrev pub price : Matrix → Span → ℤ → ℤ → ℤ
-price m s if_void if_full = total (map (λ c. cond (is_full m c) if_full if_void) (filter (λ c. is_within s (point c)) (all_of m)))
+price m s if_void if_full =
+    total (map (λ c. cond (is_full m c) if_full if_void) (filter (λ c. is_within s (point c)) (all_of m)))
 
 -- what it costs to fill a region: 12 for a void voxel, 6 for a full one
 abbrev pub filling : Matrix → Span → ℤ

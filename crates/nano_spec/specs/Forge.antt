@@ -36,7 +36,9 @@ tallest number r = greatest (map (λ k. column_height number r k.x k.z) (columns
 
 -- the z of the first column of the greatest height
 abbrev pub line_of_tallest : ℕ → ℕ → ℕ
-line_of_tallest number r = unwrap_or (option_map (λ (k : Column). k.z) (find (λ k. column_height number r k.x k.z == tallest number r) (columns r))) 0
+line_of_tallest number r =
+    unwrap_or
+    (option_map (λ (k : Column). k.z) (find (λ k. column_height number r k.x k.z == tallest number r) (columns r))) 0
 
 -- whether a coordinate is over the columns' places
 abbrev pub is_inner : ℕ → Coord → Bool
@@ -44,7 +46,9 @@ is_inner r c = nat_le 1 c.x && nat_lt (c.x + 1) r && nat_le 1 c.z && nat_lt (c.z
 
 -- the columns up to their heights, and on the layer of the greatest height t the lines of even x and the line z0, which join them
 abbrev pub forged_by : ℕ → ℕ → ℕ → ℕ → Matrix
-forged_by number r t z0 = matrix_where r (λ c. is_inner r c && (nat_lt c.y (column_height number r c.x c.z) || (c.y + 1 == t && (c.x % 2 == 0 || c.z == z0))))
+forged_by number r t z0 =
+    matrix_where r
+    (λ c. is_inner r c && (nat_lt c.y (column_height number r c.x c.z) || (c.y + 1 == t && (c.x % 2 == 0 || c.z == z0))))
 
 -- the model of a number and a resolution
 abbrev pub forged : ℕ → ℕ → Matrix

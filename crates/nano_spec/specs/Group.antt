@@ -28,7 +28,8 @@ are_partners a b = is_pair a b || is_pair b a
 
 -- whether two bots are of one group: one bot, partners in a fusion, or members of one group command
 abbrev pub are_together : Act → Act → Bool
-are_together a b = a.bot.bid == b.bot.bid || are_partners a b || share_region (position a) a.command (position b) b.command
+are_together a b =
+    a.bot.bid == b.bot.bid || are_partners a b || share_region (position a) a.command (position b) b.command
 
 -- the bots of the group of a bot, in rising order of their bids
 abbrev pub members : List Act → Act → List Act

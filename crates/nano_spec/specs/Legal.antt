@@ -22,7 +22,8 @@ pub data Legality (m : Matrix) (answer : Option NotLegal) : Type 0 where
   -- a full voxel is outside the legal box: the least of them is told
   leaves_box : (c : Coord) → first_outside m ≡ Some c → answer ≡ Some (Border c) → Legality m answer
   -- none is, but full voxels are not grounded: the least of them is told
-  floats_inside : (c : Coord) → first_outside m ≡ None → FirstUngrounded m (Some c) → answer ≡ Some (Floating c) → Legality m answer
+  floats_inside : (c : Coord) → first_outside m ≡ None → FirstUngrounded m (Some c) → answer ≡ Some (Floating c)
+      → Legality m answer
   -- none is, and each full voxel is grounded
   stands_inside : first_outside m ≡ None → FirstUngrounded m None → answer ≡ None → Legality m answer
 

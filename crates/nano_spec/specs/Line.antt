@@ -68,7 +68,8 @@ is_skipped line = list_all is_blank (line_content line)
 abbrev pub IsLineOf : List ℕ → Command → Type 0
 IsLineOf line command =
     (word : Word) × (ns : List ℤ) × (word_of (from_word (line_content line)) ≡ Some word)
-    × Contains (readings word.form (after_word (from_word (line_content line)))) ns × (word.command ns ≡ Some command) × IsCommand command
+    × Contains (readings word.form (after_word (from_word (line_content line)))) ns × (word.command ns ≡ Some command)
+    × IsCommand command
 
 -- what a line says
 abbrev pub line_of : List ℕ → Line

@@ -25,7 +25,9 @@ pub data Part : Type 0 where
 
 -- blanks, and then a difference: <, number, comma, number, comma, number, >, with blanks round each number
 abbrev pub difference_parts : List Part
-difference_parts = Blanks ∷ Mark 60 ∷ Blanks ∷ Number ∷ Blanks ∷ Mark 44 ∷ Blanks ∷ Number ∷ Blanks ∷ Mark 44 ∷ Blanks ∷ Number ∷ Blanks ∷ Mark 62 ∷ []
+difference_parts =
+    Blanks ∷ Mark 60 ∷ Blanks ∷ Number ∷ Blanks ∷ Mark 44 ∷ Blanks ∷ Number ∷ Blanks ∷ Mark 44 ∷ Blanks ∷ Number
+    ∷ Blanks ∷ Mark 62 ∷ []
 
 -- what can be left of a line when some blanks at its front, or none, are taken away
 abbrev pub after_blanks : List ℕ → List (List ℕ)
@@ -41,7 +43,9 @@ pub record Read : Type 0 where
 abbrev pub digits : ℕ → ℕ → List ℕ → List Read
 digits zero so_far line = []
 digits (suc n) so_far [] = []
-digits (suc n) so_far (b ∷ more) = cond (is_digit b) (record { number = pos (10 * so_far + (b - 48)); rest = more } ∷ digits n (10 * so_far + (b - 48)) more) []
+digits (suc n) so_far (b ∷ more) =
+    cond (is_digit b)
+    (record { number = pos (10 * so_far + (b - 48)); rest = more } ∷ digits n (10 * so_far + (b - 48)) more) []
 
 -- the same number with a minus sign
 abbrev pub negative : Read → Read
@@ -59,7 +63,8 @@ readings [] (b ∷ more) = []
 readings (Blanks ∷ parts) line = flat_map (readings parts) (after_blanks line)
 readings (Mark m ∷ parts) [] = []
 readings (Mark m ∷ parts) (b ∷ more) = cond (b == m) (readings parts more) []
-readings (Number ∷ parts) line = flat_map (λ r. map (λ numbers. r.number ∷ numbers) (readings parts r.rest)) (numbers line)
+readings (Number ∷ parts) line =
+    flat_map (λ r. map (λ numbers. r.number ∷ numbers) (readings parts r.rest)) (numbers line)
 
 -- the k-th number
 abbrev pub number_at : List ℤ → ℕ → ℤ

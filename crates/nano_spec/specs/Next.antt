@@ -25,7 +25,9 @@ pub data Next (s : State) (commands : List Command) (step : ℕ) (outcome : Outc
   breaks_at_start : (b : Broken) → broken s commands step ≡ Some b → outcome ≡ Breaks b → Next s commands step outcome
   -- they break none of these, but leave full voxels under Low that are not grounded: the least of them is told
   leaves_floating : (c : Coord) → broken s commands step ≡ None → (after s commands).harmonics ≡ Low
-      → FirstUngrounded (after s commands).matrix (Some c) → outcome ≡ Breaks (ungrounded_at step c) → Next s commands step outcome
+      → FirstUngrounded (after s commands).matrix (Some c) → outcome ≡ Breaks (ungrounded_at step c)
+      → Next s commands step outcome
   -- they break none, and under Low each full voxel is grounded afterwards
-  accepts : broken s commands step ≡ None → ((after s commands).harmonics ≡ Low → FirstUngrounded (after s commands).matrix None)
+  accepts : broken s commands step ≡ None
+      → ((after s commands).harmonics ≡ Low → FirstUngrounded (after s commands).matrix None)
       → outcome ≡ Goes (after s commands) → Next s commands step outcome

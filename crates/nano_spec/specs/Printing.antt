@@ -7,7 +7,9 @@ use Rattle.nano_spec.specs.declared.commands.Command.TheVariants.{Halt, Wait, Fl
 
 -- a difference: its three numbers in decimal, as <1,-2,0>
 abbrev pub printed_difference : Diff → List ℕ
-printed_difference d = codes "<" ++ signed_decimal d.dx ++ codes "," ++ signed_decimal d.dy ++ codes "," ++ signed_decimal d.dz ++ codes ">"
+printed_difference d =
+    codes "<" ++ signed_decimal d.dx ++ codes "," ++ signed_decimal d.dy ++ codes "," ++ signed_decimal d.dz
+    ++ codes ">"
 
 -- a space and a difference
 abbrev pub spaced : Diff → List ℕ

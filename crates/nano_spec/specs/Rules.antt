@@ -40,7 +40,8 @@ repeats (p ∷ more) = list_any (same_point p) more || repeats more
 
 -- whether the bots that fill or void a region together are not as many as it has corners, or two of them are at one corner
 abbrev pub fit_badly : List Act → Span → Bool
-fit_badly group region = not (length group == 2 ^ dimension region) || repeats (flat_map (λ b. corners_of (position b) b.command) group)
+fit_badly group region =
+    not (length group == 2 ^ dimension region) || repeats (flat_map (λ b. corners_of (position b) b.command) group)
 
 -- whether the bot has a group command whose members do not fit its region
 abbrev pub is_misshapen : List Act → Act → Bool
@@ -53,7 +54,9 @@ fault s all a HaltAlone = here a (is_halt a.command && nat_lt 1 (length s.bots))
 fault s all a HaltOrigin = here a (is_halt a.command && not (same_point (position a) (point origin)))
 fault s all a HaltLow = here a (is_halt a.command && is_high s.harmonics)
 fault s all a OutOfSpace = here a (not (stays_in_space s.matrix.resolution a))
-fault s all a Blocked = find (λ c. is_full s.matrix c && list_any (λ w. is_within w (point c)) (ways (position a) a.command)) (all_of s.matrix)
+fault s all a Blocked =
+    find (λ c. is_full s.matrix c && list_any (λ w. is_within w (point c)) (ways (position a) a.command))
+    (all_of s.matrix)
 fault s all a Seeds = here a (lacks_seeds (seed_list a.bot.seeds) a.command)
 fault s all a InRegion = here a (list_any (λ w. is_within w (position a)) (group_regions (position a) a.command))
 fault s all a Partner = here a (is_fusion a.command && not (list_any (are_partners a) all))
@@ -62,7 +65,8 @@ fault s all a _ = None
 
 -- the rules that are judged for each bot, in their order
 abbrev pub rules_of_bots : List Rule
-rules_of_bots = Forbidden ∷ HaltAlone ∷ HaltOrigin ∷ HaltLow ∷ OutOfSpace ∷ Blocked ∷ Seeds ∷ InRegion ∷ Partner ∷ GroupShape ∷ []
+rules_of_bots =
+    Forbidden ∷ HaltAlone ∷ HaltOrigin ∷ HaltLow ∷ OutOfSpace ∷ Blocked ∷ Seeds ∷ InRegion ∷ Partner ∷ GroupShape ∷ []
 
 -- the rule as broken by the bot of this bid, where there is a place at which it is
 abbrev pub broken_by : ℕ → Rule → ℕ → Option Coord → Option Broken
@@ -70,7 +74,9 @@ broken_by step rule bid at = option_map (λ c. record { step = step; bid = bid; 
 
 -- the trace ends within the step: at the bot that comes after those with a command
 abbrev pub judge_trace : State → List Command → ℕ → Option Broken
-judge_trace s commands step = option_map (λ bot. record { step = step; bid = bot.bid; rule = TraceEnds; at = bot.pos }) (slice_get s.bots (length commands))
+judge_trace s commands step =
+    option_map (λ bot. record { step = step; bid = bot.bid; rule = TraceEnds; at = bot.pos })
+    (slice_get s.bots (length commands))
 
 -- one bot by these rules, in their order
 abbrev pub judge_by : List Rule → State → List Act → ℕ → Act → List (Option Broken)
@@ -87,11 +93,13 @@ clash m all a b = find (λ c. is_volatile all a (point c) && is_volatile all b (
 -- each leader with each greater one, in their order
 abbrev pub judge_pairs : Matrix → List Act → ℕ → List Act → List (Option Broken)
 judge_pairs m all step [] = []
-judge_pairs m all step (a ∷ more) = map (λ b. broken_by step Interference a.bot.bid (clash m all a b)) more ++ judge_pairs m all step more
+judge_pairs m all step (a ∷ more) =
+    map (λ b. broken_by step Interference a.bot.bid (clash m all a b)) more ++ judge_pairs m all step more
 
 -- all judgements of a step, in their order
 abbrev pub judgements : State → List Command → List Act → ℕ → List (Option Broken)
-judgements s commands all step = judge_trace s commands step ∷ (judge_bots s all step ++ judge_pairs s.matrix all step (leaders all))
+judgements s commands all step =
+    judge_trace s commands step ∷ (judge_bots s all step ++ judge_pairs s.matrix all step (leaders all))
 
 -- the first rule that the commands break in the step, if they do
 abbrev pub broken : State → List Command → ℕ → Option Broken

@@ -25,7 +25,8 @@ is_active s bot = list_any (λ b. b.bid == bot.bid) s.bots
 
 -- whether the bots of a group are active in a state and keep the rules of single bots there
 abbrev pub keeps_rules : State → List Act → Bool
-keeps_rules s group = list_all (λ a. is_active s a.bot && list_all (λ rule. is_none (fault s group a rule)) rules_of_bots) group
+keeps_rules s group =
+    list_all (λ a. is_active s a.bot && list_all (λ rule. is_none (fault s group a rule)) rules_of_bots) group
 
 -- the bots that are not of the group
 abbrev pub bots_outside : List Bot → List Act → List Bot

@@ -52,7 +52,8 @@ first_bot profile = record { bid = 1; pos = origin; seeds = seed_set (drop 2 (nu
 
 -- the state before the first step
 abbrev pub opening : Matrix → Profile → State
-opening source profile = record { matrix = source; harmonics = Low; bots = first_bot profile ∷ []; energy = pos 0; profile = profile }
+opening source profile =
+    record { matrix = source; harmonics = Low; bots = first_bot profile ∷ []; energy = pos 0; profile = profile }
 
 -- a state is well-formed
 pub record IsWellFormed (s : State) : Type 0 where

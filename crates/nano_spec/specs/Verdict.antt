@@ -33,13 +33,14 @@ ending target s (command ∷ more) steps = broken_end steps AfterHalt origin
 
 -- what comes of the commands from a state on, after this many steps: a step takes as many commands as there are bots
 pub data Run (target : Matrix) : State → List Command → ℕ → Verdict → Type 0 where
-  ends : {s : State} {commands : List Command} {steps : ℕ} {verdict : Verdict} → s.bots ≡ [] → verdict ≡ ending target s commands steps
-      → Run target s commands steps verdict
-  breaks : {s : State} {commands : List Command} {steps : ℕ} {verdict : Verdict} {bot : Bot} {bots : List Bot} {b : Broken} → s.bots ≡ bot ∷ bots
-      → Next s (take (length s.bots) commands) (steps + 1) (Breaks b) → verdict ≡ Refused b → Run target s commands steps verdict
-  goes : {s : State} {commands : List Command} {steps : ℕ} {verdict : Verdict} {bot : Bot} {bots : List Bot} {t : State} → s.bots ≡ bot ∷ bots
-      → Next s (take (length s.bots) commands) (steps + 1) (Goes t) → Run target t (drop (length s.bots) commands) (steps + 1) verdict
-      → Run target s commands steps verdict
+  ends : {s : State} {commands : List Command} {steps : ℕ} {verdict : Verdict} → s.bots ≡ []
+      → verdict ≡ ending target s commands steps → Run target s commands steps verdict
+  breaks : {s : State} {commands : List Command} {steps : ℕ} {verdict : Verdict} {bot : Bot} {bots : List Bot}
+      {b : Broken} → s.bots ≡ bot ∷ bots → Next s (take (length s.bots) commands) (steps + 1) (Breaks b)
+      → verdict ≡ Refused b → Run target s commands steps verdict
+  goes : {s : State} {commands : List Command} {steps : ℕ} {verdict : Verdict} {bot : Bot} {bots : List Bot} {t : State}
+      → s.bots ≡ bot ∷ bots → Next s (take (length s.bots) commands) (steps + 1) (Goes t)
+      → Run target t (drop (length s.bots) commands) (steps + 1) verdict → Run target s commands steps verdict
 
 -- the verdict of a trace that is to make the target of the source, which are of one resolution
 abbrev pub VerdictOf : Matrix → Matrix → List Command → Profile → Verdict → Type 0

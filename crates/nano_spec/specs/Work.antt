@@ -21,7 +21,9 @@ use Rattle.nano_spec.specs.Volatile.{is_volatile_of}
 
 -- the number of coordinates that are volatile for the group of a leader, by the members whose commands stay in space
 abbrev pub volatile_count : Matrix → List Act → Act → ℕ
-volatile_count m all leader = count_by (λ c. list_any (is_volatile_of (point c)) (filter (stays_in_space m.resolution) (members all leader))) (all_of m)
+volatile_count m all leader =
+    count_by (λ c. list_any (is_volatile_of (point c)) (filter (stays_in_space m.resolution) (members all leader)))
+    (all_of m)
 
 -- the sum over all groups
 abbrev pub volatile_total : Matrix → List Act → ℕ
@@ -70,8 +72,9 @@ pub record LevelsOfStep (m : Matrix) (all : List Act) : Type 0 where
 -- n is the work of acts that break none of the rules that are judged at a step's start: the volatile coordinates, the voxels that
 -- change, those whose levels change by what is voided, and those whose levels change then by what is filled
 abbrev pub WorkOfActs : Matrix → List Act → ℕ → Type 0
-WorkOfActs m all n = (levels : LevelsOfStep m all)
-    × (n ≡ volatile_total m all + changed_count m (matrix_after m all) + differing levels.before levels.between + differing levels.between levels.afterwards)
+WorkOfActs m all n =
+    (levels : LevelsOfStep m all) × (n ≡ volatile_total m all + changed_count m (matrix_after m all)
+    + differing levels.before levels.between + differing levels.between levels.afterwards)
 
 -- the work of a step that is broken by a rule that is judged at its start: none where the trace ends, and else the volatile coordinates
 abbrev pub work_by_rule : Matrix → List Act → Rule → ℕ
@@ -90,11 +93,12 @@ WorkOfStep s commands step n = WorkOfJudged s (acts s.bots commands) (broken s c
 -- n is the sum of the work of the steps that are made from a state on, after this many steps, with the step that is broken, if one is
 pub data WorkFrom : State → List Command → ℕ → ℕ → Type 0 where
   rests : {s : State} {commands : List Command} {steps : ℕ} → s.bots ≡ [] → WorkFrom s commands steps 0
-  stops : {s : State} {commands : List Command} {steps n : ℕ} {bot : Bot} {bots : List Bot} (b : Broken) → s.bots ≡ bot ∷ bots
-      → Next s (take (length s.bots) commands) (steps + 1) (Breaks b) → WorkOfStep s (take (length s.bots) commands) (steps + 1) n
-      → WorkFrom s commands steps n
-  works : {s : State} {commands : List Command} {steps total : ℕ} {bot : Bot} {bots : List Bot} {t : State} (n more : ℕ) → s.bots ≡ bot ∷ bots
-      → Next s (take (length s.bots) commands) (steps + 1) (Goes t) → WorkOfStep s (take (length s.bots) commands) (steps + 1) n
+  stops : {s : State} {commands : List Command} {steps n : ℕ} {bot : Bot} {bots : List Bot} (b : Broken)
+      → s.bots ≡ bot ∷ bots → Next s (take (length s.bots) commands) (steps + 1) (Breaks b)
+      → WorkOfStep s (take (length s.bots) commands) (steps + 1) n → WorkFrom s commands steps n
+  works : {s : State} {commands : List Command} {steps total : ℕ} {bot : Bot} {bots : List Bot} {t : State} (n more : ℕ)
+      → s.bots ≡ bot ∷ bots → Next s (take (length s.bots) commands) (steps + 1) (Goes t)
+      → WorkOfStep s (take (length s.bots) commands) (steps + 1) n
       → WorkFrom t (drop (length s.bots) commands) (steps + 1) more → total ≡ n + more → WorkFrom s commands steps total
 
 -- n is the work of a trace from a source on

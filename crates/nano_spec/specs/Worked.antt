@@ -97,7 +97,8 @@ Accepts source target trace energy steps = Runs full_profile source target trace
 
 -- the trace is refused
 abbrev pub Refuses : List ℕ → List ℕ → List ℕ → Rule → ℕ → ℕ → Coord → Type 0
-Refuses source target trace rule step bid at = Runs full_profile source target trace (Refused (record { step = step; bid = bid; rule = rule; at = at }))
+Refuses source target trace rule step bid at =
+    Runs full_profile source target trace (Refused (record { step = step; bid = bid; rule = rule; at = at }))
 
 -- the trace is accepted with the light profile
 abbrev pub AcceptsLight : List ℕ → List ℕ → List ℕ → ℤ → ℕ → Type 0
@@ -105,7 +106,8 @@ AcceptsLight source target trace energy steps = Runs light_profile source target
 
 -- the trace is refused with the light profile
 abbrev pub RefusesLight : List ℕ → List ℕ → List ℕ → Rule → ℕ → ℕ → Coord → Type 0
-RefusesLight source target trace rule step bid at = Runs light_profile source target trace (Refused (record { step = step; bid = bid; rule = rule; at = at }))
+RefusesLight source target trace rule step bid at =
+    Runs light_profile source target trace (Refused (record { step = step; bid = bid; rule = rule; at = at }))
 
 -- a negative number
 abbrev pub below_zero : ℕ → ℤ

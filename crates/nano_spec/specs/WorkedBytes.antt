@@ -16,7 +16,9 @@ use Rattle.vox_geom.specs.Point.{coord}
 
 -- eight voxels at y = 1 round (2,1,2), on the post (3,0,3)
 abbrev pub ring : List Coord
-ring = coord 3 0 3 ∷ coord 1 1 1 ∷ coord 1 1 2 ∷ coord 1 1 3 ∷ coord 2 1 1 ∷ coord 2 1 3 ∷ coord 3 1 1 ∷ coord 3 1 2 ∷ coord 3 1 3 ∷ []
+ring =
+    coord 3 0 3 ∷ coord 1 1 1 ∷ coord 1 1 2 ∷ coord 1 1 3 ∷ coord 2 1 1 ∷ coord 2 1 3 ∷ coord 3 1 1 ∷ coord 3 1 2
+    ∷ coord 3 1 3 ∷ []
 
 -- how commands are spelled
 pub record WorkedSpellings : Type 0 where
@@ -114,7 +116,8 @@ pub record WorkedModels : Type 0 where
   -- the first run is void
   pub voxels_of_runs : voxels_of false (1 ∷ 2 ∷ 1 ∷ []) ≡ false ∷ true ∷ true ∷ false ∷ []
   -- the first run of a model is void
-  pub model_of_runs : of_runs 2 (Ok (1 ∷ 2 ∷ 5 ∷ [])) ≡ Ok (record { resolution = 2; voxels = false ∷ true ∷ true ∷ false ∷ false ∷ false ∷ false ∷ false ∷ [] })
+  pub model_of_runs : of_runs 2 (Ok (1 ∷ 2 ∷ 5 ∷ []))
+      ≡ Ok (record { resolution = 2; voxels = false ∷ true ∷ true ∷ false ∷ false ∷ false ∷ false ∷ false ∷ [] })
   -- the runs of five voxels, of which the first and the last two are full
   pub runs_of_voxels : run_lengths 0 false (true ∷ false ∷ false ∷ true ∷ true ∷ []) ≡ 0 ∷ 1 ∷ 2 ∷ 2 ∷ []
   -- unused bits are written 0
@@ -135,7 +138,8 @@ pub record WorkedModels : Type 0 where
   pub a_voxel_at_the_least_z : Legality (voxels_at 3 (coord 1 0 0 ∷ [])) (Some (Border (coord 1 0 0)))
   pub a_voxel_at_the_greatest_z : Legality (voxels_at 3 (coord 1 0 2 ∷ [])) (Some (Border (coord 1 0 2)))
   -- the least of two voxels outside the box is answered, although a lesser one floats
-  pub the_least_at_the_border : Legality (voxels_at 4 (coord 1 1 1 ∷ coord 3 0 3 ∷ coord 3 1 0 ∷ [])) (Some (Border (coord 3 0 3)))
+  pub the_least_at_the_border :
+      Legality (voxels_at 4 (coord 1 1 1 ∷ coord 3 0 3 ∷ coord 3 1 0 ∷ [])) (Some (Border (coord 3 0 3)))
   -- the least of two floating voxels is answered
   pub the_least_floating : Legality (voxels_at 4 (coord 2 1 1 ∷ coord 1 2 2 ∷ [])) (Some (Floating (coord 1 2 2)))
   -- voxels that meet at an edge do not ground one another
@@ -159,23 +163,27 @@ pub record WorkedModels : Type 0 where
   -- a void voxel has none
   pub no_level_of_a_void_voxel : Level (empty 3) (coord 1 0 1) None
   -- a path to the floor may rise: a voxel hangs from an arm of a post
-  pub a_hanging_voxel_is_grounded : Grounded (voxels_at 5 (coord 1 0 1 ∷ coord 1 1 1 ∷ coord 1 2 1 ∷ coord 2 2 1 ∷ coord 2 1 1 ∷ [])) (coord 2 1 1)
+  pub a_hanging_voxel_is_grounded :
+      Grounded (voxels_at 5 (coord 1 0 1 ∷ coord 1 1 1 ∷ coord 1 2 1 ∷ coord 2 2 1 ∷ coord 2 1 1 ∷ [])) (coord 2 1 1)
 
 -- how texts are printed and read
 pub record WorkedTexts : Type 0 where
   -- a text as it is printed
-  pub printed : print
-      (SMove (diff (pos 1) (pos 0) (pos 0)) ∷ Fill (diff (pos 0) (pos 0) (pos 1)) ∷ SMove (diff (below_zero 1) (pos 0) (pos 0)) ∷ Halt
-      ∷ []) ≡ codes "SMove <1,0,0>\nFill <0,0,1>\nSMove <-1,0,0>\nHalt\n"
+  pub printed : print (SMove (diff (pos 1) (pos 0) (pos 0)) ∷ Fill (diff (pos 0) (pos 0) (pos 1))
+      ∷ SMove (diff (below_zero 1) (pos 0) (pos 0)) ∷ Halt ∷ [])
+      ≡ codes "SMove <1,0,0>\nFill <0,0,1>\nSMove <-1,0,0>\nHalt\n"
   -- it has 47 bytes
-  pub printed_length : length
-      (print (SMove (diff (pos 1) (pos 0) (pos 0)) ∷ Fill (diff (pos 0) (pos 0) (pos 1)) ∷ SMove (diff (below_zero 1) (pos 0) (pos 0)) ∷ Halt ∷ [])) ≡ 47
+  pub printed_length : length (print (SMove (diff (pos 1) (pos 0) (pos 0)) ∷ Fill (diff (pos 0) (pos 0) (pos 1))
+      ∷ SMove (diff (below_zero 1) (pos 0) (pos 0)) ∷ Halt ∷ [])) ≡ 47
   -- and read again
   pub read_again : read (codes "SMove <1,0,0>\nFill <0,0,1>\nSMove <-1,0,0>\nHalt\n") ≡ Ok
-      (SMove (diff (pos 1) (pos 0) (pos 0)) ∷ Fill (diff (pos 0) (pos 0) (pos 1)) ∷ SMove (diff (below_zero 1) (pos 0) (pos 0)) ∷ Halt ∷ [])
+      (SMove (diff (pos 1) (pos 0) (pos 0)) ∷ Fill (diff (pos 0) (pos 0) (pos 1))
+      ∷ SMove (diff (below_zero 1) (pos 0) (pos 0)) ∷ Halt ∷ [])
   -- with comments, empty lines, blanks and carriage returns
-  pub read_freely : read (codes "# to the voxel\r\n\n\tSMove  < 1 ,0,\t000>\r\nFill<-0,0,001> # filled\r\n \t \nSMove <-1,0,0>\r\nHalt") ≡ Ok
-      (SMove (diff (pos 1) (pos 0) (pos 0)) ∷ Fill (diff (pos 0) (pos 0) (pos 1)) ∷ SMove (diff (below_zero 1) (pos 0) (pos 0)) ∷ Halt ∷ [])
+  pub read_freely : read
+      (codes "# to the voxel\r\n\n\tSMove  < 1 ,0,\t000>\r\nFill<-0,0,001> # filled\r\n \t \nSMove <-1,0,0>\r\nHalt")
+      ≡ Ok (SMove (diff (pos 1) (pos 0) (pos 0)) ∷ Fill (diff (pos 0) (pos 0) (pos 1))
+      ∷ SMove (diff (below_zero 1) (pos 0) (pos 0)) ∷ Halt ∷ [])
   -- the empty text
   pub read_nothing : read [] ≡ Ok []
   -- no such word
@@ -251,18 +259,25 @@ pub record WorkedTexts : Type 0 where
   -- a Fission has a near difference
   pub a_fission_that_is_not_near : read (codes "Fission <1,1,1> 0") ≡ Err (record { fault = Range; line = 1 })
   -- how each command is printed
-  pub all_words_printed : print
-      (Halt ∷ Wait ∷ Flip ∷ SMove (diff (pos 0) (pos 0) (pos 15)) ∷ LMove (diff (pos 5) (pos 0) (pos 0)) (diff (pos 0) (below_zero 1) (pos 0))
-      ∷ FusionP (diff (pos 0) (pos 0) (pos 1)) ∷ FusionS (diff (pos 0) (pos 0) (below_zero 1)) ∷ Fission (diff (pos 0) (pos 1) (pos 0)) 120
-      ∷ Fill (diff (pos 1) (pos 0) (pos 1)) ∷ Void (diff (pos 1) (pos 0) (pos 0)) ∷ GFill (diff (pos 1) (pos 0) (pos 0)) (diff (pos 30) (pos 0) (below_zero 30))
-      ∷ GVoid (diff (pos 1) (pos 0) (pos 0)) (diff (pos 0) (pos 2) (pos 0)) ∷ [])
-      ≡ codes "Halt\nWait\nFlip\nSMove <0,0,15>\nLMove <5,0,0> <0,-1,0>\nFusionP <0,0,1>\nFusionS <0,0,-1>\nFission <0,1,0> 120\nFill <1,0,1>\nVoid <1,0,0>\nGFill <1,0,0> <30,0,-30>\nGVoid <1,0,0> <0,2,0>\n"
+  pub all_words_printed : print (Halt ∷ Wait ∷ Flip ∷ SMove (diff (pos 0) (pos 0) (pos 15))
+      ∷ LMove (diff (pos 5) (pos 0) (pos 0)) (diff (pos 0) (below_zero 1) (pos 0))
+      ∷ FusionP (diff (pos 0) (pos 0) (pos 1)) ∷ FusionS (diff (pos 0) (pos 0) (below_zero 1))
+      ∷ Fission (diff (pos 0) (pos 1) (pos 0)) 120 ∷ Fill (diff (pos 1) (pos 0) (pos 1))
+      ∷ Void (diff (pos 1) (pos 0) (pos 0))
+      ∷ GFill (diff (pos 1) (pos 0) (pos 0)) (diff (pos 30) (pos 0) (below_zero 30))
+      ∷ GVoid (diff (pos 1) (pos 0) (pos 0)) (diff (pos 0) (pos 2) (pos 0)) ∷ []) ≡ codes
+      "Halt\nWait\nFlip\nSMove <0,0,15>\nLMove <5,0,0> <0,-1,0>\nFusionP <0,0,1>\nFusionS <0,0,-1>\nFission <0,1,0> 120\nFill <1,0,1>\nVoid <1,0,0>\nGFill <1,0,0> <30,0,-30>\nGVoid <1,0,0> <0,2,0>\n"
   -- A, Z, a and z are letters
-  pub the_first_and_last_letters : map (λ b. read (codes "Wait" ++ b ∷ [])) (codes "AZaz") ≡ Err (record { fault = UnknownWord; line = 1 }) ∷ Err (record { fault = UnknownWord; line = 1 }) ∷ Err (record { fault = UnknownWord; line = 1 }) ∷ Err (record { fault = UnknownWord; line = 1 }) ∷ []
+  pub the_first_and_last_letters : map (λ b. read (codes "Wait" ++ b ∷ [])) (codes "AZaz")
+      ≡ Err (record { fault = UnknownWord; line = 1 }) ∷ Err (record { fault = UnknownWord; line = 1 })
+      ∷ Err (record { fault = UnknownWord; line = 1 }) ∷ Err (record { fault = UnknownWord; line = 1 }) ∷ []
   -- the bytes beside them are none
-  pub beside_the_letters : map (λ b. read (codes "Wait" ++ b ∷ [])) (codes "@[`{") ≡ Err (record { fault = Shape; line = 1 }) ∷ Err (record { fault = Shape; line = 1 }) ∷ Err (record { fault = Shape; line = 1 }) ∷ Err (record { fault = Shape; line = 1 }) ∷ []
+  pub beside_the_letters : map (λ b. read (codes "Wait" ++ b ∷ [])) (codes "@[`{")
+      ≡ Err (record { fault = Shape; line = 1 }) ∷ Err (record { fault = Shape; line = 1 })
+      ∷ Err (record { fault = Shape; line = 1 }) ∷ Err (record { fault = Shape; line = 1 }) ∷ []
   -- the bytes beside 0 and 9 are no digits
-  pub beside_the_digits : map (λ b. read (codes "SMove <" ++ b ∷ codes ",0,0>")) (codes "/:") ≡ Err (record { fault = Shape; line = 1 }) ∷ Err (record { fault = Shape; line = 1 }) ∷ []
+  pub beside_the_digits : map (λ b. read (codes "SMove <" ++ b ∷ codes ",0,0>")) (codes "/:")
+      ≡ Err (record { fault = Shape; line = 1 }) ∷ Err (record { fault = Shape; line = 1 }) ∷ []
   -- 9 is a digit
   pub the_last_digit : read (codes "SMove <9,0,0>") ≡ Ok (SMove (diff (pos 9) (pos 0) (pos 0)) ∷ [])
   -- what ends a line begins no other one, and a text may end without it

@@ -50,13 +50,18 @@ pub record WorkedForge : Type 0 where
   -- 1024 says the same as 0
   pub a_number_of_1024 : forged 1024 3 ≡ forged 0 3
   -- three columns, of which one is 3 high: lines on its top layer
-  pub lines_on_top : forged 1 5 ≡ voxels_at 5 (coord 1 0 3 ∷ coord 1 1 3 ∷ coord 1 2 3 ∷ coord 2 0 1 ∷ coord 2 2 1 ∷ coord 2 2 2 ∷ coord 2 2 3 ∷ coord 3 0 1 ∷ coord 3 2 3 ∷ [])
+  pub lines_on_top : forged 1 5 ≡ voxels_at 5 (coord 1 0 3 ∷ coord 1 1 3 ∷ coord 1 2 3 ∷ coord 2 0 1 ∷ coord 2 2 1
+      ∷ coord 2 2 2 ∷ coord 2 2 3 ∷ coord 3 0 1 ∷ coord 3 2 3 ∷ [])
   -- two columns are 4 high: the line z = 3 is that of the first of them, at x = 2
-  pub the_first_of_two_tallest : forged 2 5 ≡ voxels_at 5 (coord 1 0 2 ∷ coord 1 1 2 ∷ coord 1 3 3 ∷ coord 2 0 3 ∷ coord 2 1 3 ∷ coord 2 2 3 ∷ coord 2 3 1 ∷ coord 2 3 2 ∷ coord 2 3 3 ∷ coord 3 0 2 ∷ coord 3 1 2 ∷ coord 3 2 2 ∷ coord 3 3 2 ∷ coord 3 3 3 ∷ [])
+  pub the_first_of_two_tallest : forged 2 5 ≡ voxels_at 5 (coord 1 0 2 ∷ coord 1 1 2 ∷ coord 1 3 3 ∷ coord 2 0 3
+      ∷ coord 2 1 3 ∷ coord 2 2 3 ∷ coord 2 3 1 ∷ coord 2 3 2 ∷ coord 2 3 3 ∷ coord 3 0 2 ∷ coord 3 1 2 ∷ coord 3 2 2
+      ∷ coord 3 3 2 ∷ coord 3 3 3 ∷ [])
 
 -- two bots beside each other, at resolution 5
 abbrev pub with_two : State
-with_two = record { matrix = empty 5; harmonics = Low; bots = bot 1 0 0 0 ∷ bot 2 0 0 1 ∷ []; energy = pos 0; profile = full_profile }
+with_two =
+    record
+    { matrix = empty 5; harmonics = Low; bots = bot 1 0 0 0 ∷ bot 2 0 0 1 ∷ []; energy = pos 0; profile = full_profile }
 
 -- the one waits, and the other moves away
 abbrev pub one_moves : List Command
@@ -74,8 +79,8 @@ both_fill = GFill (diff (pos 1) (pos 0) (pos 0)) (diff (pos 0) (pos 0) (pos 1))
 -- groups that act one after another
 pub record WorkedOrders : Type 0 where
   -- the step costs 375 for the space, 40 for the bots, and 4 for the move
-  pub in_rising_order : serial with_two one_moves (1 ∷ 2 ∷ []) ≡ Some
-      (record { matrix = empty 5; harmonics = Low; bots = bot 1 0 0 0 ∷ bot 2 0 0 3 ∷ []; energy = pos 419; profile = full_profile })
+  pub in_rising_order : serial with_two one_moves (1 ∷ 2 ∷ []) ≡ Some (record { matrix = empty 5; harmonics = Low;
+      bots = bot 1 0 0 0 ∷ bot 2 0 0 3 ∷ []; energy = pos 419; profile = full_profile })
   -- the other order gives the same state
   pub in_falling_order : serial with_two one_moves (2 ∷ 1 ∷ []) ≡ Some (after with_two one_moves)
   -- two bots are one group, which acts once
@@ -91,7 +96,8 @@ pub record WorkedWork : Type 0 where
   pub work_of_a_refused_fission : Work (empty 3) (Fission (diff (pos 0) (pos 0) (pos 1)) 39 ∷ []) full_profile 2
   -- a ring on two posts, of which one is voided: two volatile coordinates, one voxel that changes,
   -- and four whose levels change; then the Halt's one volatile coordinate
-  pub work_of_a_ring : Work (voxels_at 5 (coord 1 0 1 ∷ ring)) (Void (diff (pos 1) (pos 0) (pos 1)) ∷ Halt ∷ []) full_profile 8
+  pub work_of_a_ring :
+      Work (voxels_at 5 (coord 1 0 1 ∷ ring)) (Void (diff (pos 1) (pos 0) (pos 1)) ∷ Halt ∷ []) full_profile 8
   -- a command that leaves space has no volatile coordinate
   pub work_of_a_command_out_of_space : Work (empty 3) (SMove (diff (below_zero 1) (pos 0) (pos 0)) ∷ []) full_profile 0
   -- two bots would fill a line of two voxels from one corner: two volatile coordinates for the Fission, and then once four
@@ -103,10 +109,12 @@ pub record WorkedWork : Type 0 where
   -- coordinates for the Fission, and then four, two voxels that change, three whose levels change by what is voided, and three by
   -- what is filled
   pub work_of_another_post : Work (voxels_at 4 (coord 1 0 1 ∷ coord 1 1 1 ∷ coord 1 1 2 ∷ []))
-      (Fission (diff (pos 0) (pos 0) (pos 1)) 0 ∷ Void (diff (pos 1) (pos 0) (pos 1)) ∷ Fill (diff (pos 1) (pos 0) (pos 1)) ∷ []) full_profile 14
+      (Fission (diff (pos 0) (pos 0) (pos 1)) 0 ∷ Void (diff (pos 1) (pos 0) (pos 1))
+      ∷ Fill (diff (pos 1) (pos 0) (pos 1)) ∷ []) full_profile 14
   -- a post is voided and the voxel above it floats, so that the step is refused: its work is two volatile coordinates, one voxel that
   -- changes, and two whose levels change
-  pub work_of_a_floating_voxel : Work (voxels_at 3 (coord 1 0 1 ∷ coord 1 1 1 ∷ [])) (Void (diff (pos 1) (pos 0) (pos 1)) ∷ []) full_profile 5
+  pub work_of_a_floating_voxel :
+      Work (voxels_at 3 (coord 1 0 1 ∷ coord 1 1 1 ∷ [])) (Void (diff (pos 1) (pos 0) (pos 1)) ∷ []) full_profile 5
 
 -- a post of two voxels, an arm, and a voxel that hangs from it
 abbrev pub hanging : Matrix
@@ -117,7 +125,8 @@ pub record WorkedPaths : Type 0 where
   pub on_the_floor : is_path_from hanging (coord 1 0 1) (coord 1 0 1 ∷ []) ≡ true
   pub along_the_arm : is_path_from hanging (coord 2 1 1) (coord 2 1 1 ∷ coord 1 1 1 ∷ coord 1 0 1 ∷ []) ≡ true
   -- a path may rise
-  pub up_and_down : is_path_from hanging (coord 2 0 1) (coord 2 0 1 ∷ coord 2 1 1 ∷ coord 1 1 1 ∷ coord 1 0 1 ∷ []) ≡ true
+  pub up_and_down :
+      is_path_from hanging (coord 2 0 1) (coord 2 0 1 ∷ coord 2 1 1 ∷ coord 1 1 1 ∷ coord 1 0 1 ∷ []) ≡ true
   pub no_coordinate : is_path_from hanging (coord 1 0 1) [] ≡ false
   -- it begins at the coordinate
   pub from_elsewhere : is_path_from hanging (coord 1 1 1) (coord 1 0 1 ∷ []) ≡ false
@@ -125,7 +134,9 @@ pub record WorkedPaths : Type 0 where
   pub above_the_floor : is_path_from hanging (coord 2 1 1) (coord 2 1 1 ∷ coord 1 1 1 ∷ []) ≡ false
   -- all its voxels are full: the first, one between, and the last
   pub from_a_void_voxel : is_path_from hanging (coord 1 2 1) (coord 1 2 1 ∷ coord 1 1 1 ∷ coord 1 0 1 ∷ []) ≡ false
-  pub through_a_void_voxel : is_path_from hanging (coord 2 1 1) (coord 2 1 1 ∷ coord 3 1 1 ∷ coord 2 1 1 ∷ coord 1 1 1 ∷ coord 1 0 1 ∷ []) ≡ false
+  pub through_a_void_voxel :
+      is_path_from hanging (coord 2 1 1) (coord 2 1 1 ∷ coord 3 1 1 ∷ coord 2 1 1 ∷ coord 1 1 1 ∷ coord 1 0 1 ∷ [])
+      ≡ false
   pub to_a_void_voxel : is_path_from hanging (coord 1 1 1) (coord 1 1 1 ∷ coord 1 1 2 ∷ coord 1 0 2 ∷ []) ≡ false
   -- each is adjacent to the next
   pub over_an_edge : is_path_from hanging (coord 2 1 1) (coord 2 1 1 ∷ coord 1 0 1 ∷ []) ≡ false
@@ -139,7 +150,8 @@ seeded bid at seeds = record { bid = bid; pos = at; seeds = seed_set seeds }
 
 -- a state with a matrix and bots
 abbrev pub with_bots : Harmonics → Matrix → List Bot → State
-with_bots harmonics m bots = record { matrix = m; harmonics = harmonics; bots = bots; energy = pos 0; profile = full_profile }
+with_bots harmonics m bots =
+    record { matrix = m; harmonics = harmonics; bots = bots; energy = pos 0; profile = full_profile }
 
 -- a voxel floats, which High allows
 abbrev pub FloatingUnderHigh : Type 0
@@ -156,9 +168,11 @@ pub record WorkedStates : Type 0 where
   -- a bot stands in a full voxel
   pub a_bot_in_a_voxel : IsWellFormed (with_bots Low (voxels_at 3 (coord 1 0 1 ∷ [])) (bot 1 1 0 1 ∷ [])) → ⊥
   -- both bots have the seed 5
-  pub one_seed_twice : IsWellFormed (with_bots Low (empty 3) (seeded 1 (coord 0 0 0) (4 ∷ 5 ∷ []) ∷ seeded 2 (coord 0 0 1) (5 ∷ []) ∷ [])) → ⊥
+  pub one_seed_twice : IsWellFormed
+      (with_bots Low (empty 3) (seeded 1 (coord 0 0 0) (4 ∷ 5 ∷ []) ∷ seeded 2 (coord 0 0 1) (5 ∷ []) ∷ [])) → ⊥
   -- the bid of an active bot is a seed
-  pub a_seed_is_active : IsWellFormed (with_bots Low (empty 3) (seeded 1 (coord 0 0 0) (2 ∷ 3 ∷ []) ∷ bot 2 0 0 1 ∷ [])) → ⊥
+  pub a_seed_is_active : IsWellFormed (with_bots Low (empty 3) (seeded 1 (coord 0 0 0) (2 ∷ 3 ∷ []) ∷ bot 2 0 0 1 ∷ []))
+      → ⊥
   -- the matrix has no voxels
   pub no_voxels : IsReady (with_bots Low (record { resolution = 3; voxels = [] }) (bot 1 0 0 0 ∷ [])) → ⊥
   -- a bot stands outside the matrix
@@ -167,19 +181,25 @@ pub record WorkedStates : Type 0 where
   pub bids_that_fall : IsReady (with_bots Low (empty 3) (bot 2 0 0 0 ∷ bot 1 0 0 1 ∷ [])) → ⊥
   -- two bots stand at one coordinate, both have a seed, and the bid of an active bot is a seed
   pub one_ready_place_twice : IsReady (with_bots Low (empty 3) (bot 1 0 0 1 ∷ bot 2 0 0 1 ∷ [])) → ⊥
-  pub one_ready_seed_twice : IsReady (with_bots Low (empty 3) (seeded 1 (coord 0 0 0) (4 ∷ 5 ∷ []) ∷ seeded 2 (coord 0 0 1) (5 ∷ []) ∷ [])) → ⊥
-  pub a_ready_seed_is_active : IsReady (with_bots Low (empty 3) (seeded 1 (coord 0 0 0) (2 ∷ 3 ∷ []) ∷ bot 2 0 0 1 ∷ [])) → ⊥
+  pub one_ready_seed_twice :
+      IsReady (with_bots Low (empty 3) (seeded 1 (coord 0 0 0) (4 ∷ 5 ∷ []) ∷ seeded 2 (coord 0 0 1) (5 ∷ []) ∷ [])) → ⊥
+  pub a_ready_seed_is_active :
+      IsReady (with_bots Low (empty 3) (seeded 1 (coord 0 0 0) (2 ∷ 3 ∷ []) ∷ bot 2 0 0 1 ∷ [])) → ⊥
 
 -- all rules, in the order of their numbers
 abbrev pub all_rules : List Rule
-all_rules = TraceEnds ∷ HaltAlone ∷ HaltOrigin ∷ HaltLow ∷ OutOfSpace ∷ Blocked ∷ Seeds ∷ InRegion ∷ Partner ∷ GroupShape ∷ Interference ∷ Ungrounded ∷ AfterHalt
-    ∷ WrongResult ∷ Forbidden ∷ []
+all_rules =
+    TraceEnds ∷ HaltAlone ∷ HaltOrigin ∷ HaltLow ∷ OutOfSpace ∷ Blocked ∷ Seeds ∷ InRegion ∷ Partner ∷ GroupShape
+    ∷ Interference ∷ Ungrounded ∷ AfterHalt ∷ WrongResult ∷ Forbidden ∷ []
 
 -- a command of each word, in the order of the words
 abbrev pub all_commands : List Command
-all_commands = Halt ∷ Wait ∷ Flip ∷ SMove (diff (pos 1) (pos 0) (pos 0)) ∷ LMove (diff (pos 1) (pos 0) (pos 0)) (diff (pos 0) (pos 1) (pos 0))
-    ∷ FusionP (diff (pos 1) (pos 0) (pos 0)) ∷ FusionS (diff (pos 1) (pos 0) (pos 0)) ∷ Fission (diff (pos 1) (pos 0) (pos 0)) 0 ∷ Fill (diff (pos 1) (pos 0) (pos 0))
-    ∷ Void (diff (pos 1) (pos 0) (pos 0)) ∷ GFill (diff (pos 1) (pos 0) (pos 0)) (diff (pos 1) (pos 0) (pos 0))
+all_commands =
+    Halt ∷ Wait ∷ Flip ∷ SMove (diff (pos 1) (pos 0) (pos 0))
+    ∷ LMove (diff (pos 1) (pos 0) (pos 0)) (diff (pos 0) (pos 1) (pos 0)) ∷ FusionP (diff (pos 1) (pos 0) (pos 0))
+    ∷ FusionS (diff (pos 1) (pos 0) (pos 0)) ∷ Fission (diff (pos 1) (pos 0) (pos 0)) 0
+    ∷ Fill (diff (pos 1) (pos 0) (pos 0)) ∷ Void (diff (pos 1) (pos 0) (pos 0))
+    ∷ GFill (diff (pos 1) (pos 0) (pos 0)) (diff (pos 1) (pos 0) (pos 0))
     ∷ GVoid (diff (pos 1) (pos 0) (pos 0)) (diff (pos 1) (pos 0) (pos 0)) ∷ []
 
 -- the profile without seeds that allows the command at one place alone
@@ -189,10 +209,11 @@ allowing place = record { seeds = 0; allowed = 2 ^ place }
 -- the numbers and names of the rules, and which commands profiles allow
 pub record WorkedNames : Type 0 where
   pub rule_numbers : map rule_number all_rules ≡ 1 ∷ 2 ∷ 3 ∷ 4 ∷ 5 ∷ 6 ∷ 7 ∷ 8 ∷ 9 ∷ 10 ∷ 11 ∷ 12 ∷ 13 ∷ 14 ∷ 15 ∷ []
-  pub rule_names : flat_map (λ r. name_of r ++ codes " ") all_rules
-      ≡ codes "TraceEnds HaltAlone HaltOrigin HaltLow OutOfSpace Blocked Seeds InRegion Partner GroupShape Interference Ungrounded AfterHalt WrongResult Forbidden "
+  pub rule_names : flat_map (λ r. name_of r ++ codes " ") all_rules ≡ codes
+      "TraceEnds HaltAlone HaltOrigin HaltLow OutOfSpace Blocked Seeds InRegion Partner GroupShape Interference Ungrounded AfterHalt WrongResult Forbidden "
   -- the full profile allows all twelve, the light one the first nine
   pub full_allows : list_all (is_allowed full_profile) all_commands ≡ true
   pub light_allows : filter (is_allowed light_profile) all_commands ≡ take 9 all_commands
   -- a profile that allows the k-th command alone
-  pub only_one_is_allowed : flat_map (λ k. filter (is_allowed (allowing k)) all_commands) (numbers_below 12) ≡ all_commands
+  pub only_one_is_allowed :
+      flat_map (λ k. filter (is_allowed (allowing k)) all_commands) (numbers_below 12) ≡ all_commands

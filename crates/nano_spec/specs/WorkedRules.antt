@@ -12,7 +12,8 @@ pub record OrderOfRules : Type 0 where
   -- the bot is not alone and not at the origin
   pub a_halt_beside_another_bot_off_the_origin : Refuses empty_3 empty_3 (hex "75 00 FE FF") HaltAlone 2 2 (coord 0 0 1)
   -- the lesser rule is answered
-  pub a_halt_off_the_origin_under_high_harmonics : Refuses empty_3 empty_3 (hex "FD 14 10 FF") HaltOrigin 3 1 (coord 1 0 0)
+  pub a_halt_off_the_origin_under_high_harmonics :
+      Refuses empty_3 empty_3 (hex "FD 14 10 FF") HaltOrigin 3 1 (coord 1 0 0)
   -- the first leg is blocked, and the second leaves space
   pub a_blocked_move_out_of_space : Refuses one_voxel one_voxel (hex "14 10 BC 46") OutOfSpace 2 1 (coord 1 0 0)
   -- the Fission would need 40 seeds
@@ -57,13 +58,17 @@ pub record MeetingGroups : Type 0 where
   -- the second leg of a move ends where another bot goes
   pub a_second_leg_meets_a_bot : Refuses empty_3 empty_3 (hex "75 00 DC 66 14 10") Interference 2 1 (coord 1 0 1)
   -- a bot moves to where a member of a group command stands
-  pub a_member_is_met_at_its_position : Refuses empty_5 a_line (hex "75 01 85 00 34 11 B9 1E 1E 20 B1 1E 1E 1C 24 0E") Interference 3 1 (coord 0 0 0)
+  pub a_member_is_met_at_its_position :
+      Refuses empty_5 a_line (hex "75 01 85 00 34 11 B9 1E 1E 20 B1 1E 1E 1C 24 0E") Interference 3 1 (coord 0 0 0)
   -- a bot voids a voxel in the region of a group
-  pub a_region_is_met : Refuses a_line empty_5 (hex "75 01 B5 00 34 11 B8 1E 1E 20 B0 1E 1E 1C 72") Interference 3 1 (coord 1 0 1)
+  pub a_region_is_met :
+      Refuses a_line empty_5 (hex "75 01 B5 00 34 11 B8 1E 1E 20 B0 1E 1E 1C 72") Interference 3 1 (coord 1 0 1)
   -- the bots 1 and 13 meet, and so do 2 and 3: the pair with the least leader is answered
-  pub the_least_leader_is_answered : Refuses empty_3 empty_3 (hex "75 0A 85 00 B5 00 FE FE 14 0E 24 0E") Interference 3 1 (coord 0 0 0)
+  pub the_least_leader_is_answered :
+      Refuses empty_3 empty_3 (hex "75 0A 85 00 B5 00 FE FE 14 0E 24 0E") Interference 3 1 (coord 0 0 0)
   -- bot 1 meets bot 2 at (0,0,1) and bot 3 at (0,0,0): the pair with the lesser other leader is answered
-  pub a_leader_meets_two_groups : Refuses empty_3 empty_3 (hex "75 00 B5 00 FE 34 11 FE 14 0E") Interference 3 1 (coord 0 0 1)
+  pub a_leader_meets_two_groups :
+      Refuses empty_3 empty_3 (hex "75 00 B5 00 FE 34 11 FE 14 0E") Interference 3 1 (coord 0 0 1)
   -- the first leg of a move meets a bot that waits, and the second does not
   pub a_first_leg_meets_a_bot : Refuses empty_3 empty_3 (hex "75 00 7C 67 FE") Interference 2 1 (coord 0 0 1)
   -- a bot moves to one that fills a voxel
@@ -73,4 +78,5 @@ pub record MeetingGroups : Type 0 where
   -- a bot moves to one that makes a bot
   pub a_parent_is_met : Refuses empty_3 empty_3 (hex "75 01 B5 00 34 0E") Interference 2 1 (coord 0 0 0)
   -- a bot moves into the region that a group fills
-  pub a_filled_region_is_met : Refuses empty_5 a_line (hex "75 01 B5 00 34 11 B9 1E 1E 20 B1 1E 1E 1C 34 10") Interference 3 1 (coord 1 0 1)
+  pub a_filled_region_is_met :
+      Refuses empty_5 a_line (hex "75 01 B5 00 34 11 B9 1E 1E 20 B1 1E 1E 1C 34 10") Interference 3 1 (coord 1 0 1)

@@ -11,15 +11,18 @@ pub record AcceptedRuns : Type 0 where
   -- the steps cost 103, 113, 103 and 101
   pub one_voxel_is_filled : Accepts empty_3 one_voxel (hex "14 10 73 14 0E FF") (pos 420) 4
   -- the steps cost 212, 1942, 1942, 1952, 1952, 1940, 214, 214 and 212
-  pub a_voxel_is_held_by_high_harmonics : Accepts empty_4 two_voxels (hex "FD 14 10 24 10 73 5B FD 24 0E 14 0E FF") (pos 10580) 9
+  pub a_voxel_is_held_by_high_harmonics :
+      Accepts empty_4 two_voxels (hex "FD 14 10 24 10 73 5B FD 24 0E 14 0E FF") (pos 10580) 9
   -- the Fission uses all 39 seeds, and the two bots fuse again: the steps cost 125, 97 and 101
   pub a_fission_gives_all_seeds : Accepts empty_3 empty_3 (hex "75 26 77 66 FF") (pos 323) 3
   -- two Flips in one step: the steps cost 125, 121, 97 and 101
   pub two_flips_cancel : Accepts empty_3 empty_3 (hex "75 00 FD FD 77 66 FF") (pos 444) 4
   -- a group command of two bots: the steps cost 419, 419, 451, 419, 391 and 395
-  pub two_bots_fill_a_line : Accepts empty_5 a_line (hex "75 00 FE 34 11 B9 1E 1E 20 B1 1E 1E 1C FE 34 0D 77 66 FF") (pos 2494) 6
+  pub two_bots_fill_a_line :
+      Accepts empty_5 a_line (hex "75 00 FE 34 11 B9 1E 1E 20 B1 1E 1E 1C FE 34 0D 77 66 FF") (pos 2494) 6
   -- the third step costs 379
-  pub two_bots_void_a_line : Accepts a_line empty_5 (hex "75 00 FE 34 11 B8 1E 1E 20 B0 1E 1E 1C FE 34 0D 77 66 FF") (pos 2422) 6
+  pub two_bots_void_a_line :
+      Accepts a_line empty_5 (hex "75 00 FE 34 11 B8 1E 1E 20 B0 1E 1E 1C FE 34 0D 77 66 FF") (pos 2422) 6
   -- filling a full voxel costs 6
   pub a_full_voxel_is_filled : Accepts one_voxel one_voxel (hex "14 10 73 14 0E FF") (pos 414) 4
   -- voiding a void voxel costs 3
@@ -35,9 +38,11 @@ pub record AcceptedRuns : Type 0 where
   -- the bot with the lesser bid is the secondary, and the other goes on: the steps cost 125, 97, 103 and 101
   pub the_lesser_bid_is_the_secondary : Accepts empty_3 empty_3 (hex "75 00 76 67 34 0E FF") (pos 426) 4
   -- a group command fills full voxels for 6 each: the third step costs 433
-  pub two_bots_fill_a_full_line : Accepts a_line a_line (hex "75 00 FE 34 11 B9 1E 1E 20 B1 1E 1E 1C FE 34 0D 77 66 FF") (pos 2476) 6
+  pub two_bots_fill_a_full_line :
+      Accepts a_line a_line (hex "75 00 FE 34 11 B9 1E 1E 20 B1 1E 1E 1C FE 34 0D 77 66 FF") (pos 2476) 6
   -- a group command voids void voxels for 3 each: the third step costs 424
-  pub two_bots_void_a_void_line : Accepts empty_5 empty_5 (hex "75 00 FE 34 11 B8 1E 1E 20 B0 1E 1E 1C FE 34 0D 77 66 FF") (pos 2467) 6
+  pub two_bots_void_a_void_line :
+      Accepts empty_5 empty_5 (hex "75 00 FE 34 11 B8 1E 1E 20 B0 1E 1E 1C FE 34 0D 77 66 FF") (pos 2467) 6
   -- legs of 1 and 2, and back by two moves: the steps cost 111, 105, 103 and 101
   pub legs_of_different_lengths : Accepts empty_3 empty_3 (hex "DC 76 34 0D 14 0E FF") (pos 420) 4
   -- the secondary has the seed 3, and after the fusion the bot has all 39 seeds again
@@ -52,13 +57,15 @@ pub record RefusedRuns : Type 0 where
   -- under Low a voxel is filled that has no full neighbour
   pub a_filled_voxel_floats : Refuses empty_4 empty_4 (hex "14 10 24 10 73 FF") Ungrounded 3 0 (coord 1 1 1)
   -- the same without the voxel below
-  pub a_voxel_floats_once_harmonics_are_low : Refuses empty_4 two_voxels (hex "FD 14 10 24 10 73 FD 24 0E 14 0E FF") Ungrounded 5 0 (coord 1 1 1)
+  pub a_voxel_floats_once_harmonics_are_low :
+      Refuses empty_4 two_voxels (hex "FD 14 10 24 10 73 FD 24 0E 14 0E FF") Ungrounded 5 0 (coord 1 1 1)
   -- the Fission would need 40 seeds
   pub a_fission_asks_for_too_many_seeds : Refuses empty_3 empty_3 (hex "75 27") Seeds 1 1 (coord 0 0 0)
   -- a line wants two members
   pub one_bot_alone_fills_a_line : Refuses empty_5 a_line (hex "B9 1E 1E 20") GroupShape 1 1 (coord 0 0 0)
   -- the members have to be at different corners
-  pub both_members_are_at_one_corner : Refuses empty_5 a_line (hex "75 00 B9 1E 1E 20 B1 1E 1E 20") GroupShape 2 1 (coord 0 0 0)
+  pub both_members_are_at_one_corner :
+      Refuses empty_5 a_line (hex "75 00 B9 1E 1E 20 B1 1E 1E 20") GroupShape 2 1 (coord 0 0 0)
   -- the voxels of a ring do not ground one another once its post is gone
   pub a_ring_does_not_ground_itself : Refuses ring_on_a_post empty_5 (hex "BA FF") Ungrounded 1 0 (coord 1 1 1)
   -- another bot is active
@@ -84,7 +91,8 @@ pub record RefusedRuns : Type 0 where
   -- the secondary's difference does not lead to the primary
   pub a_fusion_from_one_side : Refuses empty_3 empty_3 (hex "75 00 77 76") Partner 2 1 (coord 0 0 0)
   -- GFill and GVoid of one region are no group
-  pub two_group_commands_of_one_region : Refuses empty_5 a_line (hex "75 00 FE 34 11 B9 1E 1E 20 B0 1E 1E 1C") GroupShape 3 1 (coord 0 0 0)
+  pub two_group_commands_of_one_region :
+      Refuses empty_5 a_line (hex "75 00 FE 34 11 B9 1E 1E 20 B0 1E 1E 1C") GroupShape 3 1 (coord 0 0 0)
   -- the second leg of the move meets a full voxel
   pub a_second_leg_is_blocked : Refuses one_voxel one_voxel (hex "DC 66") Blocked 1 1 (coord 1 0 1)
   -- the first leg of the move leaves the matrix, although the second comes back
@@ -92,7 +100,8 @@ pub record RefusedRuns : Type 0 where
   -- of four bots the fourth command goes to the greatest bid, 13, which is not the youngest
   pub a_command_goes_by_bid : Refuses empty_3 empty_3 (hex "75 0A 85 00 B5 00 FE FE FE FF") HaltAlone 3 13 (coord 0 1 0)
   -- bot 2 was born with the seeds 3 to 12, so its first child is bot 3
-  pub a_child_has_the_next_seeds : Refuses empty_3 empty_3 (hex "75 0A 85 00 B5 00 FE FE FF FE") HaltAlone 3 3 (coord 1 0 1)
+  pub a_child_has_the_next_seeds :
+      Refuses empty_3 empty_3 (hex "75 0A 85 00 B5 00 FE FE FF FE") HaltAlone 3 3 (coord 1 0 1)
   -- no bot fuses with the secondary
   pub a_secondary_has_no_primary : Refuses empty_3 empty_3 (hex "76") Partner 1 1 (coord 0 0 0)
   -- the voxel to be filled is outside the matrix
@@ -106,7 +115,8 @@ pub record RefusedRuns : Type 0 where
   -- the first leg of the move meets a full voxel, and the second does not
   pub a_first_leg_is_blocked : Refuses one_voxel one_voxel (hex "14 10 7C 67") Blocked 2 1 (coord 1 0 1)
   -- the members that void a region have to be at different corners too
-  pub both_voiding_members_are_at_one_corner : Refuses a_line empty_5 (hex "75 00 B8 1E 1E 20 B0 1E 1E 20") GroupShape 2 1 (coord 0 0 0)
+  pub both_voiding_members_are_at_one_corner :
+      Refuses a_line empty_5 (hex "75 00 B8 1E 1E 20 B0 1E 1E 20") GroupShape 2 1 (coord 0 0 0)
   -- the near corner of a region is outside the matrix, and the far corner is not
   pub a_near_corner_leaves_space : Refuses empty_3 empty_3 (hex "29 1F 1E 1E") OutOfSpace 1 1 (coord 0 0 0)
   -- the same for a region to be voided
@@ -118,7 +128,8 @@ pub record RefusedRuns : Type 0 where
   -- the target has two voxels that were not filled, and the least is answered
   pub the_least_difference : Refuses empty_4 two_voxels (hex "FF") WrongResult 1 0 (coord 1 0 1)
   -- of four members the first and the last are at one corner
-  pub two_of_four_members_at_one_corner : Refuses empty_3 empty_3 (hex "75 01 B5 00 B5 00 81 1F 1E 1F 81 1F 1E 1D 81 1D 1E 1D 39 1F 1E 1F") GroupShape 3 1 (coord 0 0 0)
+  pub two_of_four_members_at_one_corner : Refuses empty_3 empty_3
+      (hex "75 01 B5 00 B5 00 81 1F 1E 1F 81 1F 1E 1D 81 1D 1E 1D 39 1F 1E 1F") GroupShape 3 1 (coord 0 0 0)
   -- the bot stands in its region, at none of its corners
   pub a_bot_in_the_middle_of_its_region : Refuses empty_4 empty_4 (hex "34 10 61 1E 1E 21") InRegion 2 1 (coord 0 0 1)
   -- the primary's difference does not lead to the secondary
@@ -128,9 +139,11 @@ pub record RefusedRuns : Type 0 where
   -- two secondaries are no partners
   pub two_secondaries_face_each_other : Refuses empty_3 empty_3 (hex "75 00 76 66") Partner 2 1 (coord 0 0 0)
   -- two bots fill two lines, of which one is a part of the other
-  pub two_lines_are_no_group : Refuses empty_5 a_line (hex "75 00 FE 34 11 B9 1E 1E 20 B1 1E 1E 1D") GroupShape 3 1 (coord 0 0 0)
+  pub two_lines_are_no_group :
+      Refuses empty_5 a_line (hex "75 00 FE 34 11 B9 1E 1E 20 B1 1E 1E 1D") GroupShape 3 1 (coord 0 0 0)
   -- two bots void two such lines
-  pub two_voided_lines_are_no_group : Refuses a_line empty_5 (hex "75 00 FE 34 11 B8 1E 1E 20 B0 1E 1E 1D") GroupShape 3 1 (coord 0 0 0)
+  pub two_voided_lines_are_no_group :
+      Refuses a_line empty_5 (hex "75 00 FE 34 11 B8 1E 1E 20 B0 1E 1E 1D") GroupShape 3 1 (coord 0 0 0)
   -- the greatest number of a Fission is a command, for which seeds are wanting
   pub the_greatest_fission : Refuses empty_3 empty_3 (hex "75 FF") Seeds 1 1 (coord 0 0 0)
 
@@ -139,16 +152,20 @@ pub record LightRuns : Type 0 where
   -- a voxel is filled as with the full profile
   pub one_voxel_is_filled_by_the_light_profile : AcceptsLight empty_3 one_voxel (hex "14 10 73 14 0E FF") (pos 420) 4
   -- Void is not allowed
-  pub a_void_is_forbidden : RefusesLight ring_on_two_posts ring_on_the_other_post (hex "BA FF") Forbidden 1 1 (coord 0 0 0)
+  pub a_void_is_forbidden :
+      RefusesLight ring_on_two_posts ring_on_the_other_post (hex "BA FF") Forbidden 1 1 (coord 0 0 0)
   -- the Fission uses all 19 seeds
   pub a_fission_gives_all_nineteen_seeds : AcceptsLight empty_3 empty_3 (hex "75 12 77 66 FF") (pos 323) 3
   -- the Fission would need 20 seeds
   pub a_fission_asks_for_twenty_seeds : RefusesLight empty_3 empty_3 (hex "75 13") Seeds 1 1 (coord 0 0 0)
   -- the command breaks another rule too, which comes later
-  pub a_forbidden_command_is_answered_first : RefusesLight empty_3 empty_3 (hex "71 1E 1E 1D") Forbidden 1 1 (coord 0 0 0)
+  pub a_forbidden_command_is_answered_first :
+      RefusesLight empty_3 empty_3 (hex "71 1E 1E 1D") Forbidden 1 1 (coord 0 0 0)
   -- the lesser bid comes first, although the other's command is forbidden
-  pub a_forbidden_command_of_the_greater_bid : RefusesLight empty_3 empty_3 (hex "75 00 FF BA") HaltAlone 2 1 (coord 0 0 0)
+  pub a_forbidden_command_of_the_greater_bid :
+      RefusesLight empty_3 empty_3 (hex "75 00 FF BA") HaltAlone 2 1 (coord 0 0 0)
   -- GVoid is not allowed
   pub a_voided_region_is_forbidden : RefusesLight empty_3 empty_3 (hex "70 1E 1E 1F") Forbidden 1 1 (coord 0 0 0)
   -- the other commands of the light profile: the steps cost 101, 101, 830, 109, 109 and 101
-  pub the_light_profile_waits_flips_and_turns : AcceptsLight empty_3 empty_3 (hex "FE FD FD 9C 66 6C 44 FF") (pos 1351) 6
+  pub the_light_profile_waits_flips_and_turns :
+      AcceptsLight empty_3 empty_3 (hex "FE FD FD 9C 66 6C 44 FF") (pos 1351) 6

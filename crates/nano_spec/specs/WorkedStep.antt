@@ -23,12 +23,14 @@ bot bid x y z = record { bid = bid; pos = coord x y z; seeds = 0 }
 
 -- a bot beside each corner of the block
 abbrev pub eight_bots : List Bot
-eight_bots = bot 1 0 0 1 ∷ bot 2 4 0 1 ∷ bot 3 0 0 3 ∷ bot 4 4 0 3 ∷ bot 5 0 2 1 ∷ bot 6 4 2 1 ∷ bot 7 0 2 3 ∷ bot 8 4 2 3 ∷ []
+eight_bots =
+    bot 1 0 0 1 ∷ bot 2 4 0 1 ∷ bot 3 0 0 3 ∷ bot 4 4 0 3 ∷ bot 5 0 2 1 ∷ bot 6 4 2 1 ∷ bot 7 0 2 3 ∷ bot 8 4 2 3 ∷ []
 
 -- each voids the whole block from its corner on
 abbrev pub eight_commands : List Command
 eight_commands =
-    GVoid (diff (pos 1) (pos 0) (pos 0)) (diff (pos 2) (pos 2) (pos 2)) ∷ GVoid (diff (below_zero 1) (pos 0) (pos 0)) (diff (below_zero 2) (pos 2) (pos 2))
+    GVoid (diff (pos 1) (pos 0) (pos 0)) (diff (pos 2) (pos 2) (pos 2))
+    ∷ GVoid (diff (below_zero 1) (pos 0) (pos 0)) (diff (below_zero 2) (pos 2) (pos 2))
     ∷ GVoid (diff (pos 1) (pos 0) (pos 0)) (diff (pos 2) (pos 2) (below_zero 2))
     ∷ GVoid (diff (below_zero 1) (pos 0) (pos 0)) (diff (below_zero 2) (pos 2) (below_zero 2))
     ∷ GVoid (diff (pos 1) (pos 0) (pos 0)) (diff (pos 2) (below_zero 2) (pos 2))
@@ -46,7 +48,8 @@ EightBotsVoidABlock = Next (with_eight block (pos 0)) eight_commands 1 (Goes (wi
 
 -- the only bot at the origin, in an empty space of resolution 3
 abbrev pub with_one : Harmonics → ℤ → State
-with_one harmonics energy = record { matrix = empty 3; harmonics = harmonics; bots = bot 1 0 0 0 ∷ []; energy = energy; profile = full_profile }
+with_one harmonics energy =
+    record { matrix = empty 3; harmonics = harmonics; bots = bot 1 0 0 0 ∷ []; energy = energy; profile = full_profile }
 
 -- a Flip pays 81 + 20 where it begins under Low, and 810 + 20 where it begins under High
 pub record FlipsPayByTheirStart : Type 0 where

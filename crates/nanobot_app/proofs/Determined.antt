@@ -61,8 +61,8 @@ AnswerLaw = (words : List (List ℕ)) (files : Files) (r s : Reply) → AskNoPla
 
 pub complete : {stores : List ℕ → Type 0} (law : StatusLaw) (words : List (List ℕ)) (old new : Outside)
     (result : Status) → CallOutcome (Answer words) stores old new result → (DepotRose old new → ⊥)
-    → (SinkRose old new → ⊥)
-    → IfSome old.files (λ files. (reply : Reply) → Answer words files reply → (result ≡ reply.status) ⊎ (result ≡ is.Memory))
+    → (SinkRose old new → ⊥) → IfSome old.files
+    (λ files. (reply : Reply) → Answer words files reply → (result ≡ reply.status) ⊎ (result ≡ is.Memory))
 complete {stores} law words old new result o no_depot no_sink = if_some old.files (λ files told reply a. by files told reply a result o)
   where
     answered : (files : Files) → old.files ≡ Some files → (reply : Reply) → Answer words files reply → (s : Status)

@@ -122,8 +122,9 @@ module _ {stores : List ℕ → Type 0} (one : RowLaw) (statuses : StatusLaw) (l
       × (new.files ≡ Some reply.after) × ((reply.status ≡ result) × (new.written ≡ append_known old.written reply.line))
   stood files told a = subst (λ t. IfSome t (λ files. (reply : Reply) × Answer words files reply × (new.files ≡ Some reply.after) × ((reply.status ≡ result) × (new.written ≡ append_known old.written reply.line)))) told (o.answer a)
 
-  pub headline_where : (DepotRose old new → ⊥) → (SinkRose old new → ⊥) → (result ≡ is.Memory → ⊥)
-      → IfSome old.files (λ files. (energy : ℤ) (steps : ℕ) → MachineTakes files source target trace energy steps → IsDoneWith result old.written new.written energy steps)
+  pub headline_where : (DepotRose old new → ⊥) → (SinkRose old new → ⊥) → (result ≡ is.Memory → ⊥) → IfSome old.files
+      (λ files. (energy : ℤ) (steps : ℕ) → MachineTakes files source target trace energy steps
+      → IsDoneWith result old.written new.written energy steps)
   headline_where no_depot no_sink no_memory = if_some old.files (λ files told energy steps takes.
       let reply = reply_of files (report.Accepted energy steps) in
       let answer : Answer words files reply = inr (run Full source target trace, is_row, answers_taken files source target trace energy steps takes) in
@@ -140,21 +141,23 @@ module _ {stores : List ℕ → Type 0} (one : RowLaw) (statuses : StatusLaw) (l
           let same = law words files where_stood.0 (reply_of files (report.Accepted energy steps)) (run_is_no_plan one words source target trace is_row) where_stood.1 answer in
           (done, cost, where_stood.3.1 ∙ ap (λ (r : Reply). append_known old.written r.line) same)
 
-  pub headline_only : result ≡ is.Done
-      → IfSome old.files (λ files. (energy : ℤ) × (steps : ℕ) × MachineTakes files source target trace energy steps × IsDoneWith result old.written new.written energy steps)
+  pub headline_only : result ≡ is.Done → IfSome old.files (λ files. (energy : ℤ) × (steps : ℕ)
+      × MachineTakes files source target trace energy steps × IsDoneWith result old.written new.written energy steps)
   headline_only done = if_some old.files (λ files told.
       let where_stood = stood files told (subst IsAnswer (sym done) tt) in
       let the_taking = takes_done files source target trace where_stood.0 (where_stood.3.0 ∙ done) (of_the_row one words (run Full source target trace) files where_stood.0 is_row where_stood.1) in
       (the_taking.0, the_taking.1, the_taking.2, (done, small files source target trace the_taking.0 the_taking.1 the_taking.2, where_stood.3.1 ∙ ap (λ (r : Reply). append_known old.written r.line) the_taking.3)))
 
   -- what was answered, whatever it is
-  pub refusal : IsAnswer result
-      → IfSome old.files (λ files. (reply : Reply) × AnswerOfRun full_profile source target trace files reply × (result ≡ reply.status) × (new.written ≡ append_known old.written reply.line) × (new.files ≡ Some reply.after))
+  pub refusal : IsAnswer result → IfSome old.files (λ files. (reply : Reply)
+      × AnswerOfRun full_profile source target trace files reply × (result ≡ reply.status)
+      × (new.written ≡ append_known old.written reply.line) × (new.files ≡ Some reply.after))
   refusal a = weaker old.files (λ files s. (s.0, of_the_row one words (run Full source target trace) files s.0 is_row s.1, sym s.3.0, s.3.1, s.2)) (o.answer a)
 
   -- both halves, where what is written is told: the line has one energy and one number of steps
-  pub headline : ApartLaw → (DepotRose old new → ⊥) → (SinkRose old new → ⊥) → (result ≡ is.Memory → ⊥)
-      → IfSome old.files (λ files. IfSome old.written (λ before. (energy : ℤ) (steps : ℕ) → MachineTakes files source target trace energy steps ↔ IsDoneWith result (Some before) new.written energy steps))
+  pub headline : ApartLaw → (DepotRose old new → ⊥) → (SinkRose old new → ⊥) → (result ≡ is.Memory → ⊥) → IfSome
+      old.files (λ files. IfSome old.written (λ before. (energy : ℤ) (steps : ℕ)
+      → MachineTakes files source target trace energy steps ↔ IsDoneWith result (Some before) new.written energy steps))
   headline apart no_depot no_sink no_memory = if_some old.files (λ files told. if_some old.written (λ before known energy steps. (
     (λ takes. subst (λ (w : Option (List ℕ)). IsDoneWith result w new.written energy steps) known (told_where files told energy steps takes)),
     (λ done. only files told before known energy steps done),

@@ -54,9 +54,9 @@ is_message (message.Session lines) = tt
 
 module _ {answers : Answers} {stores : List ℕ → Type 0} (old new : Outside) where
   -- a line is printed, and the files stand as the answer says
-  pub outcome_printed : (status result : Status) (line : List ℕ) → IsAnswer status
-      → IfSome old.files (λ files. (after : Files) × answers files (record { status = status; line = line; after = after }) × (new.files ≡ Some after))
-      → Printed status line old.written new.written old.sink_faults new.sink_faults result
+  pub outcome_printed : (status result : Status) (line : List ℕ) → IsAnswer status → IfSome old.files (λ files.
+      (after : Files) × answers files (record { status = status; line = line; after = after })
+      × (new.files ≡ Some after)) → Printed status line old.written new.written old.sink_faults new.sink_faults result
       → CallOutcome answers stores old new result
   outcome_printed status result line a stands printed = by printed.cases
     where
@@ -103,8 +103,8 @@ module _ {answers : Answers} {stores : List ℕ → Type 0} (old new : Outside) 
           IfSome old.files (λ files. (after : Files) × answers files (record { status = status_of r; line = report_line r; after = after }) × (new.files ≡ Some after))
       stands = subst (λ o. IfSome old.files (λ fs. (after : Files) × answers fs (record { status = status_of r; line = report_line r; after = after }) × (o ≡ Some after))) (sym files) (same old.files answer)
         where
-          same : (o : Option Files) → IfSome o (λ fs. answers fs (reply_of fs r))
-              → IfSome o (λ fs. (after : Files) × answers fs (record { status = status_of r; line = report_line r; after = after }) × (o ≡ Some after))
+          same : (o : Option Files) → IfSome o (λ fs. answers fs (reply_of fs r)) → IfSome o (λ fs. (after : Files)
+              × answers fs (record { status = status_of r; line = report_line r; after = after }) × (o ≡ Some after))
           same None h = tt
           same (Some fs) h = (fs, h, refl)
 
@@ -146,9 +146,12 @@ outcome_finished {answers} stored effect old mid new result answer for files fau
       others_are = lost ∙ ap (λ t. others t file.name.now) files;
     })
 
-    kept : (told : Option Files) (o : Option NewFile) (now : Option Files) → now ≡ told_with told o
-        → IfSome told (λ fs. answers fs (record { status = status_by effect.message; line = bytes_by effect.message; after = files_with fs o }))
-        → IfSome told (λ fs. (after : Files) × answers fs (record { status = status_by effect.message; line = bytes_by effect.message; after = after }) × (now ≡ Some after))
+    kept : (told : Option Files) (o : Option NewFile) (now : Option Files) → now ≡ told_with told o → IfSome told (λ fs.
+        answers fs
+        (record { status = status_by effect.message; line = bytes_by effect.message; after = files_with fs o }))
+        → IfSome told (λ fs. (after : Files)
+        × answers fs (record { status = status_by effect.message; line = bytes_by effect.message; after = after })
+        × (now ≡ Some after))
     kept None o now e h = tt
     kept (Some fs) None now e h = (fs, h, e)
     kept (Some fs) (Some file) now e h = (with_file fs file.name.now file.bytes.items, h, e)

@@ -111,8 +111,8 @@ MakesPlan planner source target = (files : Files) × CanPlan planner source targ
 few_bytes : (s t : Matrix) → MakesPlan Group s t → most_bytes s t ≤ group_limit
 few_bytes s t made = by (nat_lt group_limit (most_bytes s t)) refl made.1
   where
-    by : (long : Bool) → nat_lt group_limit (most_bytes s t) ≡ long
-        → MatchBool long (◌≡◌ {A = Found ⊤} (Ok tt) (Err (is.Model, group_long_line (runs s + runs t) (rows s + rows t))))
+    by : (long : Bool) → nat_lt group_limit (most_bytes s t) ≡ long → MatchBool long
+        (◌≡◌ {A = Found ⊤} (Ok tt) (Err (is.Model, group_long_line (runs s + runs t) (rows s + rows t))))
         (◌≡◌ {A = Found ⊤} (Ok tt) (Ok tt)) → most_bytes s t ≤ group_limit
     by true test e = absurd (cc)
     by false test e = not_less_by_test group_limit (most_bytes s t) test
@@ -161,8 +161,8 @@ module _ (round : Round) (source target : Option (List ℕ)) (trace : List ℕ) 
   run_of_stored : (s t : Matrix) (commands : List Command) (energy : ℤ) (steps : ℕ) (reply : Reply)
       → HasName source target → AreModels source target files s t → AreCommands commands
       → VerdictOf s t commands (profile_of round) (Accepted energy steps) → length (spellings commands) ≤ run_limit
-      → Stores (planned_line energy steps (length commands) (length (spellings commands))) trace (spellings commands) files reply
-      → IsRunOfPlan round source target trace reply
+      → Stores (planned_line energy steps (length commands) (length (spellings commands))) trace (spellings commands)
+      files reply → IsRunOfPlan round source target trace reply
   run_of_stored s t commands energy steps reply named models are accepted size e =
       subst (λ (r : Reply). IsRunOfPlan round source target trace r) (sym e) (record {
         energy = energy;

@@ -17,11 +17,13 @@ use Rattle.nanobot_words.specs.Rows.{HasName}
 
 -- the machine of the definitions takes the whole trace from the one model to the other, to a halt, with this energy in so many steps
 abbrev pub TakesBytes : Matrix → Matrix → List ℕ → ℤ → ℕ → Type 0
-TakesBytes source target bytes energy steps = (length bytes ≤ run_limit)
-    × ((commands : List Command) × Cutting bytes commands × VerdictOf source target commands full_profile (Accepted energy steps))
+TakesBytes source target bytes energy steps =
+    (length bytes ≤ run_limit) × ((commands : List Command) × Cutting bytes commands
+    × VerdictOf source target commands full_profile (Accepted energy steps))
 
 -- the same of files: one model at least has a file, both are legal and of one resolution, and the file of the trace is not too long
-pub record MachineTakes (files : Files) (source target : Option (List ℕ)) (trace : List ℕ) (energy : ℤ) (steps : ℕ) : Type 0 where
+pub record MachineTakes (files : Files) (source target : Option (List ℕ)) (trace : List ℕ) (energy : ℤ) (steps : ℕ)
+    : Type 0 where
   pub named : HasName source target
   -- the models, where what has no file is the empty model of the other's resolution
   pub from : Matrix
@@ -35,4 +37,5 @@ IsCost energy steps = (unsigned_abs energy < 2 ^ 63) × (steps < 2 ^ 32)
 
 -- it answers 0 and prints the energy and the number of steps, which are small
 abbrev pub IsDoneWith : Status → Option (List ℕ) → Option (List ℕ) → ℤ → ℕ → Type 0
-IsDoneWith result before now energy steps = (result ≡ is.Done) × IsCost energy steps × (now ≡ append_known before (accepted_line energy steps))
+IsDoneWith result before now energy steps =
+    (result ≡ is.Done) × IsCost energy steps × (now ≡ append_known before (accepted_line energy steps))

@@ -21,7 +21,8 @@ pub record Outside : Type 0 where
   pub sink_faults : ℕ
 
 -- those of a depot and a sink, by what their traits tell
-abbrev pub outside : {D O : Type 0} → (D → Option Files) → (D → ℕ) → (D → ℕ) → (O → Option (List ℕ)) → (O → ℕ) → D → O → Outside
+abbrev pub outside : {D O : Type 0} → (D → Option Files) → (D → ℕ) → (D → ℕ) → (O → Option (List ℕ)) → (O → ℕ) → D → O
+    → Outside
 outside files depot_faults failed_stores written sink_faults depot out = record {
   files = files depot;
   depot_faults = depot_faults depot;
@@ -39,7 +40,8 @@ IsAnswer _ = ⊤
 
 -- where files are told: an answer to them whose files now stand
 abbrev pub AnswerStands : Answers → Outside → Outside → (Reply → Type 0) → Type 0
-AnswerStands answers old new p = IfSome old.files (λ files. (reply : Reply) × answers files reply × (new.files ≡ Some reply.after) × p reply)
+AnswerStands answers old new p =
+    IfSome old.files (λ files. (reply : Reply) × answers files reply × (new.files ≡ Some reply.after) × p reply)
 
 abbrev pub DepotRose : Outside → Outside → Type 0
 DepotRose old new = Rose old.depot_faults new.depot_faults
@@ -53,7 +55,8 @@ SinkRose old new = Rose old.sink_faults new.sink_faults
 
 -- files are told, and a file that is to be read is not there
 abbrev pub LacksFile : Answers → Outside → Type 0
-LacksFile answers old = IsSomeAnd old.files (λ files. answers files (record { status = is.Depot; line = []; after = files }))
+LacksFile answers old =
+    IsSomeAnd old.files (λ files. answers files (record { status = is.Depot; line = []; after = files }))
 
 -- where files are told, the call can be done over them
 abbrev pub CanBeDone : Answers → Outside → Type 0
@@ -79,7 +82,8 @@ Delivered result old new reply = (reply.status ≡ result) × (new.written ≡ a
 abbrev pub DeliveredPart : Outside → Outside → Reply → Type 0
 DeliveredPart old new reply = (n : ℕ) × (new.written ≡ append_known old.written (take n reply.line))
 
-pub record CallOutcome (answers : Answers) (stores : List ℕ → Type 0) (old new : Outside) (result : Status) : Type 0 where
+pub record CallOutcome (answers : Answers) (stores : List ℕ → Type 0) (old new : Outside) (result : Status)
+    : Type 0 where
   pub answer : IsAnswer result → AnswerStands answers old new (Delivered result old new)
   pub depot : result ≡ is.Depot → DepotRose old new ⊎ LacksFile answers old
   pub sink : result ≡ is.Sink → SinkRose old new
@@ -92,12 +96,15 @@ abbrev pub StoredBy : List (List ℕ) → List ℕ → Type 0
 StoredBy words name = (row : Row) × IsRow words row × (stores_of row ≡ Some name)
 
 -- what one put of a line has done: it was written whole, or a first part of it
-pub record Printed (status : Status) (line : List ℕ) (old new : Option (List ℕ)) (before now : ℕ) (result : Status) : Type 0 where
-  pub cases : ((result ≡ status) × (new ≡ append_known old line)) ⊎ ((result ≡ is.Sink) × Rose before now × ((n : ℕ) × (new ≡ append_known old (take n line))))
+pub record Printed (status : Status) (line : List ℕ) (old new : Option (List ℕ)) (before now : ℕ) (result : Status)
+    : Type 0 where
+  pub cases : ((result ≡ status) × (new ≡ append_known old line))
+      ⊎ ((result ≡ is.Sink) × Rose before now × ((n : ℕ) × (new ≡ append_known old (take n line))))
 
 -- the same of a report, whose line takes memory
 pub record Told (report : Report) (old new : Option (List ℕ)) (before now : ℕ) (result : Status) : Type 0 where
-  pub cases : ((result ≡ is.Memory) × (new ≡ old)) ⊎ Printed (status_of report) (report_line report) old new before now result
+  pub cases :
+      ((result ≡ is.Memory) × (new ≡ old)) ⊎ Printed (status_of report) (report_line report) old new before now result
 
 -- the name that the row stores
 abbrev pub RowStores : Row → List ℕ → Type 0
@@ -105,8 +112,8 @@ RowStores row name = stores_of row ≡ Some name
 
 -- what was done of an effect: nothing for want of memory; or the file was not stored; or it was, and the line was put
 pub record Finished (effect : Effect) (old new : Outside) (result : Status) : Type 0 where
-  pub cases : ((result ≡ is.Memory) × (new.files ≡ old.files) × (new.written ≡ old.written))
-      ⊎ (((result ≡ is.Depot) × DepotRose old new × StoreFailed old new × (new.written ≡ old.written) × IsUnstored effect.file old.files new.files)
-      ⊎
-      ((new.files ≡ told_with old.files effect.file)
-      × Printed (status_by effect.message) (bytes_by effect.message) old.written new.written old.sink_faults new.sink_faults result))
+  pub cases : ((result ≡ is.Memory) × (new.files ≡ old.files) × (new.written ≡ old.written)) ⊎ (((result ≡ is.Depot)
+      × DepotRose old new × StoreFailed old new × (new.written ≡ old.written)
+      × IsUnstored effect.file old.files new.files) ⊎ ((new.files ≡ told_with old.files effect.file) × Printed
+      (status_by effect.message) (bytes_by effect.message) old.written new.written old.sink_faults new.sink_faults
+      result))

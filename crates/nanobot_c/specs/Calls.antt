@@ -34,16 +34,19 @@ stored_in (Some name) reply = content reply.after name
 
 -- the file that the row stores, or else its line, was given with its status
 abbrev pub GaveReply : Row → Reply → List ℕ → List ℕ → ℕ → ℕ → Type 0
-GaveReply row reply old new size result = Gave (code_of reply.status) (file_or_line (stored_in (stores_of row) reply) reply.line) old new size result
+GaveReply row reply old new size result =
+    Gave (code_of reply.status) (file_or_line (stored_in (stores_of row) reply) reply.line) old new size result
 
 -- the answer of the row was given; or there was no memory, and nothing was
 pub record Gives (row : Row) (files : Files) (old new : List ℕ) (size result : ℕ) : Type 0 where
-  pub answer : (IsMemory result → ⊥) → (reply : Reply) × AnswerOf row files reply × GaveReply row reply old new size result
+  pub answer : (IsMemory result → ⊥)
+      → (reply : Reply) × AnswerOf row files reply × GaveReply row reply old new size result
   pub memory : IsMemory result → (new ≡ old) × (size ≡ 0)
 
 -- an answer of the row: its line was given with its status
 abbrev pub GaveLineOf : Row → Files → List ℕ → List ℕ → ℕ → ℕ → Type 0
-GaveLineOf row files old new size result = (reply : Reply) × AnswerOf row files reply × Gave (code_of reply.status) reply.line old new size result
+GaveLineOf row files old new size result =
+    (reply : Reply) × AnswerOf row files reply × Gave (code_of reply.status) reply.line old new size result
 
 -- an answer of the row: the file of this name that it stores, or else its line, was given with its status
 abbrev pub GaveFileOf : List ℕ → Row → Files → List ℕ → List ℕ → ℕ → ℕ → Type 0
@@ -70,7 +73,8 @@ pub record GivesPlanOfTarget (planner : Planner) (target old new : List ℕ) (si
 
 -- the machine of the definitions takes the whole trace from the source to the target, with this energy in so many steps
 abbrev pub TakesAll : List ℕ → List ℕ → List ℕ → ℤ → ℕ → Type 0
-TakesAll source target trace energy count = MachineTakes (lent source target trace) (source_side source) (target_side target) trace_name energy count
+TakesAll source target trace energy count =
+    MachineTakes (lent source target trace) (source_side source) (target_side target) trace_name energy count
 
 -- the line of an accepted run was given
 abbrev pub GaveDone : ℤ → ℕ → List ℕ → List ℕ → ℕ → ℕ → Type 0
@@ -88,4 +92,6 @@ IsRefused status number = (IsDone number → ⊥) × (IsMemory number ⊎ (numbe
 -- what an answer of the row costs, or the number of its status
 abbrev pub CostOf : Row → Files → Result (ℤ × ℕ) ℕ → Type 0
 CostOf row files (Ok cost) = AnswerOf row files (reply_of files (Accepted cost.0 cost.1))
-CostOf row files (Err number) = (IsDone number → ⊥) × (IsMemory number ⊎ ((reply : Reply) × AnswerOf row files reply × (number ≡ code_of reply.status)))
+CostOf row files (Err number) =
+    (IsDone number → ⊥)
+    × (IsMemory number ⊎ ((reply : Reply) × AnswerOf row files reply × (number ≡ code_of reply.status)))

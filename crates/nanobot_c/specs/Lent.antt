@@ -22,7 +22,8 @@ plan_name = codes "p"
 
 -- the files of the bytes of a source, a target and a trace
 abbrev pub lent : List ℕ → List ℕ → List ℕ → Files
-lent source target trace = finite.insert (finite.insert (finite.insert finite.empty source_name source) target_name target) trace_name trace
+lent source target trace =
+    finite.insert (finite.insert (finite.insert finite.empty source_name source) target_name target) trace_name trace
 
 abbrev pub lent_files : Lent → Files
 lent_files l = lent l.source.now l.target.now l.trace.now

@@ -16,8 +16,8 @@ use Rattle.nanobot_rows.proofs.Told.{if_some}
 -- both plans cost what is told
 pub exercised : (told : Option Files) (number resolution full : ℕ) (target : Matrix) (layer group : Cost)
     → target ≡ forged number resolution → Costs IsLayerPlan target layer → Costs IsGroupPlan target group
-    → full ≡ full_count target
-    → IfSome told (λ files. AnswerOf (exercise number resolution) files (reply_of files (Exercised number resolution full layer group)))
+    → full ≡ full_count target → IfSome told
+    (λ files. AnswerOf (exercise number resolution) files (reply_of files (Exercised number resolution full layer group)))
 exercised told number resolution full target layer group e l g f =
     if_some told (λ files _. (
       layer,

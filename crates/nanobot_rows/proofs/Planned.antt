@@ -41,7 +41,8 @@ plan_kept Is s t name commands energy steps effect is keeps files = (commands, e
     planned = report.Planned energy steps (length commands) (length (spellings commands))
 
     by : (o : Option NewFile) → IsSomeAnd o (λ file. (file.name.now ≡ name) × (file.bytes.items ≡ spellings commands))
-        → Stores (report_line planned) name (spellings commands) files (record { status = status_by effect.message; line = bytes_by effect.message; after = files_with files o })
+        → Stores (report_line planned) name (spellings commands) files
+        (record { status = status_by effect.message; line = bytes_by effect.message; after = files_with files o })
     by None h = absurd h
     by (Some file) h = λ i. record { status = status_by (keeps.told i); line = bytes_by (keeps.told i); after = with_file files (h.0 i) (h.1 i) }
 

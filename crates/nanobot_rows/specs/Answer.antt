@@ -59,7 +59,8 @@ with_file files name bytes = finite.insert files name bytes
 
 -- it is done, with this line, and the file of the name now has these bytes
 abbrev pub Stores : List ℕ → List ℕ → List ℕ → Answers
-Stores line name bytes files reply = reply ≡ record { status = is.Done; line = line; after = with_file files name bytes }
+Stores line name bytes files reply =
+    reply ≡ record { status = is.Done; line = line; after = with_file files name bytes }
 
 -- ---- what files say
 
@@ -73,11 +74,14 @@ Finding A = Files → Found A → Type 0
 
 -- first X is found, and then what p says of its value; where X ends the call, its end is found
 abbrev pub With : {A B : Type 0} → Finding A → (A → Finding B) → Finding B
-With {A} X p files found = (first : Found A) × X files first × MatchResult first (λ a. p a files found) (λ end. found ≡ Err end)
+With {A} X p files found =
+    (first : Found A) × X files first × MatchResult first (λ a. p a files found) (λ end. found ≡ Err end)
 
 -- first X is found, and then what p says of its value is answered; where X ends the call, its end is answered
 abbrev pub Upon : {A : Type 0} → Finding A → (A → Answers) → Answers
-Upon {A} X p files reply = (first : Found A) × X files first × MatchResult first (λ a. p a files reply) (λ end. IsReply end.0 end.1 files reply)
+Upon {A} X p files reply =
+    (first : Found A) × X files first
+    × MatchResult first (λ a. p a files reply) (λ end. IsReply end.0 end.1 files reply)
 
 -- the value, or with this status the line of why there is none
 abbrev pub OfResult : {A W : Type 0} → Status → (W → List ℕ) → Result A W → Finding A
@@ -89,31 +93,42 @@ FileOf name files found = found ≡ ok_or (content files name) (is.Depot, [])
 
 -- the bytes of a file that has at most so many, or else this status and this line
 abbrev pub FileUpTo : ℕ → Status → List ℕ → List ℕ → Finding (List ℕ)
-FileUpTo limit status line name = With (FileOf name) (λ bytes _ found. MatchBool (nat_lt limit (length bytes)) (found ≡ Err (status, line)) (found ≡ Ok bytes))
+FileUpTo limit status line name =
+    With (FileOf name)
+    (λ bytes _ found. MatchBool (nat_lt limit (length bytes)) (found ≡ Err (status, line)) (found ≡ Ok bytes))
 
 -- ---- models
 
 -- the model, where it is legal
 abbrev pub LegalOf : Who → Matrix → Finding Matrix
-LegalOf who m files found = (why : Option NotLegal) × Legality m why × MatchOption why (found ≡ Ok m) (λ w. found ≡ Err (is.Model, not_legal_line who w))
+LegalOf who m files found =
+    (why : Option NotLegal) × Legality m why
+    × MatchOption why (found ≡ Ok m) (λ w. found ≡ Err (is.Model, not_legal_line who w))
 
 -- the legal model of a file
 abbrev pub ModelOf : Who → List ℕ → Finding Matrix
-ModelOf who name = With (FileOf name) (λ bytes. With (OfResult is.Model (no_model_line who) (model bytes)) (LegalOf who))
+ModelOf who name =
+    With (FileOf name) (λ bytes. With (OfResult is.Model (no_model_line who) (model bytes)) (LegalOf who))
 
 -- the models of a source and a target, of one resolution: by `None` it has no file, and is the empty model of the other's
 abbrev pub ModelsOf : Option (List ℕ) → Option (List ℕ) → Finding (Matrix × Matrix)
 ModelsOf None None files found = ⊥
-ModelsOf (Some source) None files found = With (ModelOf who.Source source) (λ s _ both. both ≡ Ok (s, empty s.resolution)) files found
-ModelsOf None (Some target) files found = With (ModelOf who.Target target) (λ t _ both. both ≡ Ok (empty t.resolution, t)) files found
-ModelsOf (Some source) (Some target) files found = With (ModelOf who.Source source) (λ s. With (ModelOf who.Target target) (λ t _ both.
-    MatchBool (s.resolution == t.resolution) (both ≡ Ok (s, t)) (both ≡ Err (is.Model, resolutions_line s.resolution t.resolution)))) files found
+ModelsOf (Some source) None files found =
+    With (ModelOf who.Source source) (λ s _ both. both ≡ Ok (s, empty s.resolution)) files found
+ModelsOf None (Some target) files found =
+    With (ModelOf who.Target target) (λ t _ both. both ≡ Ok (empty t.resolution, t)) files found
+ModelsOf (Some source) (Some target) files found =
+    With (ModelOf who.Source source) (λ s. With (ModelOf who.Target target) (λ t _ both. MatchBool
+    (s.resolution == t.resolution) (both ≡ Ok (s, t))
+    (both ≡ Err (is.Model, resolutions_line s.resolution t.resolution)))) files found
 
 -- ---- commands
 
 -- the commands of the bytes of a trace
 abbrev pub DecodingOf : List ℕ → Finding (List Command)
-DecodingOf bytes files found = (decoding : Result (List Command) NoTrace) × Decoding bytes decoding × OfResult is.Trace trace_line decoding files found
+DecodingOf bytes files found =
+    (decoding : Result (List Command) NoTrace) × Decoding bytes decoding
+    × OfResult is.Trace trace_line decoding files found
 
 -- the commands of the trace of a file, where it is not too long
 abbrev pub TraceOf : ℕ → List ℕ → Finding (List Command)
@@ -125,7 +140,9 @@ text_limit = 1073741824
 
 -- the commands that the text of a file says
 abbrev pub TextOf : List ℕ → Finding (List Command)
-TextOf name = With (FileUpTo text_limit is.Text (text_long_line text_limit) name) (λ bytes. OfResult is.Text faulty_text_line (read bytes))
+TextOf name =
+    With (FileUpTo text_limit is.Text (text_long_line text_limit) name)
+    (λ bytes. OfResult is.Text faulty_text_line (read bytes))
 
 -- the most bytes of a script
 abbrev pub script_limit : ℕ
@@ -133,8 +150,10 @@ script_limit = 65536
 
 -- the lines that the script of a file says over a source of a resolution
 abbrev pub ScriptOf : ℕ → List ℕ → Finding (List DebugLine)
-ScriptOf r name = With (FileUpTo script_limit is.Text (text_long_line script_limit) name) (λ bytes files found.
-    (said : Result (List DebugLine) FaultyLine) × ScriptSays r bytes said × OfResult is.Text faulty_text_line said files found)
+ScriptOf r name =
+    With (FileUpTo script_limit is.Text (text_long_line script_limit) name) (λ bytes files found.
+    (said : Result (List DebugLine) FaultyLine) × ScriptSays r bytes said
+    × OfResult is.Text faulty_text_line said files found)
 
 -- ---- runs
 
@@ -145,7 +164,8 @@ TellsVerdict (verdict.Refused broken) files reply = IsReply is.Broken (broken_li
 
 -- the verdict of the commands
 abbrev pub OfRun : Profile → Matrix → Matrix → List Command → Answers
-OfRun profile source target commands files reply = (verdict : Verdict) × VerdictOf source target commands profile verdict × TellsVerdict verdict files reply
+OfRun profile source target commands files reply =
+    (verdict : Verdict) × VerdictOf source target commands profile verdict × TellsVerdict verdict files reply
 
 -- ---- plans
 
@@ -169,18 +189,20 @@ CanPlan Group source target files found =
     MatchBool (nat_lt group_limit (group.most_bytes source target))
     (found ≡ Err (is.Model, group_long_line (runs source + runs target) (rows source + rows target))) (found ≡ Ok tt)
 CanPlan Low source target files found =
-    (at : Option Coord) × FirstUnsupported target at × MatchOption at (found ≡ Ok tt) (λ c. found ≡ Err (is.Unsupported, unsupported_line c))
+    (at : Option Coord) × FirstUnsupported target at
+    × MatchOption at (found ≡ Ok tt) (λ c. found ≡ Err (is.Unsupported, unsupported_line c))
 CanPlan planner source target files found = found ≡ Ok tt
 
 -- a plan of which this is so is stored as a trace of the name, and told with its numbers; which one is free
 abbrev pub StoresPlan : PlanFacts → List ℕ → Matrix → Matrix → Answers
 StoresPlan Is name source target files reply =
-    (commands : List Command) × (energy : ℤ) × (steps : ℕ) × Is source target commands energy steps
-    × Stores (planned_line energy steps (length commands) (length (spellings commands))) name (spellings commands) files reply
+    (commands : List Command) × (energy : ℤ) × (steps : ℕ) × Is source target commands energy steps × Stores
+    (planned_line energy steps (length commands) (length (spellings commands))) name (spellings commands) files reply
 
 -- a plan of the planner is stored so, where it makes one
 abbrev pub OfPlan : Planner → List ℕ → Matrix → Matrix → Answers
-OfPlan planner name source target = Upon (CanPlan planner source target) (λ _. StoresPlan (facts_of planner) name source target)
+OfPlan planner name source target =
+    Upon (CanPlan planner source target) (λ _. StoresPlan (facts_of planner) name source target)
 
 -- a plan of which this is so makes the target of the empty model at this cost
 abbrev pub Costs : PlanFacts → Matrix → Cost → Type 0
@@ -215,7 +237,8 @@ AnswerOfTrace profile source target trace = Upon (TraceOf run_limit trace) (OfRu
 
 -- the same between the models of a source and a target
 abbrev pub AnswerOfRun : Profile → Option (List ℕ) → Option (List ℕ) → List ℕ → Answers
-AnswerOfRun profile source target trace = Upon (ModelsOf source target) (λ models. AnswerOfTrace profile models.0 models.1 trace)
+AnswerOfRun profile source target trace =
+    Upon (ModelsOf source target) (λ models. AnswerOfTrace profile models.0 models.1 trace)
 
 -- the profile of a round
 abbrev pub profile_of : Round → Profile
@@ -232,7 +255,8 @@ AnswerOf (dis trace text) = Upon (TraceOf dis_limit trace) (λ commands.
     Stores (stored_line (length commands) (length (print commands))) text (print commands))
 AnswerOf (make number resolution name) = Stores (forged_line resolution (full_count (forged number resolution))) name
     (written (forged number resolution))
-AnswerOf (plan planner source target trace) = Upon (ModelsOf source target) (λ models. OfPlan planner trace models.0 models.1)
+AnswerOf (plan planner source target trace) =
+    Upon (ModelsOf source target) (λ models. OfPlan planner trace models.0 models.1)
 AnswerOf (exercise number resolution) = OfExercise number resolution (forged number resolution)
 AnswerOf (debug source trace script) =
     Upon (ModelOf who.Source source) (λ m.
@@ -245,4 +269,6 @@ AskNoPlan words = (row : Row) → IsRow words row → MakesPlans row → ⊥
 
 -- the answer to the words
 abbrev pub Answer : List (List ℕ) → Answers
-Answer words files reply = (IsInNoRow words × IsReply is.Words words_line files reply) ⊎ ((row : Row) × IsRow words row × AnswerOf row files reply)
+Answer words files reply =
+    (IsInNoRow words × IsReply is.Words words_line files reply)
+    ⊎ ((row : Row) × IsRow words row × AnswerOf row files reply)

@@ -38,7 +38,8 @@ files_with files (Some file) = with_file files file.name.now file.bytes.items
 
 -- the effect as a reply
 abbrev pub reply_by : Files → Effect → Reply
-reply_by files effect = record { status = status_by effect.message; line = bytes_by effect.message; after = files_with files effect.file }
+reply_by files effect =
+    record { status = status_by effect.message; line = bytes_by effect.message; after = files_with files effect.file }
 
 -- the effect stores the spellings of a plan's commands under the name, and tells of its numbers
 pub record KeepsPlan (name : List ℕ) (commands : List Command) (energy : ℤ) (steps : ℕ) (effect : Effect) : Type 0 where

@@ -30,12 +30,17 @@ who_of who.Target = codes "target"
 abbrev pub no_model_line : Who → NoModel → List ℕ
 no_model_line who model.NoByte = concat (who_of who ∷ codes " 1 NoByte\n" ∷ [])
 no_model_line who (model.Resolution r) = concat (who_of who ∷ codes " 2 Resolution " ∷ decimal r ∷ codes "\n" ∷ [])
-no_model_line who (model.Short want have) = concat (who_of who ∷ codes " 3 Short want " ∷ decimal want ∷ codes " have " ∷ decimal have ∷ codes "\n" ∷ [])
+no_model_line who (model.Short want have) =
+    concat (who_of who ∷ codes " 3 Short want " ∷ decimal want ∷ codes " have " ∷ decimal have ∷ codes "\n" ∷ [])
 no_model_line who (model.Long want) = concat (who_of who ∷ codes " 4 Long want " ∷ decimal want ∷ codes "\n" ∷ [])
-no_model_line who (model.WideHead have) = concat (who_of who ∷ codes " 8 WideHead have " ∷ decimal have ∷ codes "\n" ∷ [])
-no_model_line who (model.WideResolution r) = concat (who_of who ∷ codes " 9 WideResolution " ∷ decimal r ∷ codes "\n" ∷ [])
-no_model_line who (model.WideRun index) = concat (who_of who ∷ codes " 10 WideRun index " ∷ decimal index ∷ codes "\n" ∷ [])
-no_model_line who (model.WideShort have) = concat (who_of who ∷ codes " 11 WideShort have " ∷ decimal have ∷ codes "\n" ∷ [])
+no_model_line who (model.WideHead have) =
+    concat (who_of who ∷ codes " 8 WideHead have " ∷ decimal have ∷ codes "\n" ∷ [])
+no_model_line who (model.WideResolution r) =
+    concat (who_of who ∷ codes " 9 WideResolution " ∷ decimal r ∷ codes "\n" ∷ [])
+no_model_line who (model.WideRun index) =
+    concat (who_of who ∷ codes " 10 WideRun index " ∷ decimal index ∷ codes "\n" ∷ [])
+no_model_line who (model.WideShort have) =
+    concat (who_of who ∷ codes " 11 WideShort have " ∷ decimal have ∷ codes "\n" ∷ [])
 no_model_line who model.WideLong = concat (who_of who ∷ codes " 12 WideLong\n" ∷ [])
 
 -- the line of a model that is not legal
@@ -45,7 +50,8 @@ not_legal_line who (Floating at) = concat (who_of who ∷ codes " 7 Floating at 
 
 -- the line of two models of different resolutions
 abbrev pub resolutions_line : ℕ → ℕ → List ℕ
-resolutions_line source target = concat (codes "resolutions " ∷ decimal source ∷ codes " " ∷ decimal target ∷ codes "\n" ∷ [])
+resolutions_line source target =
+    concat (codes "resolutions " ∷ decimal source ∷ codes " " ∷ decimal target ∷ codes "\n" ∷ [])
 
 -- the line of a trace that is refused from the offset on: it is no command there, or ends within one
 abbrev pub trace_line : NoTrace → List ℕ
@@ -69,7 +75,8 @@ text_long_line limit = concat (codes "text longer than " ∷ decimal limit ∷ c
 
 -- the line of a plan of the group planner that may be too long, by runs and rows of both models
 abbrev pub group_long_line : ℕ → ℕ → List ℕ
-group_long_line runs rows = concat (codes "group plan too long runs " ∷ decimal runs ∷ codes " rows " ∷ decimal rows ∷ codes "\n" ∷ [])
+group_long_line runs rows =
+    concat (codes "group plan too long runs " ∷ decimal runs ∷ codes " rows " ∷ decimal rows ∷ codes "\n" ∷ [])
 
 -- the line of a target with an unsupported part
 abbrev pub unsupported_line : Coord → List ℕ
@@ -79,33 +86,37 @@ unsupported_line at = concat (codes "unsupported at " ∷ printed_place at ∷ c
 
 -- the line of an accepted run
 abbrev pub accepted_line : ℤ → ℕ → List ℕ
-accepted_line energy steps = concat (codes "ok energy " ∷ signed_decimal energy ∷ codes " steps " ∷ decimal steps ∷ codes "\n" ∷ [])
+accepted_line energy steps =
+    concat (codes "ok energy " ∷ signed_decimal energy ∷ codes " steps " ∷ decimal steps ∷ codes "\n" ∷ [])
 
 -- the line of a legal model, of which so many voxels are full
 abbrev pub legal_line : ℕ → ℕ → List ℕ
-legal_line resolution full = concat (codes "legal resolution " ∷ decimal resolution ∷ codes " full " ∷ decimal full ∷ codes "\n" ∷ [])
+legal_line resolution full =
+    concat (codes "legal resolution " ∷ decimal resolution ∷ codes " full " ∷ decimal full ∷ codes "\n" ∷ [])
 
 -- the line of a file of so many bytes that has the bytes, or the text, of so many commands
 abbrev pub stored_line : ℕ → ℕ → List ℕ
-stored_line commands bytes = concat (codes "commands " ∷ decimal commands ∷ codes " bytes " ∷ decimal bytes ∷ codes "\n" ∷ [])
+stored_line commands bytes =
+    concat (codes "commands " ∷ decimal commands ∷ codes " bytes " ∷ decimal bytes ∷ codes "\n" ∷ [])
 
 -- the line of a forged model
 abbrev pub forged_line : ℕ → ℕ → List ℕ
-forged_line resolution full = concat (codes "model resolution " ∷ decimal resolution ∷ codes " full " ∷ decimal full ∷ codes "\n" ∷ [])
+forged_line resolution full =
+    concat (codes "model resolution " ∷ decimal resolution ∷ codes " full " ∷ decimal full ∷ codes "\n" ∷ [])
 
 -- the line of a plan of so many commands, spelled in so many bytes
 abbrev pub planned_line : ℤ → ℕ → ℕ → ℕ → List ℕ
-planned_line energy steps commands bytes = concat
-    (codes "plan energy " ∷ signed_decimal energy ∷ codes " steps " ∷ decimal steps ∷ codes " commands " ∷ decimal commands ∷ codes " bytes "
-    ∷ decimal bytes ∷ codes "\n" ∷ [])
+planned_line energy steps commands bytes =
+    concat (codes "plan energy " ∷ signed_decimal energy ∷ codes " steps " ∷ decimal steps ∷ codes " commands "
+    ∷ decimal commands ∷ codes " bytes " ∷ decimal bytes ∷ codes "\n" ∷ [])
 
 -- the line of a forged model: up to what its plans cost, and whole
 abbrev pub exercised_head : ℕ → ℕ → ℕ → List ℕ
-exercised_head number resolution full = concat
-    (codes "exercise number " ∷ decimal number ∷ codes " resolution " ∷ decimal resolution ∷ codes " full " ∷ decimal full ∷ codes " layer" ∷ [])
+exercised_head number resolution full =
+    concat (codes "exercise number " ∷ decimal number ∷ codes " resolution " ∷ decimal resolution ∷ codes " full "
+    ∷ decimal full ∷ codes " layer" ∷ [])
 
 abbrev pub exercised_line : List ℕ → Cost → Cost → List ℕ
 exercised_line head layer group =
-    concat
-    (head ∷ codes " energy " ∷ signed_decimal layer.energy ∷ codes " steps " ∷ decimal layer.steps ∷ codes " group energy "
-    ∷ signed_decimal group.energy ∷ codes " steps " ∷ decimal group.steps ∷ codes "\n" ∷ [])
+    concat (head ∷ codes " energy " ∷ signed_decimal layer.energy ∷ codes " steps " ∷ decimal layer.steps
+    ∷ codes " group energy " ∷ signed_decimal group.energy ∷ codes " steps " ∷ decimal group.steps ∷ codes "\n" ∷ [])

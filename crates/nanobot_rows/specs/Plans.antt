@@ -21,6 +21,7 @@ TakesModels planner source target = ⊤
 abbrev pub Plans : Planner → Matrix → Matrix → Result Plan Stop → Type 0
 Plans planner source target (Ok plan) = ((files : Files) → CanPlan planner source target files (Ok tt))
     × (TakesModels planner source target → facts_of planner source target plan.commands plan.energy plan.steps)
-Plans planner source target (Err (stop.Told report)) = (files : Files) → CanPlan planner source target files (Err (end_of report))
+Plans planner source target (Err (stop.Told report)) =
+    (files : Files) → CanPlan planner source target files (Err (end_of report))
 Plans planner source target (Err stop.Depot) = ⊥
 Plans planner source target (Err stop.Memory) = ⊤

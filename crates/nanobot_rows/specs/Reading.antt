@@ -75,7 +75,8 @@ Finds X told rose (Err stop.Memory) = ⊤
 
 -- the same, where its value is a view of what the call has
 abbrev pub FindsAs : {A V : Type 0} → (V → A) → Finding A → Option Files → Type 0 → Result V Stop → Type 0
-FindsAs view X told rose result = Finds (λ files found. X files (result_map_both view (λ end. end) found)) told rose result
+FindsAs view X told rose result =
+    Finds (λ files found. X files (result_map_both view (λ end. end) found)) told rose result
 
 -- ---- traces
 
@@ -95,7 +96,8 @@ pub record RunStands (source : Matrix) (profile : Profile) (bytes : List ℕ) (s
   pub progress_is : Comes source profile commands s.run.progress
 
 abbrev pub HasRun : Matrix → Profile → List ℕ → RunState → Type 0
-HasRun source profile bytes s = MatchBool s.decoder.failed (AreBad bytes s.decoder.offset) (RunStands source profile bytes s)
+HasRun source profile bytes s =
+    MatchBool s.decoder.failed (AreBad bytes s.decoder.offset) (RunStands source profile bytes s)
 
 -- the verdict of the bytes of a trace that is not too long
 abbrev pub AnswerOfBytes : Profile → Matrix → Matrix → List ℕ → Answers
@@ -118,7 +120,8 @@ reply_to reply files (Err end) = record { status = end.0; line = end.1; after = 
 
 -- what is answered where a value is replied so
 abbrev pub Settles : {A : Type 0} → (Files → A → Reply) → Answers → Option Files → Type 0 → Result A Stop → Type 0
-Settles reply answers told rose result = Finds (λ files found. answers files (reply_to reply files found)) told rose result
+Settles reply answers told rose result =
+    Finds (λ files found. answers files (reply_to reply files found)) told rose result
 
 -- what is answered without any file that is stored
 abbrev pub EndsUnstored : Answers → Option Files → Type 0 → Result Report Stop → Type 0

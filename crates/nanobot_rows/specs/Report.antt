@@ -75,7 +75,8 @@ report_line (report.Text refusal) = faulty_text_line (faulty_line refusal)
 report_line (report.TextLong limit) = text_long_line limit
 report_line (report.GroupLong runs rows) = group_long_line runs rows
 report_line (report.Unsupported at) = unsupported_line at
-report_line (report.Exercised number resolution full layer group) = exercised_line (exercised_head number resolution full) layer group
+report_line (report.Exercised number resolution full layer group) =
+    exercised_line (exercised_head number resolution full) layer group
 
 -- the report of a verdict
 abbrev pub of_verdict : Verdict → Report

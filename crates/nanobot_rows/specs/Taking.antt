@@ -14,12 +14,15 @@ use Rattle.nanobot_rows.specs.Touching.{HasPaid}
 -- a run takes the bytes, with voxels touched so often until it began and until it ended: whatever it was a run of, it is then one of these
 -- bytes more, and the work of their commands pays for the touches
 pub record Takes (old : RunState) (bytes : List ℕ) (new : RunState) (began ended : ℕ) : Type 0 where
-  pub run : (source : Matrix) (profile : Profile) (before : List ℕ) → HasRun source profile before old → HasRun source profile (before ++ bytes) new
-  pub offset : new.decoder.offset + length new.decoder.held ≤ old.decoder.offset + length old.decoder.held + length bytes
+  pub run : (source : Matrix) (profile : Profile) (before : List ℕ) → HasRun source profile before old
+      → HasRun source profile (before ++ bytes) new
+  pub offset :
+      new.decoder.offset + length new.decoder.held ≤ old.decoder.offset + length old.decoder.held + length bytes
   pub resolution : new.run.progress.state.matrix.resolution ≡ old.run.progress.state.matrix.resolution
   pub stands : new.run.spent ≡ false
-  pub paid : (source : Matrix) (profile : Profile) (before : List ℕ) (start : ℕ) → old.run.progress.state.matrix.resolution ≡ source.resolution
-      → HasPaid source profile before old start began → HasPaid source profile (before ++ bytes) new start ended
+  pub paid : (source : Matrix) (profile : Profile) (before : List ℕ) (start : ℕ)
+      → old.run.progress.state.matrix.resolution ≡ source.resolution → HasPaid source profile before old start began
+      → HasPaid source profile (before ++ bytes) new start ended
 
 -- a run takes the first n bytes of a piece, at least one
 pub record TakesFront (old : RunState) (piece : List ℕ) (n : ℕ) (new : RunState) (began ended : ℕ) : Type 0 where

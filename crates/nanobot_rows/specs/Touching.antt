@@ -17,7 +17,8 @@ use Rattle.nanobot_words.specs.Rows.{Row, run}
 
 -- the commands of the longest front of the bytes that is a join of spellings
 abbrev pub AreInFront : List ℕ → List Command → Type 0
-AreInFront bytes commands = (rest : List ℕ) × RestOf bytes rest × AreCommands commands × (bytes ≡ spellings commands ++ rest)
+AreInFront bytes commands =
+    (rest : List ℕ) × RestOf bytes rest × AreCommands commands × (bytes ≡ spellings commands ++ rest)
 
 -- the bytes begin with the spellings of the commands
 pub record BeginWith (bytes : List ℕ) (commands : List Command) : Type 0 where
@@ -28,12 +29,15 @@ pub record BeginWith (bytes : List ℕ) (commands : List Command) : Type 0 where
 -- from before to after there are at most a hundred touches for each voxel of the source and for each part of a work: of that of the longest
 -- front of the trace, and of that of commands that the trace begins with
 pub record IsWithinTrace (profile : Profile) (source : Matrix) (bytes : List ℕ) (before after : ℕ) : Type 0 where
-  pub longest : (commands : List Command) → AreInFront bytes commands → IsWithinWorkOfRun source commands profile before after
-  pub given : (commands : List Command) × BeginWith bytes commands × IsWithinWorkOfRun source commands profile before after
+  pub longest : (commands : List Command) → AreInFront bytes commands
+      → IsWithinWorkOfRun source commands profile before after
+  pub given :
+      (commands : List Command) × BeginWith bytes commands × IsWithinWorkOfRun source commands profile before after
 
 -- the same where files are told, and the trace is one of them
 abbrev pub IsWithinFile : Profile → Matrix → Option Files → List ℕ → ℕ → ℕ → Type 0
-IsWithinFile profile source told trace before after = (files : Files) (bytes : List ℕ) → told ≡ Some files → content files trace ≡ Some bytes
+IsWithinFile profile source told trace before after =
+    (files : Files) (bytes : List ℕ) → told ≡ Some files → content files trace ≡ Some bytes
     → IsWithinTrace profile source bytes before after
 
 -- the same of the legal models of a source and a target
@@ -43,7 +47,8 @@ IsRunWithin profile source target trace told before after = (files : Files) (fro
 
 -- the same of a row that runs a trace
 abbrev pub IsRowWithin : Row → Option Files → ℕ → ℕ → Type 0
-IsRowWithin (run round source target trace) told before after = IsRunWithin (profile_of round) source target trace told before after
+IsRowWithin (run round source target trace) told before after =
+    IsRunWithin (profile_of round) source target trace told before after
 IsRowWithin row told before after = ⊤
 
 -- ---- a trace that comes in pieces

@@ -27,22 +27,31 @@ pub record WorkedLines : Type 0 where
   pub a_model : told (report.Legal 20 388) ≡ (0, codes "legal resolution 20 full 388\n")
   pub a_trace : told (report.Stored 4 6) ≡ (0, codes "commands 4 bytes 6\n")
   pub a_forged_model : told (report.Forged 20 1150) ≡ (0, codes "model resolution 20 full 1150\n")
-  pub a_plan : told (report.Planned (pos 5000) 30 119 285) ≡ (0, codes "plan energy 5000 steps 30 commands 119 bytes 285\n")
-  pub an_exercise : told (report.Exercised 7 3 1 (record { energy = pos 900; steps = 8 }) (record { energy = pos 700; steps = 6 }))
+  pub a_plan :
+      told (report.Planned (pos 5000) 30 119 285) ≡ (0, codes "plan energy 5000 steps 30 commands 119 bytes 285\n")
+  pub an_exercise :
+      told (report.Exercised 7 3 1 (record { energy = pos 900; steps = 8 }) (record { energy = pos 700; steps = 6 }))
       ≡ (0, codes "exercise number 7 resolution 3 full 1 layer energy 900 steps 8 group energy 700 steps 6\n")
-  pub a_broken_rule : told (report.Broken (record { step = 783; bid = 1; rule = HaltLow; at = coord 0 0 10 })) ≡ (1, codes "broken 4 HaltLow step 783 bid 1 at 0 0 10\n")
-  pub a_floating_voxel : told (report.Broken (record { step = 2; bid = 0; rule = Ungrounded; at = coord 1 2 3 })) ≡ (1, codes "broken 12 Ungrounded step 2 bid 0 at 1 2 3\n")
-  pub a_forbidden_command : told (report.Broken (record { step = 1; bid = 40; rule = Forbidden; at = coord 0 0 0 })) ≡ (1, codes "broken 15 Forbidden step 1 bid 40 at 0 0 0\n")
+  pub a_broken_rule : told (report.Broken (record { step = 783; bid = 1; rule = HaltLow; at = coord 0 0 10 }))
+      ≡ (1, codes "broken 4 HaltLow step 783 bid 1 at 0 0 10\n")
+  pub a_floating_voxel : told (report.Broken (record { step = 2; bid = 0; rule = Ungrounded; at = coord 1 2 3 }))
+      ≡ (1, codes "broken 12 Ungrounded step 2 bid 0 at 1 2 3\n")
+  pub a_forbidden_command : told (report.Broken (record { step = 1; bid = 40; rule = Forbidden; at = coord 0 0 0 }))
+      ≡ (1, codes "broken 15 Forbidden step 1 bid 40 at 0 0 0\n")
   pub no_byte : told (report.Model who.Model model.NoByte) ≡ (3, codes "model 1 NoByte\n")
   pub a_resolution : told (report.Model who.Source (model.Resolution 251)) ≡ (3, codes "source 2 Resolution 251\n")
   pub too_few_bytes : told (report.Model who.Target (model.Short 5 4)) ≡ (3, codes "target 3 Short want 5 have 4\n")
   pub too_many_bytes : told (report.Model who.Model (model.Long 5)) ≡ (3, codes "model 4 Long want 5\n")
-  pub outside_the_box : told (report.Model who.Model (model.Border (coord 0 1 2))) ≡ (3, codes "model 6 Border at 0 1 2\n")
-  pub a_floating_model : told (report.Model who.Source (model.Floating (coord 1 1 12))) ≡ (3, codes "source 7 Floating at 1 1 12\n")
+  pub outside_the_box :
+      told (report.Model who.Model (model.Border (coord 0 1 2))) ≡ (3, codes "model 6 Border at 0 1 2\n")
+  pub a_floating_model :
+      told (report.Model who.Source (model.Floating (coord 1 1 12))) ≡ (3, codes "source 7 Floating at 1 1 12\n")
   pub a_wide_head : told (report.Model who.Model (model.WideHead 2)) ≡ (3, codes "model 8 WideHead have 2\n")
-  pub a_wide_resolution : told (report.Model who.Model (model.WideResolution 401)) ≡ (3, codes "model 9 WideResolution 401\n")
+  pub a_wide_resolution :
+      told (report.Model who.Model (model.WideResolution 401)) ≡ (3, codes "model 9 WideResolution 401\n")
   pub a_wide_run : told (report.Model who.Model (model.WideRun 1)) ≡ (3, codes "model 10 WideRun index 1\n")
-  pub too_few_wide_runs : told (report.Model who.Model (model.WideShort 100)) ≡ (3, codes "model 11 WideShort have 100\n")
+  pub too_few_wide_runs :
+      told (report.Model who.Model (model.WideShort 100)) ≡ (3, codes "model 11 WideShort have 100\n")
   pub bytes_after_the_runs : told (report.Model who.Target model.WideLong) ≡ (3, codes "target 12 WideLong\n")
   pub two_resolutions : told (report.Resolutions 20 3) ≡ (3, codes "resolutions 20 3\n")
   pub a_long_group_plan : told (report.GroupLong 300 20) ≡ (3, codes "group plan too long runs 300 rows 20\n")
@@ -72,4 +81,5 @@ pub record WorkedBounds : Type 0 where
   pub runs_of_voxels : runs (voxels_at 3 (coord 1 0 0 ∷ coord 1 0 2 ∷ coord 2 0 0 ∷ [])) ≡ 3
   pub group_steps : group.most_group_steps (empty 3) (voxels_at 3 (coord 1 0 0 ∷ coord 1 0 2 ∷ coord 2 0 0 ∷ [])) ≡ 1344
   pub group_bytes : group.most_bytes (voxels_at 3 (coord 1 0 0 ∷ coord 1 0 2 ∷ coord 2 0 0 ∷ [])) (empty 3) ≡ 5388
-  pub void_steps : (void.most_void_steps 31 ≡ 696) × (void.most_void_steps 32 ≡ 1480) × (void.most_void_steps 250 ≡ 164200)
+  pub void_steps :
+      (void.most_void_steps 31 ≡ 696) × (void.most_void_steps 32 ≡ 1480) × (void.most_void_steps 250 ≡ 164200)

@@ -39,11 +39,13 @@ planner_word Swarm = codes "swarm"
 -- the words of a row
 abbrev pub row_words : Row → List (List ℕ)
 row_words (check model) = codes "check" ∷ model ∷ []
-row_words (run round source target trace) = codes "run" ∷ with_round round (side_word source ∷ side_word target ∷ trace ∷ [])
+row_words (run round source target trace) =
+    codes "run" ∷ with_round round (side_word source ∷ side_word target ∷ trace ∷ [])
 row_words (asm text trace) = codes "asm" ∷ text ∷ trace ∷ []
 row_words (dis trace text) = codes "dis" ∷ trace ∷ text ∷ []
 row_words (make number resolution model) = codes "make" ∷ decimal number ∷ decimal resolution ∷ model ∷ []
-row_words (plan planner source target trace) = codes "plan" ∷ planner_word planner ∷ side_word source ∷ side_word target ∷ trace ∷ []
+row_words (plan planner source target trace) =
+    codes "plan" ∷ planner_word planner ∷ side_word source ∷ side_word target ∷ trace ∷ []
 row_words (exercise number resolution) = codes "exercise" ∷ decimal number ∷ decimal resolution ∷ []
 row_words (debug source trace script) = codes "debug" ∷ source ∷ trace ∷ script ∷ []
 

@@ -7,8 +7,10 @@ use Rattle.nanobot_words.specs.Rows.{TakesSides, asm, check, debug, dis, exercis
 -- the words of each row
 pub record WorkedWords : Type 0 where
   pub a_check : row_words (check (codes "m")) ≡ codes "check" ∷ codes "m" ∷ []
-  pub a_run : row_words (run Full (Some (codes "s")) (Some (codes "t")) (codes "b")) ≡ codes "run" ∷ codes "s" ∷ codes "t" ∷ codes "b" ∷ []
-  pub a_run_from_nothing : row_words (run Full None (Some (codes "t")) (codes "b")) ≡ codes "run" ∷ codes "-" ∷ codes "t" ∷ codes "b" ∷ []
+  pub a_run : row_words (run Full (Some (codes "s")) (Some (codes "t")) (codes "b"))
+      ≡ codes "run" ∷ codes "s" ∷ codes "t" ∷ codes "b" ∷ []
+  pub a_run_from_nothing :
+      row_words (run Full None (Some (codes "t")) (codes "b")) ≡ codes "run" ∷ codes "-" ∷ codes "t" ∷ codes "b" ∷ []
   pub a_light_run_to_nothing : row_words (run Light (Some (codes "s")) None (codes "b"))
       ≡ codes "run" ∷ codes "light" ∷ codes "s" ∷ codes "-" ∷ codes "b" ∷ []
   pub a_text : row_words (asm (codes "x") (codes "b")) ≡ codes "asm" ∷ codes "x" ∷ codes "b" ∷ []
@@ -20,19 +22,26 @@ pub record WorkedWords : Type 0 where
       ≡ codes "plan" ∷ codes "group" ∷ codes "s" ∷ codes "-" ∷ codes "b" ∷ []
   pub a_crew_plan : row_words (plan Crew (Some (codes "s")) (Some (codes "t")) (codes "b"))
       ≡ codes "plan" ∷ codes "crew" ∷ codes "s" ∷ codes "t" ∷ codes "b" ∷ []
-  pub a_void_plan : row_words (plan Void (Some (codes "s")) None (codes "b")) ≡ codes "plan" ∷ codes "void" ∷ codes "s" ∷ codes "-" ∷ codes "b" ∷ []
-  pub a_low_plan : row_words (plan Low None (Some (codes "t")) (codes "b")) ≡ codes "plan" ∷ codes "low" ∷ codes "-" ∷ codes "t" ∷ codes "b" ∷ []
-  pub a_swarm_plan : row_words (plan Swarm None (Some (codes "t")) (codes "b")) ≡ codes "plan" ∷ codes "swarm" ∷ codes "-" ∷ codes "t" ∷ codes "b" ∷ []
+  pub a_void_plan : row_words (plan Void (Some (codes "s")) None (codes "b"))
+      ≡ codes "plan" ∷ codes "void" ∷ codes "s" ∷ codes "-" ∷ codes "b" ∷ []
+  pub a_low_plan : row_words (plan Low None (Some (codes "t")) (codes "b"))
+      ≡ codes "plan" ∷ codes "low" ∷ codes "-" ∷ codes "t" ∷ codes "b" ∷ []
+  pub a_swarm_plan : row_words (plan Swarm None (Some (codes "t")) (codes "b"))
+      ≡ codes "plan" ∷ codes "swarm" ∷ codes "-" ∷ codes "t" ∷ codes "b" ∷ []
   pub an_exercise : row_words (exercise 0 400) ≡ codes "exercise" ∷ codes "0" ∷ codes "400" ∷ []
-  pub a_session : row_words (debug (codes "s") (codes "b") (codes "x")) ≡ codes "debug" ∷ codes "s" ∷ codes "b" ∷ codes "x" ∷ []
+  pub a_session :
+      row_words (debug (codes "s") (codes "b") (codes "x")) ≡ codes "debug" ∷ codes "s" ∷ codes "b" ∷ codes "x" ∷ []
 
 -- the files of rows, read in this order, and stored
 pub record WorkedFiles : Type 0 where
-  pub a_run_reads : reads_of (run Full (Some (codes "s")) (Some (codes "t")) (codes "b")) ≡ codes "s" ∷ codes "t" ∷ codes "b" ∷ []
+  pub a_run_reads :
+      reads_of (run Full (Some (codes "s")) (Some (codes "t")) (codes "b")) ≡ codes "s" ∷ codes "t" ∷ codes "b" ∷ []
   pub nothing_is_no_file : reads_of (run Light None (Some (codes "t")) (codes "b")) ≡ codes "t" ∷ codes "b" ∷ []
   pub a_session_reads : reads_of (debug (codes "s") (codes "b") (codes "x")) ≡ codes "s" ∷ codes "b" ∷ codes "x" ∷ []
-  pub a_plan_reads_its_models : reads_of (plan Group (Some (codes "s")) (Some (codes "t")) (codes "b")) ≡ codes "s" ∷ codes "t" ∷ []
-  pub a_plan_stores_its_trace : stores_of (plan Group (Some (codes "s")) (Some (codes "t")) (codes "b")) ≡ Some (codes "b")
+  pub a_plan_reads_its_models :
+      reads_of (plan Group (Some (codes "s")) (Some (codes "t")) (codes "b")) ≡ codes "s" ∷ codes "t" ∷ []
+  pub a_plan_stores_its_trace :
+      stores_of (plan Group (Some (codes "s")) (Some (codes "t")) (codes "b")) ≡ Some (codes "b")
   pub a_text_is_read : reads_of (asm (codes "x") (codes "b")) ≡ codes "x" ∷ []
   pub its_trace_is_stored : stores_of (asm (codes "x") (codes "b")) ≡ Some (codes "b")
   pub a_trace_is_read : reads_of (dis (codes "b") (codes "x")) ≡ codes "b" ∷ []

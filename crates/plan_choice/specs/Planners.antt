@@ -23,7 +23,8 @@ PlanFacts = Matrix → Matrix → List Command → ℤ → ℕ → Type 0
 
 -- every plan: the definitions accept the commands from the one model to the other with this energy in so many steps, by the profile at most so
 -- many bots are active at once, and where both models are the same, it is a Halt alone
-pub record IsPlan (profile : Profile) (most : ℕ) (source target : Matrix) (commands : List Command) (energy : ℤ) (steps : ℕ) : Type 0 where
+pub record IsPlan (profile : Profile) (most : ℕ) (source target : Matrix) (commands : List Command) (energy : ℤ)
+    (steps : ℕ) : Type 0 where
   pub are_commands : AreCommands commands
   pub accepted : VerdictOf source target commands full_profile (verdict.Accepted energy steps)
   pub few_bots : HasAtMost source profile commands most
@@ -59,7 +60,8 @@ pub record IsLowPlan (source target : Matrix) (commands : List Command) (energy 
 pub record IsSwarmPlan (source target : Matrix) (commands : List Command) (energy : ℤ) (steps : ℕ) : Type 0 where
   pub plan : IsPlan light_profile 20 source target commands energy steps
   pub accepted_as_light : VerdictOf source target commands light_profile (verdict.Accepted energy steps)
-  pub few_steps : steps ≤ 4 * width target.resolution * target.resolution * target.resolution + 8 * target.resolution + 2000
+  pub few_steps :
+      steps ≤ 4 * width target.resolution * target.resolution * target.resolution + 8 * target.resolution + 2000
 
 -- the most bytes of a crew's plan
 abbrev pub crew_limit : ℕ
@@ -67,7 +69,8 @@ crew_limit = 1073741824
 
 -- a plan of which this is so costs at least so much
 abbrev pub IsNoDearer : PlanFacts → Matrix → Matrix → ℤ → Type 0
-IsNoDearer Is source target energy = (commands : List Command) × (paid : ℤ) × (steps : ℕ) × Is source target commands paid steps × (energy ≤ℤ paid)
+IsNoDearer Is source target energy =
+    (commands : List Command) × (paid : ℤ) × (steps : ℕ) × Is source target commands paid steps × (energy ≤ℤ paid)
 
 -- a plan of the crew, of forty bots at most: its spellings are no longer than a trace that is run, and each other planner that makes plans of
 -- such models has one that costs no less: of any models, of any whose group plan is not too long, to the empty model, or from it
@@ -77,5 +80,6 @@ pub record IsCrewPlan (source target : Matrix) (commands : List Command) (energy
   pub as_layer : IsNoDearer IsLayerPlan source target energy
   pub as_group : group.most_bytes source target ≤ crew_limit → IsNoDearer IsGroupPlan source target energy
   pub as_void : target ≡ empty target.resolution → IsNoDearer IsVoidPlan source target energy
-  pub as_low : source ≡ empty source.resolution → FirstUnsupported target None → IsNoDearer IsLowPlan source target energy
+  pub as_low : source ≡ empty source.resolution → FirstUnsupported target None
+      → IsNoDearer IsLowPlan source target energy
   pub as_swarm : source ≡ empty source.resolution → IsNoDearer IsSwarmPlan source target energy

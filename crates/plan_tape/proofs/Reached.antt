@@ -129,8 +129,8 @@ module _ (source target : Matrix) (profile : Profile) (energy : ℤ) (steps : �
   there commands d (inl h) = subst (λ (k : List Command). ReachesTarget source target profile k energy steps) (sym d.joined) (at_end d.before d.rest d.last d.done d.reaches h.0 (sym h.1))
   there commands d (inr h) = absurd (let e = h.2 in cc)
 
-  pub accepted : (commands : List Command)
-      → (VerdictOf source target commands profile (Accepted energy steps) ↔ ReachesTarget source target profile commands energy steps)
+  pub accepted : (commands : List Command) → (VerdictOf source target commands profile (Accepted energy steps) ↔
+      ReachesTarget source target profile commands energy steps)
   accepted commands = (
     λ run. let decided_here = decided source target profile [] commands (opening source profile) 0 (Accepted energy steps) (starts refl refl refl) run in there commands decided_here decided_here.falls,
     λ r.

@@ -125,7 +125,8 @@ module _ (p : TapeState) (w : IsWhole p.matrix) (alone : length p.bots ≡ 1) wh
 
   pub voids : (d : Diff) → IsAllowed p (Void d) → IsReachable p d
       → IsHeld p.harmonics (with_voxel p.matrix (beside p d) false) → Does p (only_bot p.bots alone).0 (Void d)
-      (with_voxel p.matrix (beside p d) false) p.harmonics p.bots (cond (is_full p.matrix (beside p d)) (negsuc 11) (pos 3))
+      (with_voxel p.matrix (beside p d) false) p.harmonics p.bots
+      (cond (is_full p.matrix (beside p d)) (negsuc 11) (pos 3))
   voids d a i g =
       let only = only_bot p.bots alone in
       let place = in_place p only.0 d only.2 i in

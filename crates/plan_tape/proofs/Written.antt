@@ -116,8 +116,9 @@ pub record Makes (old now : TapeState) (k : Command) (m : Matrix) (h : Harmonics
 module _ (inside old : TapeState) (e : inside ≡ old) (r : IsReached inside) (commands : List Command) (energy : ℤ) where
   pub flip_makes : (harmonics : Harmonics) → length old.bots ≡ 1 → IsAllowed old Flip
       → IsHeld (flipped old.harmonics) old.matrix → old.steps < 1073741824 → commands ≡ inside.commands ++ Flip ∷ []
-      → harmonics ≡ flipped inside.harmonics → IsCharged old 1 (pos 0) energy
-      → Makes old (now_of inside commands inside.matrix harmonics inside.bots energy 1) Flip old.matrix (flipped old.harmonics) old.bots (pos 0)
+      → harmonics ≡ flipped inside.harmonics → IsCharged old 1 (pos 0) energy → Makes old
+      (now_of inside commands inside.matrix harmonics inside.bots energy 1) Flip old.matrix (flipped old.harmonics)
+      old.bots (pos 0)
   flip_makes harmonics = subst (λ (o : TapeState). length o.bots ≡ 1 → IsAllowed o Flip → IsHeld (flipped o.harmonics) o.matrix → o.steps < 1073741824 → commands ≡ inside.commands ++ Flip ∷ [] → harmonics ≡ flipped inside.harmonics → IsCharged o 1 (pos 0) energy → Makes o (now_of inside commands inside.matrix harmonics inside.bots energy 1) Flip o.matrix (flipped o.harmonics) o.bots (pos 0)) e
       (λ l a g n ec eh ee.
       let only = only_bot inside.bots l in
@@ -127,9 +128,10 @@ module _ (inside old : TapeState) (e : inside ≡ old) (r : IsReached inside) (c
   pub fill_makes : (d : Diff) (matrix : Matrix) → length old.bots ≡ 1 → IsAllowed old (Fill d) → IsReachable old d
       → IsHeld old.harmonics (with_voxel old.matrix (beside old d) true) → old.steps < 1073741824
       → commands ≡ inside.commands ++ Fill d ∷ [] → matrix ≡ with_voxel inside.matrix (beside old d) true
-      → IsWhole matrix → IsCharged old 1 (cond (is_full old.matrix (beside old d)) (pos 6) (pos 12)) energy
-      → Makes old (now_of inside commands matrix inside.harmonics inside.bots energy 1) (Fill d)
-      (with_voxel old.matrix (beside old d) true) old.harmonics old.bots (cond (is_full old.matrix (beside old d)) (pos 6) (pos 12))
+      → IsWhole matrix → IsCharged old 1 (cond (is_full old.matrix (beside old d)) (pos 6) (pos 12)) energy → Makes old
+      (now_of inside commands matrix inside.harmonics inside.bots energy 1) (Fill d)
+      (with_voxel old.matrix (beside old d) true) old.harmonics old.bots
+      (cond (is_full old.matrix (beside old d)) (pos 6) (pos 12))
   fill_makes d matrix = subst (λ (o : TapeState). length o.bots ≡ 1 → IsAllowed o (Fill d) → IsReachable o d → IsHeld o.harmonics (with_voxel o.matrix (beside o d) true) → o.steps < 1073741824 → commands ≡ inside.commands ++ Fill d ∷ [] → matrix ≡ with_voxel inside.matrix (beside o d) true → IsWhole matrix → IsCharged o 1 (cond (is_full o.matrix (beside o d)) (pos 6) (pos 12)) energy → Makes o (now_of inside commands matrix inside.harmonics inside.bots energy 1) (Fill d) (with_voxel o.matrix (beside o d) true) o.harmonics o.bots (cond (is_full o.matrix (beside o d)) (pos 6) (pos 12))) e
       (λ l a i g n ec em w ee.
       let only = only_bot inside.bots l in
@@ -139,9 +141,10 @@ module _ (inside old : TapeState) (e : inside ≡ old) (r : IsReached inside) (c
   pub void_makes : (d : Diff) (matrix : Matrix) → length old.bots ≡ 1 → IsAllowed old (Void d) → IsReachable old d
       → IsHeld old.harmonics (with_voxel old.matrix (beside old d) false) → old.steps < 1073741824
       → commands ≡ inside.commands ++ Void d ∷ [] → matrix ≡ with_voxel inside.matrix (beside old d) false
-      → IsWhole matrix → IsCharged old 1 (cond (is_full old.matrix (beside old d)) (negsuc 11) (pos 3)) energy
-      → Makes old (now_of inside commands matrix inside.harmonics inside.bots energy 1) (Void d)
-      (with_voxel old.matrix (beside old d) false) old.harmonics old.bots (cond (is_full old.matrix (beside old d)) (negsuc 11) (pos 3))
+      → IsWhole matrix → IsCharged old 1 (cond (is_full old.matrix (beside old d)) (negsuc 11) (pos 3)) energy → Makes
+      old (now_of inside commands matrix inside.harmonics inside.bots energy 1) (Void d)
+      (with_voxel old.matrix (beside old d) false) old.harmonics old.bots
+      (cond (is_full old.matrix (beside old d)) (negsuc 11) (pos 3))
   void_makes d matrix = subst (λ (o : TapeState). length o.bots ≡ 1 → IsAllowed o (Void d) → IsReachable o d → IsHeld o.harmonics (with_voxel o.matrix (beside o d) false) → o.steps < 1073741824 → commands ≡ inside.commands ++ Void d ∷ [] → matrix ≡ with_voxel inside.matrix (beside o d) false → IsWhole matrix → IsCharged o 1 (cond (is_full o.matrix (beside o d)) (negsuc 11) (pos 3)) energy → Makes o (now_of inside commands matrix inside.harmonics inside.bots energy 1) (Void d) (with_voxel o.matrix (beside o d) false) o.harmonics o.bots (cond (is_full o.matrix (beside o d)) (negsuc 11) (pos 3))) e
       (λ l a i g n ec em w ee.
       let only = only_bot inside.bots l in
@@ -150,8 +153,8 @@ module _ (inside old : TapeState) (e : inside ≡ old) (r : IsReached inside) (c
 
   pub halt_makes : (bots : List Bot) → length old.bots ≡ 1 → IsAllowed old Halt → spot old.bots ≡ origin
       → old.harmonics ≡ Low → old.steps < 1073741824 → commands ≡ inside.commands ++ Halt ∷ [] → bots ≡ []
-      → IsCharged old 1 (pos 0) energy
-      → Makes old (now_of inside commands inside.matrix inside.harmonics bots energy 1) Halt old.matrix old.harmonics [] (pos 0)
+      → IsCharged old 1 (pos 0) energy → Makes old (now_of inside commands inside.matrix inside.harmonics bots energy 1)
+      Halt old.matrix old.harmonics [] (pos 0)
   halt_makes bots = subst (λ (o : TapeState). length o.bots ≡ 1 → IsAllowed o Halt → spot o.bots ≡ origin → o.harmonics ≡ Low → o.steps < 1073741824 → commands ≡ inside.commands ++ Halt ∷ [] → bots ≡ [] → IsCharged o 1 (pos 0) energy → Makes o (now_of inside commands inside.matrix inside.harmonics bots energy 1) Halt o.matrix o.harmonics [] (pos 0)) e
       (λ l a i g n ec eb ee.
       let only = only_bot inside.bots l in

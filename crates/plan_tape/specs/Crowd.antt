@@ -44,7 +44,8 @@ pub record CanMoveAll (p : TapeState) (commands : List Command) : Type 0 where
   pub apart : AreWaysApart (acts p.bots commands)
 
 -- the tape after a step of all bots: what it leaves of the matrix, the harmonics and the bots, and what it costs
-pub record AllStep (old new : TapeState) (commands : List Command) (m : Matrix) (h : Harmonics) (bots : List Bot) : Type 0 where
+pub record AllStep (old new : TapeState) (commands : List Command) (m : Matrix) (h : Harmonics) (bots : List Bot)
+    : Type 0 where
   pub source : new.source ≡ old.source
   pub profile : new.profile ≡ old.profile
   pub added : new.commands ≡ old.commands ++ commands
@@ -62,7 +63,8 @@ pub record AreCalm (p : TapeState) (commands : List Command) : Type 0 where
 
 -- the tape after a step of such bots
 abbrev pub CalmStep : TapeState → TapeState → List Command → Type 0
-CalmStep old new commands = AllStep old new commands (after (state_of old) commands).matrix old.harmonics (after (state_of old) commands).bots
+CalmStep old new commands =
+    AllStep old new commands (after (state_of old) commands).matrix old.harmonics (after (state_of old) commands).bots
 
 -- the bots where they have gone
 abbrev pub bots_gone : List Bot → List Command → List Bot

@@ -50,7 +50,8 @@ pub record IsMove (a v b : ℕ) : Type 0 where
 -- moves along an axis that lead from one component to another, each of at most 15 and nearer to the end
 abbrev pub IsLeg : Axis → ℕ → ℕ → List Command → Type 0
 IsLeg axis a b [] = a ≡ b
-IsLeg axis a b (command ∷ more) = (v : ℕ) × (command ≡ SMove (along axis (pos v -ℤ pos a))) × IsMove a v b × IsLeg axis v b more
+IsLeg axis a b (command ∷ more) =
+    (v : ℕ) × (command ≡ SMove (along axis (pos v -ℤ pos a))) × IsMove a v b × IsLeg axis v b more
 
 -- such moves, as few as can be
 pub record IsLeastLeg (axis : Axis) (a b : ℕ) (commands : List Command) : Type 0 where
@@ -101,6 +102,7 @@ pub record Moves (old new : TapeState) (to : Coord) : Type 0 where
   pub bots : new.bots ≡ bots_at old.bots to
   pub alone : length new.bots ≡ 1
   pub there : spot new.bots ≡ to
-  pub energy : new.energy ≡ old.energy +ℤ pos (moves_to (spot old.bots) to * upkeep_of_step old + 2 * distance (spot old.bots) to)
+  pub energy : new.energy
+      ≡ old.energy +ℤ pos (moves_to (spot old.bots) to * upkeep_of_step old + 2 * distance (spot old.bots) to)
   pub steps : new.steps ≡ old.steps + moves_to (spot old.bots) to
   pub bytes_are : bytes new ≡ bytes old + 2 * moves_to (spot old.bots) to

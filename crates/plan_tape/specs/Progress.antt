@@ -34,7 +34,8 @@ pub record TapeState : Type 0 where
 
 -- the state
 abbrev pub state_of : TapeState → State
-state_of p = record { matrix = p.matrix; harmonics = p.harmonics; bots = p.bots; energy = p.energy; profile = p.profile }
+state_of p =
+    record { matrix = p.matrix; harmonics = p.harmonics; bots = p.bots; energy = p.energy; profile = p.profile }
 
 -- what is seen of the parts of a tape
 abbrev pub progress_of : Matrix → List Command → State → ℕ → TapeState
@@ -104,7 +105,8 @@ abbrev pub upkeep_of_step : TapeState → ℕ
 upkeep_of_step p = unsigned_abs (upkeep (state_of p))
 
 -- one more command in one step, which costs this beside its upkeep, and what it leaves: the matrix, the harmonics and the bots
-pub record Writes (old new : TapeState) (command : Command) (m : Matrix) (h : Harmonics) (bots : List Bot) (cost : ℤ) : Type 0 where
+pub record Writes (old new : TapeState) (command : Command) (m : Matrix) (h : Harmonics) (bots : List Bot) (cost : ℤ)
+    : Type 0 where
   pub source : new.source ≡ old.source
   pub profile : new.profile ≡ old.profile
   pub commands : new.commands ≡ old.commands ++ command ∷ []
@@ -129,7 +131,8 @@ AreAlike m n = (c : Coord) → is_full m c ≡ is_full n c
 
 -- the definitions accept the commands from the one model to the other with this energy and in so many steps
 abbrev pub IsAccepted : Matrix → Matrix → List Command → Profile → ℤ → ℕ → Type 0
-IsAccepted source target commands profile energy steps = VerdictOf source target commands profile (Accepted energy steps)
+IsAccepted source target commands profile energy steps =
+    VerdictOf source target commands profile (Accepted energy steps)
 
 -- from a height on all voxels are void
 abbrev pub IsVoidFrom : Matrix → ℕ → Type 0

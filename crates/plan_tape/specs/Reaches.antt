@@ -12,10 +12,12 @@ use Rattle.nano_spec.specs.Verdict.{ending, first_difference}
 
 -- the commands make so many steps from the opening of the source, each accepted, and the state is the one after them
 pub data Reaches (source : Matrix) (profile : Profile) : List Command → State → ℕ → Type 0 where
-  starts : {commands : List Command} {s : State} {steps : ℕ} → commands ≡ [] → s ≡ opening source profile → steps ≡ 0 → Reaches source profile commands s steps
+  starts : {commands : List Command} {s : State} {steps : ℕ} → commands ≡ [] → s ≡ opening source profile → steps ≡ 0
+      → Reaches source profile commands s steps
   steps_on : {commands : List Command} {t : State} {steps : ℕ} (s : State) (before step : List Command) (done : ℕ)
-      → Reaches source profile before s done → 0 < length s.bots → length step ≡ length s.bots → Next s step (done + 1) (Goes t)
-      → commands ≡ before ++ step → steps ≡ done + 1 → Reaches source profile commands t steps
+      → Reaches source profile before s done → 0 < length s.bots → length step ≡ length s.bots
+      → Next s step (done + 1) (Goes t) → commands ≡ before ++ step → steps ≡ done + 1
+      → Reaches source profile commands t steps
 
 -- every state that a first part of the commands reaches has at most so many bots
 abbrev pub HasAtMost : Matrix → Profile → List Command → ℕ → Type 0
@@ -23,7 +25,8 @@ HasAtMost source profile commands n = (before rest : List Command) (s : State) (
     → Reaches source profile before s steps → length s.bots ≤ n
 
 -- the commands reach a state without bots, with this energy in so many steps, whose matrix differs nowhere from the target
-pub record ReachesTarget (source target : Matrix) (profile : Profile) (commands : List Command) (energy : ℤ) (steps : ℕ) : Type 0 where
+pub record ReachesTarget (source target : Matrix) (profile : Profile) (commands : List Command) (energy : ℤ) (steps : ℕ)
+    : Type 0 where
   pub last : State
   pub reaches : Reaches source profile commands last steps
   pub no_bot : last.bots ≡ []
@@ -36,7 +39,8 @@ FallsAt target s rest done verdict = ((s.bots ≡ []) × (verdict ≡ ending tar
     ⊎ ((b : Broken) × Next s (take (length s.bots) rest) (done + 1) (Breaks b) × (verdict ≡ Refused b))
 
 -- a first part of the commands reaches the state at which the verdict falls
-pub record IsDecided (source target : Matrix) (profile : Profile) (commands : List Command) (verdict : Verdict) : Type 0 where
+pub record IsDecided (source target : Matrix) (profile : Profile) (commands : List Command) (verdict : Verdict)
+    : Type 0 where
   pub before : List Command
   pub rest : List Command
   pub joined : commands ≡ before ++ rest

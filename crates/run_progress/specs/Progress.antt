@@ -65,13 +65,16 @@ Pushes p command q = PushesAt p.mark p command q
 
 -- the progress that the commands make one after another from the opening
 pub data Comes (source : Matrix) (profile : Profile) : List Command → Progress → Type 0 where
-  first : {commands : List Command} {p : Progress} → commands ≡ [] → p ≡ begun source profile → Comes source profile commands p
-  later : {commands : List Command} {p : Progress} (before : List Command) (q : Progress) (command : Command) → Comes source profile before q
-      → Pushes q command p → commands ≡ before ++ command ∷ [] → Comes source profile commands p
+  first : {commands : List Command} {p : Progress} → commands ≡ [] → p ≡ begun source profile
+      → Comes source profile commands p
+  later : {commands : List Command} {p : Progress} (before : List Command) (q : Progress) (command : Command)
+      → Comes source profile before q → Pushes q command p → commands ≡ before ++ command ∷ []
+      → Comes source profile commands p
 
 -- the verdict where no further command comes: a step that was begun lacks commands
 abbrev pub FinishesAt : Mark → Matrix → Progress → Verdict → Type 0
-FinishesAt Running target p v = (b : Broken) × (judge_trace p.state p.pending (p.steps + 1) ≡ Some b) × (v ≡ verdict.Refused b)
+FinishesAt Running target p v =
+    (b : Broken) × (judge_trace p.state p.pending (p.steps + 1) ≡ Some b) × (v ≡ verdict.Refused b)
 FinishesAt (Refused b) target p v = v ≡ verdict.Refused b
 FinishesAt Halted target p v = v ≡ compared p.state.energy p.steps (first_difference p.state.matrix target)
 FinishesAt Followed target p v = v ≡ broken_end p.steps AfterHalt origin

@@ -38,10 +38,10 @@ begins_once : (commands : List Command) (bid : ℕ) (s t u : Session) (r q : Deb
     → BeginsGroup commands bid s u q → AreOne t u r q
 begins_once commands bid s t u r q h k = by (may_begin commands s bid) (is_last commands s) h k
   where
-    by : (may last : Bool)
-        → MatchBool may (MatchBool last (TriesStep commands s t r) ((t ≡ record s { begun = s.begun ++ bid ∷ [] }) × (r ≡ Begun bid (s.point.steps + 1))))
-        ((t ≡ s) × (r ≡ NoLeader bid))
-        → MatchBool may (MatchBool last (TriesStep commands s u q) ((u ≡ record s { begun = s.begun ++ bid ∷ [] }) × (q ≡ Begun bid (s.point.steps + 1))))
+    by : (may last : Bool) → MatchBool may (MatchBool last (TriesStep commands s t r)
+        ((t ≡ record s { begun = s.begun ++ bid ∷ [] }) × (r ≡ Begun bid (s.point.steps + 1))))
+        ((t ≡ s) × (r ≡ NoLeader bid)) → MatchBool may (MatchBool last (TriesStep commands s u q)
+        ((u ≡ record s { begun = s.begun ++ bid ∷ [] }) × (q ≡ Begun bid (s.point.steps + 1))))
         ((u ≡ s) × (q ≡ NoLeader bid)) → AreOne t u r q
     by false last x y = both_are t u _ r q _ x y
     by true true x y = steps_once commands s t u r q x y

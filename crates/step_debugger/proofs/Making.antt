@@ -134,8 +134,8 @@ module _ (v : Situation) (notes : Buffer Undo) (commands : List Command) (taken 
         pub step_within : IsWithinWorkOf 100 d.commands d.session.point began ended
         step_within = subst (λ (x : Debugging). IsWithinWorkOf 100 x.commands x.session.point began ended) e (subst (λ (xs : List Command). IsWithinWork v.state xs (v.steps + 1) began ended) next_here stepped.touches)
 
-        pub session_made : (now : List ℕ) → now ≡ []
-            → TriesStep d.commands d.session (debugging_of w rest.items commands (taken + n) now).session (Made w.steps ok.energy ok.halted)
+        pub session_made : (now : List ℕ) → now ≡ [] → TriesStep d.commands d.session
+            (debugging_of w rest.items commands (taken + n) now).session (Made w.steps ok.energy ok.halted)
         session_made now f = subst (λ (x : Debugging). TriesStep x.commands x.session (debugging_of w rest.items commands (taken + n) now).session (Made w.steps ok.energy ok.halted)) e (
           Goes w.state,
           subst (λ (xs : List Command). Next v.state xs (v.steps + 1) (Goes w.state)) next_here stepped.goes,

@@ -70,8 +70,9 @@ module _ (commands : List Command) (s : Session) (none : s.begun ≡ []) (keeps 
         (is_last_is commands (record s { begun = begun }) (bid ∷ []) perm differ refl)
         (begins begun bid t r h))
       where
-        by : (may last : Bool) → may ≡ true → last ≡ true
-            → MatchBool may (MatchBool last (TriesStep commands (record s { begun = begun }) t r) ((t ≡ record s { begun = begun ++ bid ∷ [] }) × (r ≡ Begun bid (s.point.steps + 1))))
+        by : (may last : Bool) → may ≡ true → last ≡ true → MatchBool may (MatchBool last
+            (TriesStep commands (record s { begun = begun }) t r)
+            ((t ≡ record s { begun = begun ++ bid ∷ [] }) × (r ≡ Begun bid (s.point.steps + 1))))
             ((t ≡ record s { begun = begun }) × (r ≡ NoLeader bid))
             → TriesStep commands (record s { begun = begun }) t r
         by true true e f x = x
@@ -86,8 +87,9 @@ module _ (commands : List Command) (s : Session) (none : s.begun ≡ []) (keeps 
         (is_not_last commands (record s { begun = begun }) (bid ∷ next ∷ more) perm differ (omega arith))
         (begins begun bid t r h)
       where
-        by : (may last : Bool) → may ≡ true → last ≡ false
-            → MatchBool may (MatchBool last (TriesStep commands (record s { begun = begun }) t r) ((t ≡ record s { begun = begun ++ bid ∷ [] }) × (r ≡ Begun bid (s.point.steps + 1))))
+        by : (may last : Bool) → may ≡ true → last ≡ false → MatchBool may (MatchBool last
+            (TriesStep commands (record s { begun = begun }) t r)
+            ((t ≡ record s { begun = begun ++ bid ∷ [] }) × (r ≡ Begun bid (s.point.steps + 1))))
             ((t ≡ record s { begun = begun }) × (r ≡ NoLeader bid)) → t ≡ record s { begun = begun ++ bid ∷ [] }
         by true false e f x = x.0
         by true true e f x = cc

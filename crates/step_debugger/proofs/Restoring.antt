@@ -41,8 +41,8 @@ begun_so : (commands : List Command) (bid : ℕ) (s t : Session) (r : DebugRepor
     → BeginsGroup commands bid s t r → WasMade s t
 begun_so commands bid s t r m h = by (may_begin commands s bid) (is_last commands s) h
   where
-    by : (may last : Bool)
-        → MatchBool may (MatchBool last (TriesStep commands s t r) ((t ≡ record s { begun = s.begun ++ bid ∷ [] }) × (r ≡ Begun bid (s.point.steps + 1))))
+    by : (may last : Bool) → MatchBool may (MatchBool last (TriesStep commands s t r)
+        ((t ≡ record s { begun = s.begun ++ bid ∷ [] }) × (r ≡ Begun bid (s.point.steps + 1))))
         ((t ≡ s) × (r ≡ NoLeader bid)) → WasMade s t
     by false last x = absurd (never r (NoLeader bid) x.1 m refl)
     by true true x = stepped commands s t r m x

@@ -84,8 +84,8 @@ module _ (v : Situation) (notes : Buffer Undo) (commands : List Command) (taken 
           ∙ ((λ i. points_of (point_is i) (take (length notes.items - 1) notes.items) ++ point_is i ∷ [])
           ∙ ap (λ (us : List Undo). points_of (point_of w (taken - n)) us ++ point_of w (taken - n) ∷ []) (sym (ap (λ (b : Buffer Undo). b.items) popped))))
 
-      goes_back : (b : List ℕ) → b ≡ []
-          → GoesBack b (debugging_of v notes.items commands taken b).session (debugging_of w rest.items commands (taken - n) b).session (is_returned (point_of w (taken - n)))
+      goes_back : (b : List ℕ) → b ≡ [] → GoesBack b (debugging_of v notes.items commands taken b).session
+          (debugging_of w rest.items commands (taken - n) b).session (is_returned (point_of w (taken - n)))
       goes_back (x ∷ b) f = cc
       goes_back [] f =
           takes_back (points_of (point_of v taken) notes.items) (points_of (point_of w (taken - n)) rest.items) (point_of w (taken - n)) _ _ _ past_is

@@ -22,7 +22,8 @@ situation_of p spent = record { state = p.state; steps = p.steps; spent = spent 
 
 -- the point before the step of a note: each of its bots took a command
 abbrev pub point_before : Moment → Undo → Moment
-point_before p undo = record { state = state_before p.state undo; steps = undo.steps; taken = p.taken - length undo.crew }
+point_before p undo =
+    record { state = state_before p.state undo; steps = undo.steps; taken = p.taken - length undo.crew }
 
 -- the point before the steps of all notes, of which the last is that of the last step
 abbrev pub earliest : Moment → List Undo → Moment

@@ -37,7 +37,8 @@ Begin commands p [] left bots = bots ≡ p.state.bots
 Begin commands p (bid ∷ begun) left bots = AreBegun commands p (bid ∷ begun) left bots
 
 -- the parts fit together, until memory is refused
-pub record Fit (p : Moment) (notes : List Undo) (commands : List Command) (begun left : List ℕ) (bots : List Bot) : Type 0 where
+pub record Fit (p : Moment) (notes : List Undo) (commands : List Command) (begun left : List ℕ) (bots : List Bot)
+    : Type 0 where
   pub well_formed : IsWellFormed p.state
   -- each step takes some commands
   pub counted : p.steps ≤ p.taken
@@ -48,7 +49,8 @@ pub record Fit (p : Moment) (notes : List Undo) (commands : List Command) (begun
   pub within : All (λ b. IsInSpace p.state.matrix.resolution b.pos) bots
 
 -- the parts of a debugger
-pub record IsKept (machine : Situation) (notes : Buffer Undo) (commands : List Command) (taken : ℕ) (begun left : List ℕ) (bots : List Bot) : Type 0 where
+pub record IsKept (machine : Situation) (notes : Buffer Undo) (commands : List Command) (taken : ℕ)
+    (begun left : List ℕ) (bots : List Bot) : Type 0 where
   pub few : length commands < 1073741824
   pub capacity : notes.capacity ≡ most_past
   pub fit : machine.spent ≡ false → Fit (point_of machine taken) notes.items commands begun left bots

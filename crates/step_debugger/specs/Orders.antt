@@ -6,4 +6,5 @@ use Rattle.step_debugger.specs.Session.{AnswersLine, Group, DebugReport, Session
 -- the lines that begin the groups of these leaders, one after another, lead from one session to another
 abbrev pub BeginEach : List Command → List ℕ → Session → Session → Type 0
 BeginEach commands [] s t = t ≡ s
-BeginEach commands (bid ∷ bids) s t = (u : Session) × (report : DebugReport) × AnswersLine commands (Group bid) s u report × BeginEach commands bids u t
+BeginEach commands (bid ∷ bids) s t =
+    (u : Session) × (report : DebugReport) × AnswersLine commands (Group bid) s u report × BeginEach commands bids u t

@@ -9,7 +9,8 @@ use Rattle.step_debugger.specs.Session.{Moment, next_commands}
 -- no bot is active, or the commands that are left break a rule
 abbrev pub IsUnready : List Command → Moment → DebugFault → Type 0
 IsUnready commands p fault.Ended = p.state.bots ≡ []
-IsUnready commands p (fault.Broken b) = (1 ≤ length p.state.bots) × (broken p.state (next_commands commands p) (p.steps + 1) ≡ Some b)
+IsUnready commands p (fault.Broken b) =
+    (1 ≤ length p.state.bots) × (broken p.state (next_commands commands p) (p.steps + 1) ≡ Some b)
 IsUnready commands p fault.NoHistory = ⊥
 IsUnready commands p (fault.NotLeader leader) = ⊥
 IsUnready commands p fault.Memory = ⊥

@@ -39,7 +39,8 @@ latest n xs = drop (length xs - n) xs
 
 -- the session at its start
 abbrev pub opened : Matrix → Profile → Session
-opened source profile = record { point = record { state = opening source profile; steps = 0; taken = 0 }; past = []; begun = [] }
+opened source profile =
+    record { point = record { state = opening source profile; steps = 0; taken = 0 }; past = []; begun = [] }
 
 -- the commands of the next step: one for each bot, as far as there are any
 abbrev pub next_commands : List Command → Moment → List Command
@@ -113,7 +114,8 @@ FollowsStep s t report (Breaks b) = (t ≡ refused b.rule s) × (report ≡ Refu
 -- the next step is tried
 abbrev pub TriesStep : List Command → Session → Session → DebugReport → Type 0
 TriesStep commands s t report =
-    (outcome : Outcome) × Next s.point.state (next_commands commands s.point) (s.point.steps + 1) outcome × FollowsStep s t report outcome
+    (outcome : Outcome) × Next s.point.state (next_commands commands s.point) (s.point.steps + 1) outcome
+    × FollowsStep s t report outcome
 
 -- where no bot is active the run has ended, and else P holds
 abbrev pub UnlessEnded : List Bot → Session → Session → DebugReport → Type 0 → Type 0
@@ -122,7 +124,8 @@ UnlessEnded (bot ∷ bots) s t report P = P
 
 -- whether a bid is that of a leader of the next step whose group is not begun
 abbrev pub may_begin : List Command → Session → ℕ → Bool
-may_begin commands s bid = list_any (λ k. k == bid) (next_leaders commands s.point) && not (list_any (λ k. k == bid) s.begun)
+may_begin commands s bid =
+    list_any (λ k. k == bid) (next_leaders commands s.point) && not (list_any (λ k. k == bid) s.begun)
 
 -- whether all groups of the next step but one are begun
 abbrev pub is_last : List Command → Session → Bool
@@ -140,8 +143,8 @@ BeginsGroup commands bid s t report =
 -- a group is begun unless the next commands break a rule that is judged at a step's start
 abbrev pub TriesGroup : List Command → ℕ → Session → Session → DebugReport → Type 0
 TriesGroup commands bid s t report =
-    MatchOption (broken s.point.state (next_commands commands s.point) (s.point.steps + 1)) (BeginsGroup commands bid s t report)
-    (λ b. (t ≡ s) × (report ≡ Refused b))
+    MatchOption (broken s.point.state (next_commands commands s.point) (s.point.steps + 1))
+    (BeginsGroup commands bid s t report) (λ b. (t ≡ s) × (report ≡ Refused b))
 
 -- the point stands again
 abbrev pub is_returned : Moment → DebugReport
@@ -168,8 +171,11 @@ GoesBack (bid ∷ begun) s t report = (t ≡ dropped s) × (report ≡ is_return
 -- what a line changes, and what is printed
 abbrev pub AnswersLine : List Command → DebugLine → Session → Session → DebugReport → Type 0
 AnswersLine commands Step s t report = UnlessEnded s.point.state.bots s t report (TriesStep commands s t report)
-AnswersLine commands (Group bid) s t report = UnlessEnded s.point.state.bots s t report (TriesGroup commands bid s t report)
+AnswersLine commands (Group bid) s t report =
+    UnlessEnded s.point.state.bots s t report (TriesGroup commands bid s t report)
 AnswersLine commands Back s t report = GoesBack s.begun s t report
-AnswersLine commands Bots s t report = (t ≡ s) × ((m : State) × (middle_state commands s ≡ Some m) × (report ≡ Crew m.bots))
+AnswersLine commands Bots s t report =
+    (t ≡ s) × ((m : State) × (middle_state commands s ≡ Some m) × (report ≡ Crew m.bots))
 AnswersLine commands (Voxel c) s t report =
-    (t ≡ s) × ((level : Option ℕ) × Level s.point.state.matrix c level × (report ≡ cond (is_full s.point.state.matrix c) (IsFull c level) (IsVoid c)))
+    (t ≡ s) × ((level : Option ℕ) × Level s.point.state.matrix c level
+    × (report ≡ cond (is_full s.point.state.matrix c) (IsFull c level) (IsVoid c)))

@@ -12,12 +12,14 @@ use Rattle.step_debugger.specs.Session.{Moment, next_commands}
 
 -- the touches from began to ended are at most so many for each unit of the work of the next step
 abbrev pub IsWithinWorkOf : ℕ → List Command → Moment → ℕ → ℕ → Type 0
-IsWithinWorkOf most commands p began ended = (n : ℕ) × WorkOfStep p.state (next_commands commands p) (p.steps + 1) n × (ended ≤ began + most * n)
+IsWithinWorkOf most commands p began ended =
+    (n : ℕ) × WorkOfStep p.state (next_commands commands p) (p.steps + 1) n × (ended ≤ began + most * n)
 
 -- they are so where the step is refused too, but for 92 at each voxel where it breaks the rule of grounding: those of a search, and of a machine
 -- that is made anew
 abbrev pub IsRefusedWithin : ℕ → List Command → Moment → Broken → ℕ → ℕ → Type 0
-IsRefusedWithin most commands p b began ended = IsWithinWorkOf most commands p (began + 92 * searched_for b.rule p.state.matrix) ended
+IsRefusedWithin most commands p b began ended =
+    IsWithinWorkOf most commands p (began + 92 * searched_for b.rule p.state.matrix) ended
 
 -- where the next step is refused, P holds of the rule that it breaks
 abbrev pub IfRefused : {T : Type 0} → Result T DebugFault → (Broken → Type 0) → Type 0
@@ -31,4 +33,6 @@ common old new = matrix_where old.resolution (λ c. is_full old c && is_full new
 -- at most a hundred touches for each voxel that changes, for each voxel whose level changes by what becomes void, and for each whose
 -- level changes then by what becomes full
 abbrev pub IsTouchedBack : Matrix → Matrix → ℕ → ℕ → Type 0
-IsTouchedBack old new began ended = (levels : LevelsThrough old (common old new) new) × (ended ≤ began + 100 * (changed_count old new + levels_moved levels))
+IsTouchedBack old new began ended =
+    (levels : LevelsThrough old (common old new) new)
+    × (ended ≤ began + 100 * (changed_count old new + levels_moved levels))

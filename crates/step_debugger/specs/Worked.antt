@@ -16,7 +16,8 @@ abbrev pub Answered : List Command → Session → List DebugLine → List Debug
 Answered commands s [] [] = Unit {0}
 Answered commands s [] (report ∷ reports) = ⊥
 Answered commands s (line ∷ lines) [] = ⊥
-Answered commands s (line ∷ lines) (report ∷ reports) = (t : Session) × AnswersLine commands line s t report × Answered commands t lines reports
+Answered commands s (line ∷ lines) (report ∷ reports) =
+    (t : Session) × AnswersLine commands line s t report × Answered commands t lines reports
 
 -- from the empty model of resolution 1, where the only bot waits and then halts: each step costs 23
 abbrev pub waits : List Command
@@ -28,19 +29,22 @@ floating = Fission (diff (pos 0) (pos 0) (pos 1)) 0 ∷ Fill (diff (pos 0) (pos 
 
 -- a session in which so many steps of one Wait were made
 abbrev pub with_past : ℕ → Session
-with_past n = record { point = record { state = with_one Low (pos 0); steps = n; taken = n }; past = replicate n (record { state = with_one Low (pos 0); steps = 0; taken = 0 }); begun = [] }
+with_past n =
+    record { point = record { state = with_one Low (pos 0); steps = n; taken = n };
+    past = replicate n (record { state = with_one Low (pos 0); steps = 0; taken = 0 }); begun = [] }
 
 -- sessions
 pub record WorkedSessions : Type 0 where
   -- six steps are made and taken back, and there is no earlier point
   pub six_steps_are_taken_back : Answered waits (opened (empty 1) full_profile)
       (Step ∷ Step ∷ Step ∷ Step ∷ Step ∷ Step ∷ Back ∷ Back ∷ Back ∷ Back ∷ Back ∷ Back ∷ Back ∷ [])
-      (Made 1 (pos 23) false ∷ Made 2 (pos 46) false ∷ Made 3 (pos 69) false ∷ Made 4 (pos 92) false ∷ Made 5 (pos 115) false ∷ Made 6 (pos 138) false
-      ∷ Returned 5 (pos 115) ∷ Returned 4 (pos 92) ∷ Returned 3 (pos 69) ∷ Returned 2 (pos 46) ∷ Returned 1 (pos 23) ∷ Returned 0 (pos 0) ∷ NoHistory ∷ [])
+      (Made 1 (pos 23) false ∷ Made 2 (pos 46) false ∷ Made 3 (pos 69) false ∷ Made 4 (pos 92) false
+      ∷ Made 5 (pos 115) false ∷ Made 6 (pos 138) false ∷ Returned 5 (pos 115) ∷ Returned 4 (pos 92)
+      ∷ Returned 3 (pos 69) ∷ Returned 2 (pos 46) ∷ Returned 1 (pos 23) ∷ Returned 0 (pos 0) ∷ NoHistory ∷ [])
   -- the last group makes the step, a voxel floats, and then no group is begun: the first can begin again
   pub groups_begin_again_after_a_floating_voxel : Answered floating (opened (empty 2) full_profile)
-      (Step ∷ Group 1 ∷ Group 1 ∷ Group 2 ∷ Group 1 ∷ [])
-      (Made 1 (pos 68) false ∷ Begun 1 2 ∷ NoLeader 1 ∷ Refused (record { step = 2; bid = 0; rule = Ungrounded; at = coord 0 1 1 }) ∷ Begun 1 2 ∷ [])
+      (Step ∷ Group 1 ∷ Group 1 ∷ Group 2 ∷ Group 1 ∷ []) (Made 1 (pos 68) false ∷ Begun 1 2 ∷ NoLeader 1
+      ∷ Refused (record { step = 2; bid = 0; rule = Ungrounded; at = coord 0 1 1 }) ∷ Begun 1 2 ∷ [])
   -- what is begun is dropped by the way back, and the bots of the point between groups are told
   pub what_is_begun_is_dropped : Answered floating (opened (empty 2) full_profile)
       (Step ∷ Group 2 ∷ Back ∷ Group 2 ∷ Group 3 ∷ [])
@@ -50,7 +54,9 @@ pub record WorkedSessions : Type 0 where
       (Made 1 (pos 23) true ∷ Ended ∷ Ended ∷ Returned 0 (pos 0) ∷ [])
   -- the trace ends, and the session stays
   pub an_ended_trace : Answered [] (opened (empty 1) full_profile) (Step ∷ Group 1 ∷ Bots ∷ [])
-      (Refused (record { step = 1; bid = 1; rule = TraceEnds; at = coord 0 0 0 }) ∷ Refused (record { step = 1; bid = 1; rule = TraceEnds; at = coord 0 0 0 })
+      (Refused (record { step = 1; bid = 1; rule = TraceEnds; at = coord 0 0 0 })
+      ∷ Refused (record { step = 1; bid = 1; rule = TraceEnds; at = coord 0 0 0 })
       ∷ Crew (opened (empty 1) full_profile).point.state.bots ∷ [])
   -- 4,096 points are kept
-  pub a_full_past : (length (made (with_past 4095) (with_one Low (pos 0))).past ≡ 4096) × (length (made (with_past 4096) (with_one Low (pos 0))).past ≡ 4096)
+  pub a_full_past : (length (made (with_past 4095) (with_one Low (pos 0))).past ≡ 4096)
+      × (length (made (with_past 4096) (with_one Low (pos 0))).past ≡ 4096)

@@ -91,7 +91,9 @@ pub no_block : (step bid : ℕ) (m : Matrix)
 no_block step bid m = ap (broken_by step Blocked bid) (no_way m (all_of m))
 
 pub halt : (s : State) (all : List Act) (step : ℕ) (bot : Bot) → first_fault s all step (act bot Halt) later_rules
-    ≡ first_value (broken_by step HaltAlone bot.bid (here (act bot Halt) (nat_lt 1 (length s.bots))) ∷ broken_by step HaltOrigin bot.bid (here (act bot Halt) (not (same_point (point bot.pos) (point origin)))) ∷ broken_by step HaltLow bot.bid (here (act bot Halt) (is_high s.harmonics)) ∷ [])
+    ≡ first_value (broken_by step HaltAlone bot.bid (here (act bot Halt) (nat_lt 1 (length s.bots)))
+    ∷ broken_by step HaltOrigin bot.bid (here (act bot Halt) (not (same_point (point bot.pos) (point origin))))
+    ∷ broken_by step HaltLow bot.bid (here (act bot Halt) (is_high s.harmonics)) ∷ [])
 halt s all step bot =
     let halt_alone : Option Broken = broken_by step HaltAlone bot.bid (here (act bot Halt) (nat_lt 1 (length s.bots))) in
     let halt_origin : Option Broken = broken_by step HaltOrigin bot.bid (here (act bot Halt) (not (same_point (point bot.pos) (point origin)))) in
@@ -110,8 +112,8 @@ pub quiet : (s : State) (all : List Act) (step : ℕ) (bot : Bot)
 quiet s all step bot = unblocked step bot.bid s.matrix (all_of s.matrix) (None ∷ None ∷ None ∷ None ∷ [])
 
 pub near : (s : State) (all : List Act) (step : ℕ) (bot : Bot) (d : Diff)
-    → first_fault s all step (act bot (Fill d)) later_rules
-    ≡ broken_by step OutOfSpace bot.bid (here (act bot (Fill d)) (not (in_space s.matrix.resolution (plus (point bot.pos) d) && true)))
+    → first_fault s all step (act bot (Fill d)) later_rules ≡ broken_by step OutOfSpace bot.bid
+    (here (act bot (Fill d)) (not (in_space s.matrix.resolution (plus (point bot.pos) d) && true)))
 near s all step bot d =
     let out_of_space : Option Broken = broken_by step OutOfSpace bot.bid (here (act bot (Fill d)) (not (in_space s.matrix.resolution (plus (point bot.pos) d) && true))) in
     mute (out_of_space ∷ []) (None ∷ None ∷ None ∷ None ∷ []) _ (no_block step bot.bid s.matrix) ∙ lone out_of_space
@@ -176,8 +178,8 @@ pub fission : (s : State) (all : List Act) (step : ℕ) (bot : Bot) (d : Diff) (
     → point to ≡ plus (point bot.pos) d
     → ((p : Point) → is_within (span k) p ≡ is_within (between (point to) (point to)) p)
     → x ≡ find (λ c. is_full s.matrix c && is_within (span k) (point c)) (all_of s.matrix)
-    → first_fault s all step (act bot (Fission d n)) later_rules
-    ≡ first_value (broken_by step Blocked bot.bid x ∷ broken_by step Seeds bot.bid (here (act bot (Fission d n)) (nat_le (length (seed_list bot.seeds)) n)) ∷ [])
+    → first_fault s all step (act bot (Fission d n)) later_rules ≡ first_value (broken_by step Blocked bot.bid x
+    ∷ broken_by step Seeds bot.bid (here (act bot (Fission d n)) (nat_le (length (seed_list bot.seeds)) n)) ∷ [])
 fission s all step bot d n k to x i e covers f =
     let way : Span = just (plus (point bot.pos) d) in
     let cover : (p : Point) → is_within (span k) p ≡ is_within way p = λ p. covers p ∙ ap (λ q. is_within (just q) p) e in
@@ -217,8 +219,9 @@ only_next step bid rule x y e = ap (λ o. first_value (broken_by step rule bid o
 
 -- what is left of the rules of a fusion in space
 past_space : (s : State) (step : ℕ) (bot : Bot) (a : Act) (inside : Bool) (p : Option Broken) → IsTrue inside
-    → first_value (broken_by step OutOfSpace bot.bid (here a (not inside)) ∷ broken_by step Blocked bot.bid (find (λ c. is_full s.matrix c && false) (all_of s.matrix)) ∷ None ∷ None ∷ p ∷ None ∷ [])
-    ≡ p
+    → first_value (broken_by step OutOfSpace bot.bid (here a (not inside))
+    ∷ broken_by step Blocked bot.bid (find (λ c. is_full s.matrix c && false) (all_of s.matrix)) ∷ None ∷ None ∷ p
+    ∷ None ∷ []) ≡ p
 past_space s step bot a inside p i =
     skip step bot.bid OutOfSpace a (not inside) (broken_by step Blocked bot.bid (find (λ c. is_full s.matrix c && false) (all_of s.matrix)) ∷ None ∷ None ∷ p ∷ None ∷ []) (ap not i)
     ∙ (unblocked step bot.bid s.matrix (all_of s.matrix) (None ∷ None ∷ p ∷ None ∷ []) ∙ last p)

@@ -37,8 +37,12 @@ last_two (Some b) y = refl
 last_two None y = refl
 
 group_rest : (s : State) (step : ℕ) (bot : Bot) (a : Act) (inside x y t u : Bool) → IsTrue inside → x ≡ t → y ≡ u
-    → first_value (broken_by step OutOfSpace bot.bid (here a (not inside)) ∷ broken_by step Blocked bot.bid (find (λ c. is_full s.matrix c && false) (all_of s.matrix)) ∷ None ∷ broken_by step InRegion bot.bid (cond (x || false) (Some bot.pos) None) ∷ None ∷ broken_by step GroupShape bot.bid (cond (y || false) (Some bot.pos) None) ∷ [])
-    ≡ first_value (broken_by step InRegion bot.bid (cond t (Some bot.pos) None) ∷ broken_by step GroupShape bot.bid (cond u (Some bot.pos) None) ∷ [])
+    → first_value (broken_by step OutOfSpace bot.bid (here a (not inside))
+    ∷ broken_by step Blocked bot.bid (find (λ c. is_full s.matrix c && false) (all_of s.matrix)) ∷ None
+    ∷ broken_by step InRegion bot.bid (cond (x || false) (Some bot.pos) None) ∷ None
+    ∷ broken_by step GroupShape bot.bid (cond (y || false) (Some bot.pos) None) ∷ []) ≡ first_value
+    (broken_by step InRegion bot.bid (cond t (Some bot.pos) None)
+    ∷ broken_by step GroupShape bot.bid (cond u (Some bot.pos) None) ∷ [])
 group_rest s step bot a inside x y t u i g h =
     let blocked : Option Broken = broken_by step Blocked bot.bid (find (λ c. is_full s.matrix c && false) (all_of s.matrix)) in
     let in_region : Option Broken = broken_by step InRegion bot.bid (cond (x || false) (Some bot.pos) None) in
@@ -80,8 +84,9 @@ module _ (s : State) (all : List Act) (step : ℕ) (bot : Bot) (near far : Coord
   left : (k : Command) (full together : Bool) → IsFalse (is_alone k)
       → IsDeed s.matrix.resolution bot k (Edits near far full together) → (t u : Bool)
       → is_within (span region) (point bot.pos) ≡ t → misshape all (act bot k) (span region) ≡ u
-      → first_fault s all step (act bot k) later_rules
-      ≡ first_value (broken_by step InRegion bot.bid (cond t (Some bot.pos) None) ∷ broken_by step GroupShape bot.bid (cond u (Some bot.pos) None) ∷ [])
+      → first_fault s all step (act bot k) later_rules ≡ first_value
+      (broken_by step InRegion bot.bid (cond t (Some bot.pos) None)
+      ∷ broken_by step GroupShape bot.bid (cond u (Some bot.pos) None) ∷ [])
   left (GFill d f) full together alone h t u g e =
       let near_is = ap near_of h.is in
       let far_is = ap far_of h.is in

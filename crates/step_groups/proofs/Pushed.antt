@@ -78,9 +78,8 @@ module _ (r : ℕ) (bots : List Bot) (commands : List Command) (i : ℕ) (b : Bo
       abbrev mates : List Act
       mates = filter (are_together a) ys
 
-      pub few_here : All (λ a. length (members (acts bots commands) a) ≤ 8) (acts bots commands)
-          → length (with_number n (take (length bots - (i + 1)) (drop (i + 1) bots)) (take (length ns - (i + 1)) (drop (i + 1) ns)))
-          ≤ 7
+      pub few_here : All (λ a. length (members (acts bots commands) a) ≤ 8) (acts bots commands) → length (with_number n
+          (take (length bots - (i + 1)) (drop (i + 1) bots)) (take (length ns - (i + 1)) (drop (i + 1) ns))) ≤ 7
       few_here h =
           let few : length mates ≤ 7 = few_after r all xs ys a whole up leads (all_in (λ (x : Act). length (members all x) ≤ 8) a all h here) in
           let same = ap length tell ∙ length-map mates (λ (x : Act). x.bot) in

@@ -8,7 +8,8 @@ use Rattle.nano_spec.specs.Volatile.{is_volatile_of}
 
 -- no coordinate is volatile for the bot and for one of the others
 abbrev pub IsApartFrom : Act → List Act → Type 0
-IsApartFrom a others = (c : Coord) → IsTrue (is_volatile_of (point c) a) → IsTrue (list_any (is_volatile_of (point c)) others) → ⊥
+IsApartFrom a others =
+    (c : Coord) → IsTrue (is_volatile_of (point c) a) → IsTrue (list_any (is_volatile_of (point c)) others) → ⊥
 
 -- no coordinate is volatile for two of the bots
 abbrev pub AreAllApart : List Act → Type 0

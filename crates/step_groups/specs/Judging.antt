@@ -51,11 +51,13 @@ later_rules = HaltAlone ∷ HaltOrigin ∷ HaltLow ∷ OutOfSpace ∷ Blocked �
 
 -- the first rule after the one on the profile that a bot breaks, whatever the state is beside the matrix and whoever else acts
 abbrev pub IsLaterFault : Matrix → ℕ → Act → Option Broken → Type 0
-IsLaterFault m step a fault = (s : State) (all : List Act) → fault ≡ first_fault (record s { matrix = m }) all step a later_rules
+IsLaterFault m step a fault =
+    (s : State) (all : List Act) → fault ≡ first_fault (record s { matrix = m }) all step a later_rules
 
 -- a state at the start of a step, as far as the rules read it: they do not ask for the energy
 abbrev pub start_of : Matrix → Harmonics → Profile → List Bot → State
-start_of m harmonics profile bots = record { matrix = m; harmonics = harmonics; bots = bots; energy = pos 0; profile = profile }
+start_of m harmonics profile bots =
+    record { matrix = m; harmonics = harmonics; bots = bots; energy = pos 0; profile = profile }
 
 -- the first rule that one of these bots breaks
 abbrev pub judge_each : State → List Act → ℕ → List Act → Option Broken
@@ -94,4 +96,6 @@ is_rare _ = true
 
 -- how many touches the judgement of a bot may take: only commands that need no other bot read voxels
 abbrev pub touches_of : Matrix → Act → ℕ
-touches_of m a = cond (is_alone a.command && stays_in_space m.resolution a) (2 * count_by (λ c. is_volatile_of (point c) a) (all_of m)) 0
+touches_of m a =
+    cond (is_alone a.command && stays_in_space m.resolution a)
+    (2 * count_by (λ c. is_volatile_of (point c) a) (all_of m)) 0

@@ -16,7 +16,8 @@ AreNumbers all numbers = numbers ≡ map (group_number all) all
 abbrev pub with_number : {A : Type 0} → ℕ → List A → List ℕ → List A
 with_number number [] numbers = []
 with_number number (x ∷ xs) [] = []
-with_number number (x ∷ xs) (n ∷ numbers) = cond (n == number) (x ∷ with_number number xs numbers) (with_number number xs numbers)
+with_number number (x ∷ xs) (n ∷ numbers) =
+    cond (n == number) (x ∷ with_number number xs numbers) (with_number number xs numbers)
 
 -- those that have the number are the members of the act's group
 abbrev pub TellsMembers : List Act → List ℕ → ℕ → Act → Type 0

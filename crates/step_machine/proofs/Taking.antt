@@ -230,9 +230,8 @@ module _ (s : State) (commands : List Command) (step : ℕ) (ready : IsReady s) 
         by true e = stays (is_filled (acts s.bots commands) d) (is_voided (acts s.bots commands) d) (not_voided e)
         by false e = ap (λ f. f || false) (not_filled e)
 
-    voxel_back : (d : Coord) → IsInSpace s.matrix.resolution d
-        → cond (is_cell undo.voided.items d) true (is_full (without_filled (after s commands).matrix undo.filled.items) d)
-        ≡ is_full s.matrix d
+    voxel_back : (d : Coord) → IsInSpace s.matrix.resolution d → cond (is_cell undo.voided.items d) true
+        (is_full (without_filled (after s commands).matrix undo.filled.items) d) ≡ is_full s.matrix d
     voxel_back d w = by (is_cell undo.voided.items d) (is_cell undo.filled.items d) refl refl
       where
         by : (v f : Bool) → is_cell undo.voided.items d ≡ v → is_cell undo.filled.items d ≡ f

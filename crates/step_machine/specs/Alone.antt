@@ -19,7 +19,8 @@ pub record IsSolo (m : Situation) : Type 0 where
 
 -- a try to make a step by the command: it is made, or it is refused for the fault, or it is declined, and then nothing is changed and no
 -- voxel was touched
-pub record IsTried (old new : Situation) (command : Command) (answer : Tried) (fault : StepFault) (began ended : ℕ) : Type 0 where
+pub record IsTried (old new : Situation) (command : Command) (answer : Tried) (fault : StepFault) (began ended : ℕ)
+    : Type 0 where
   pub made : answer ≡ Made → Stepped old new (command ∷ []) (answer_of true new.state fault) began ended
   pub refused : answer ≡ Refused → Stepped old new (command ∷ []) (Err fault) began ended
   -- memory may be refused only where the command fills or voids

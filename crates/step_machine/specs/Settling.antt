@@ -32,11 +32,13 @@ use Rattle.step_machine.specs.declared.machine.StepFault.TheVariants as fault
 -- each touch is paid for by a hundredth of the step's work, in which each volatile coordinate still leaves 4
 abbrev pub IsPaidBy : State → List Command → ℕ → ℕ → Type 0
 IsPaidBy s commands began ended =
-    (n : ℕ) → WorkOfActs s.matrix (acts s.bots commands) n → ended + 4 * volatile_total s.matrix (acts s.bots commands) ≤ began + 100 * n
+    (n : ℕ) → WorkOfActs s.matrix (acts s.bots commands) n
+    → ended + 4 * volatile_total s.matrix (acts s.bots commands) ≤ began + 100 * n
 
 -- what the groups of a step change may be listed and made: the turns are those of the leaders, the list has room for all that a step
 -- changes, and the forest is one of the state's matrix
-pub record IsPrepared (s : State) (all : List Command) (taken : List Turn) (list : Changes) (forest : Standing) : Type 0 where
+pub record IsPrepared (s : State) (all : List Command) (taken : List Turn) (list : Changes) (forest : Standing)
+    : Type 0 where
   pub commands : AreCommands all
   pub turns : AreTurns (acts s.bots all) (leaders (acts s.bots all)) taken
   pub room : MOST_CHANGED ≤ list.spare + length list.items
@@ -55,13 +57,15 @@ pub record CanRefit (s : State) (commands : List Command) (forest : Standing) : 
   pub tied : forest.matrix ≡ s.matrix
 
 -- the step breaks no rule at its start, and what its groups change may be listed and made
-pub record CanBeSettled (s : State) (commands : List Command) (step : ℕ) (taken : List Turn) (list : Changes) (forest : Standing) : Type 0 where
+pub record CanBeSettled (s : State) (commands : List Command) (step : ℕ) (taken : List Turn) (list : Changes)
+    (forest : Standing) : Type 0 where
   pub judged : broken s commands step ≡ None
   pub few : length commands ≤ length s.bots
   pub prepared : IsPrepared s commands taken list forest
 
 -- the step is one of the only bot, which fills the voxel at the coordinate, or else voids it, and the forest is one of the state's matrix
-pub record CanEditOne (s : State) (commands : List Command) (d : Diff) (at : Coord) (full : Bool) (forest : Standing) : Type 0 where
+pub record CanEditOne (s : State) (commands : List Command) (d : Diff) (at : Coord) (full : Bool) (forest : Standing)
+    : Type 0 where
   pub one : length s.bots ≡ 1
   pub command : commands ≡ edit_of full d ∷ []
   pub named : (b : Bot) → s.bots ≡ b ∷ [] → point at ≡ plus (point b.pos) d
@@ -91,7 +95,8 @@ pub record IsRefitted (s : State) (commands : List Command) (forest : Standing) 
   pub touches : IsPaidBy s commands began ended
 
 -- the step goes to its state, and the forest is that of this state
-pub record IsSettled (s : State) (commands : List Command) (step : ℕ) (forest : Standing) (began ended : ℕ) : Type 0 where
+pub record IsSettled (s : State) (commands : List Command) (step : ℕ) (forest : Standing) (began ended : ℕ)
+    : Type 0 where
   pub goes : Next s commands step (Goes (after s commands))
   pub tied : forest.matrix ≡ (after s commands).matrix
   pub stands : forest.spent ≡ false

@@ -24,7 +24,8 @@ abbrev pub IsEnergyBounded : ℤ → ℕ → Type 0
 IsEnergyBounded energy steps = IsWithin (3000000000 * steps) energy
 
 -- the parts of a machine belong together
-pub record IsConsistent (system : State) (forest : Standing) (changed : Changes) (steps : ℕ) (spent : Bool) : Type 0 where
+pub record IsConsistent (system : State) (forest : Standing) (changed : Changes) (steps : ℕ) (spent : Bool)
+    : Type 0 where
   -- until the machine is spent, its forest is one of its matrix
   pub stands : spent ≡ false → forest.spent ≡ false
   pub tied : spent ≡ false → forest.matrix ≡ system.matrix

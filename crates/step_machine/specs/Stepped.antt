@@ -21,7 +21,8 @@ answer_of false s fault = Err fault
 
 -- a machine is given the commands of a step: where it stood, where it stands then, its answer, and how often voxels were touched until
 -- the call began and until it ended
-pub record Stepped (old new : Situation) (commands : List Command) (answer : Result StepOk StepFault) (began ended : ℕ) : Type 0 where
+pub record Stepped (old new : Situation) (commands : List Command) (answer : Result StepOk StepFault) (began ended : ℕ)
+    : Type 0 where
   -- a step that is accepted leads to the definition's state and is counted
   pub goes : IfOk answer (λ _. Next old.state commands (old.steps + 1) (Goes new.state))
   pub counted : IfOk answer (λ _. new.steps ≡ old.steps + 1)
@@ -42,4 +43,5 @@ pub record Stepped (old new : Situation) (commands : List Command) (answer : Res
   pub stays_spent : old.spent ≡ true → new.spent ≡ true
   -- at most a hundred touches for each unit of the step's work, and each voxel once more where it breaks the rule of grounding
   pub touches : IfOk answer (λ _. IsWithinWork old.state commands (old.steps + 1) began ended)
-  pub touches_broken : IfBroken answer (λ b. IsWithinWork old.state commands (old.steps + 1) (began + searched_for b.rule old.state.matrix) ended)
+  pub touches_broken : IfBroken answer
+      (λ b. IsWithinWork old.state commands (old.steps + 1) (began + searched_for b.rule old.state.matrix) ended)

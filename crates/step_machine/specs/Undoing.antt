@@ -18,7 +18,8 @@ use Rattle.step_machine.specs.Situation.{IsEnergyBounded}
 
 -- the state of these parts
 abbrev pub state_with : Matrix → List Bot → Harmonics → ℤ → Profile → State
-state_with matrix bots harmonics energy profile = record { matrix = matrix; harmonics = harmonics; bots = bots; energy = energy; profile = profile }
+state_with matrix bots harmonics energy profile =
+    record { matrix = matrix; harmonics = harmonics; bots = bots; energy = energy; profile = profile }
 
 -- a machine can stand in the state, after so many steps
 pub record IsMachineState (s : State) (steps : ℕ) : Type 0 where
@@ -38,7 +39,9 @@ matrix_before m filled voided = with_cells (without_filled m filled) voided true
 
 -- the state that the note tells, from the state after its step on
 abbrev pub state_before : State → Undo → State
-state_before s undo = state_with (matrix_before s.matrix undo.filled.items undo.voided.items) undo.crew undo.harmonics undo.energy s.profile
+state_before s undo =
+    state_with (matrix_before s.matrix undo.filled.items undo.voided.items) undo.crew undo.harmonics undo.energy
+    s.profile
 
 -- the voxels of the note have changed as it says: they are in space and all differ, those that became full are full, and those that
 -- became void are void

@@ -110,8 +110,7 @@ module _ (s : State) (commands : List Command) (step : ℕ) (ready : IsReady s) 
       rest j (inl i) = no_faults j i
       rest j (inr i) = no_pairs s.matrix (acts s.bots commands) (apart_is s (acts s.bots commands) ready (all_bots s.bots commands lengths)) agree step (leaders (acts s.bots commands)) (differ_filter (λ (a : Act). a.bot.bid) (is_leader (acts s.bots commands)) (acts s.bots commands) (differ_acts (acts s.bots commands) (up s (acts s.bots commands) ready (all_bots s.bots commands lengths)))) (λ a k. k) j i
 
-      each : (j : Option Broken)
-          → In j (judge_trace s commands step ∷ (judge_bots s (acts s.bots commands) step ++ judge_pairs s.matrix (acts s.bots commands) step (leaders (acts s.bots commands))))
-          → j ≡ None
+      each : (j : Option Broken) → In j (judge_trace s commands step ∷ (judge_bots s (acts s.bots commands) step
+          ++ judge_pairs s.matrix (acts s.bots commands) step (leaders (acts s.bots commands)))) → j ≡ None
       each j (inl e) = e ∙ ap (option_map (λ (bot : Bot). _)) (nobody_left s.bots commands lengths)
       each j (inr i) = rest j (in_either j (judge_bots s (acts s.bots commands) step) (judge_pairs s.matrix (acts s.bots commands) step (leaders (acts s.bots commands))) i)

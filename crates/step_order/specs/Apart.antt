@@ -24,7 +24,9 @@ pub data LieApart (s t : Span) : Type 0 where
 
 -- each region that is volatile for the one bot lies apart from each that is so for the other
 abbrev pub AreApart : Act → Act → Type 0
-AreApart a b = AllByRecursion (λ s. AllByRecursion (λ t. LieApart s t) (volatile_regions (position b) b.command)) (volatile_regions (position a) a.command)
+AreApart a b =
+    AllByRecursion (λ s. AllByRecursion (λ t. LieApart s t) (volatile_regions (position b) b.command))
+    (volatile_regions (position a) a.command)
 
 -- the two bots fuse, or are apart
 abbrev pub MayMeet : Act → Act → Type 0

@@ -44,10 +44,13 @@ MayAct s all a Halt = MayHalt s a
 MayAct s all a Wait = Unit {0}
 MayAct s all a Flip = Unit {0}
 MayAct s all a (SMove d) = IsFreeWay s.matrix (position a) (plus (position a) d)
-MayAct s all a (LMove d e) = IsFreeWay s.matrix (position a) (plus (position a) d) × IsFreeWay s.matrix (plus (position a) d) (plus (plus (position a) d) e)
+MayAct s all a (LMove d e) =
+    IsFreeWay s.matrix (position a) (plus (position a) d)
+    × IsFreeWay s.matrix (plus (position a) d) (plus (plus (position a) d) e)
 MayAct s all a (FusionP d) = HasPartner s.matrix.resolution all a (plus (position a) d)
 MayAct s all a (FusionS d) = HasPartner s.matrix.resolution all a (plus (position a) d)
-MayAct s all a (Fission d m) = IsFreeWay s.matrix (plus (position a) d) (plus (position a) d) × m < length (seed_list a.bot.seeds)
+MayAct s all a (Fission d m) =
+    IsFreeWay s.matrix (plus (position a) d) (plus (position a) d) × m < length (seed_list a.bot.seeds)
 MayAct s all a (Fill d) = IsTrue (in_space s.matrix.resolution (plus (position a) d))
 MayAct s all a (Void d) = IsTrue (in_space s.matrix.resolution (plus (position a) d))
 MayAct s all a (GFill d f) = ⊥

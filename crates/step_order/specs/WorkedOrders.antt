@@ -25,7 +25,9 @@ abbrev pub second_bot : Bot
 second_bot = record { bid = 2; pos = coord 0 0 2; seeds = 0 }
 
 abbrev pub two_bots : State
-two_bots = record { matrix = empty 3; harmonics = Low; bots = worked_bot ∷ second_bot ∷ []; energy = pos 0; profile = full_profile }
+two_bots =
+    record
+    { matrix = empty 3; harmonics = Low; bots = worked_bot ∷ second_bot ∷ []; energy = pos 0; profile = full_profile }
 
 -- the first fills (0,0,1), and the second goes there: the groups interfere.
 -- In the order of their bids the second meets a blocked way, and in the other it does not

@@ -125,7 +125,8 @@ pub record HavePlaced (old new : Grid) (c : Coord) (before after : ℕ) : Type 0
 
 -- the voxel became full, or all stays
 abbrev pub PlacesOrStays : Bool → Grid → Grid → Coord → ℕ → ℕ → Type 0
-PlacesOrStays done old new c before after = MatchBool done (HavePlaced old new c before after) ((new ≡ old) × (after ≤ before + 6))
+PlacesOrStays done old new c before after =
+    MatchBool done (HavePlaced old new c before after) ((new ≡ old) × (after ≤ before + 6))
 
 -- the same where a voxel that became full has a height
 pub record StandsOrStays (done : Bool) (old new : Grid) (c : Coord) (before after : ℕ) : Type 0 where

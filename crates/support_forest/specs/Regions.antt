@@ -30,7 +30,8 @@ pub record AreVoided (old new : Grid) (area : Coord → Type 0) (n : ℕ) (rest 
   pub each : (c : Coord) → (word_at new c ≡ word_at old c) ⊎ ((word_at new c ≡ 0) × area c)
   pub done : (c : Coord) → area c → (word_at new c ≡ 0) ⊎ Contains more c
   pub kept : (c : Coord) → Contains rest c → Contains more c
-  pub listed : (c : Coord) → Contains more c → Contains rest c ⊎ (area c × (0 < word_at old c) × (word_at new c ≡ word_at old c))
+  pub listed : (c : Coord) → Contains more c
+      → Contains rest c ⊎ (area c × (0 < word_at old c) × (word_at new c ≡ word_at old c))
   pub differ : AllPairs ◌≢◌ rest → ((c : Coord) → Contains rest c → area c → ⊥) → AllPairs ◌≢◌ more
   pub few : length more ≤ length rest + n
 

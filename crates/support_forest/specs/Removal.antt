@@ -8,7 +8,8 @@ use Rattle.support_forest.specs.Losing.{AreLosing}
 use Rattle.support_forest.specs.Words.{changed}
 
 -- a removal is under way: those that wait are not exact yet, and fresh voxels lost their heights
-pub record IsRemoving (old now : Grid) (gone : List Coord) (queue : List Orphan) (fresh : List Coord) (waits : Coord → ℕ → Type 0) : Type 0 where
+pub record IsRemoving (old now : Grid) (gone : List Coord) (queue : List Orphan) (fresh : List Coord)
+    (waits : Coord → ℕ → Type 0) : Type 0 where
   pub resolution : now.resolution ≡ old.resolution
   pub losing : AreLosing (word_at old) (word_at now) (Contains gone) waits (Contains fresh)
   pub void : (c : Coord) → Contains gone c → word_at now c ≡ 0

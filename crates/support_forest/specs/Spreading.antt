@@ -30,7 +30,9 @@ pub record AreSame (old now : Grid) : Type 0 where
 
 -- what is left to do
 abbrev pub to_do : Grid → Grid → Waiting → ℕ
-to_do old now q = 7 * (old.resolution * old.resolution * old.resolution - changed old.resolution (word_at old) (word_at now)) + number q
+to_do old now q =
+    7 * (old.resolution * old.resolution * old.resolution - changed old.resolution (word_at old) (word_at now))
+    + number q
 
 -- a run of offers is under way, and has the candidate in hand: its neighbours from a direction on are still to be offered the next height
 pub record IsSpreading (old now : Grid) (start q : Waiting) (x : Candidate) (d before steps limit : ℕ) : Type 0 where
@@ -40,9 +42,11 @@ pub record IsSpreading (old now : Grid) (start q : Waiting) (x : Candidate) (d b
   pub low : (f : Candidate) → Contains q.found f → x.height ≤ f.height
   pub high : (f : Candidate) → Contains q.found f → f.height ≤ x.height + 1
   pub above : (s : Candidate) → Contains q.seeds s → x.height + 1 ≤ s.height
-  pub few : (f : Candidate) → Contains q.found f → (f.height ≤ old.resolution * old.resolution * old.resolution + 1) × IsInSpace old.resolution f.at
+  pub few : (f : Candidate) → Contains q.found f
+      → (f.height ≤ old.resolution * old.resolution * old.resolution + 1) × IsInSpace old.resolution f.at
   pub here : (x.height ≤ old.resolution * old.resolution * old.resolution + 1) × IsInSpace old.resolution x.at
-  pub cost : steps + length q.seeds + 6 * length q.found + 7 ≤ before + number start + 7 * changed old.resolution (word_at old) (word_at now) + d
+  pub cost : steps + length q.seeds + 6 * length q.found + 7
+      ≤ before + number start + 7 * changed old.resolution (word_at old) (word_at now) + d
   pub less : to_do old now q ≤ limit
 
 -- some run of offers is under way with the candidate in hand
@@ -56,4 +60,5 @@ pub record CanSpread (now : Grid) (q : Waiting) (x : Candidate) (d steps : ℕ) 
 -- every run of offers goes on from one direction to another
 abbrev pub Spreads : Grid → Grid → Waiting → Waiting → Candidate → ℕ → ℕ → ℕ → ℕ → Type 0
 Spreads now new q p x d e steps after =
-    (old : Grid) (start : Waiting) (before limit : ℕ) → IsSpreading old now start q x d before steps limit → IsSpreading old new start p x e before after limit
+    (old : Grid) (start : Waiting) (before limit : ℕ) → IsSpreading old now start q x d before steps limit
+    → IsSpreading old new start p x e before after limit

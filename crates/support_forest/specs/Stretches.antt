@@ -116,4 +116,5 @@ pub record IsTaking (old now : Grid) (gone : List Coord) (i : ℕ) (rest : List 
 -- whatever was taken before, these were taken too or listed
 abbrev pub TakesMore : Grid → Grid → List Coord → ℕ → ℕ → List Coord → List Coord → ℕ → ℕ → Type 0
 TakesMore now new gone i j rest more steps after =
-    (old : Grid) (before : ℕ) → CanRemove old gone → IsTaking old now gone i rest before steps → IsTaking old new gone j more before after
+    (old : Grid) (before : ℕ) → CanRemove old gone → IsTaking old now gone i rest before steps
+    → IsTaking old new gone j more before after

@@ -45,7 +45,8 @@ pub record HaveTaken (old new : Grid) (c : Coord) (before after : ℕ) : Type 0 
 
 -- the voxel became void, or all stays
 abbrev pub TakesOrStays : Bool → Grid → Grid → Coord → ℕ → ℕ → Type 0
-TakesOrStays done old new c before after = MatchBool done (HaveTaken old new c before after) ((new ≡ old) × (after ≤ before + 6))
+TakesOrStays done old new c before after =
+    MatchBool done (HaveTaken old new c before after) ((new ≡ old) × (after ≤ before + 6))
 
 -- those of the voxels on which no other hangs became void, one after another, and the rest may still be removed
 pub record AreTaken (old new : Grid) (gone rest : List Coord) (before after : ℕ) : Type 0 where

@@ -66,8 +66,8 @@ pub allowed : (profile : Profile) (axis : Axis) (p q : Coord) → profile ≡ li
     → IsTrue (is_allowed profile (lead axis p q))
 allowed profile axis p q e = subst (λ (k : Profile). IsTrue (is_allowed k (lead axis p q))) (sym e) (by (component_of axis p == component_of axis q))
   where
-    by : (t : Bool)
-        → IsTrue (is_allowed light_profile (cond t Wait (SMove (along axis (pos (component_of axis q) -ℤ pos (component_of axis p))))))
+    by : (t : Bool) → IsTrue (is_allowed light_profile
+        (cond t Wait (SMove (along axis (pos (component_of axis q) -ℤ pos (component_of axis p))))))
     by true = refl
     by false = refl
 

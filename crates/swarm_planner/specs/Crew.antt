@@ -33,7 +33,9 @@ pub record IsSwarm (p : TapeState) : Type 0 where
 
 -- the command that leads a bot along an axis from one place to another
 abbrev pub lead : Axis → Coord → Coord → Command
-lead axis p q = cond (component_of axis p == component_of axis q) Wait (SMove (along axis (pos (component_of axis q) -ℤ pos (component_of axis p))))
+lead axis p q =
+    cond (component_of axis p == component_of axis q) Wait
+    (SMove (along axis (pos (component_of axis q) -ℤ pos (component_of axis p))))
 
 -- the commands that lead bots along an axis to places
 abbrev pub led : Axis → List Bot → List Coord → List Command

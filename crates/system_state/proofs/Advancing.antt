@@ -138,9 +138,10 @@ OfTurns P = (s : State) (commands : List Command) (step : ℕ) → IsReady s →
 
 -- the law of the turns, of its clauses
 pub turns_of : OfTurns (λ s all before l. group_in (after_some s all before) all l ≡ members all l)
-    → OfTurns (λ s all before l. IsTrue (keeps_rules (after_some s all before) (members all l)))
-    → OfTurns (λ s all before l. (x y : Bot) → Contains (successors (members all l) l l.command) x → Contains (after_some s all before).bots y → x.pos ≡ y.pos → y ≡ l.bot)
-    → OfTurns (λ s all before l. after_group (after_some s all before) (members all l) ≡ after_some s all (before ++ l ∷ []))
+    → OfTurns (λ s all before l. IsTrue (keeps_rules (after_some s all before) (members all l))) → OfTurns
+    (λ s all before l. (x y : Bot) → Contains (successors (members all l) l l.command) x
+    → Contains (after_some s all before).bots y → x.pos ≡ y.pos → y ≡ l.bot) → OfTurns
+    (λ s all before l. after_group (after_some s all before) (members all l) ≡ after_some s all (before ++ l ∷ []))
     → OfTurns TurnOf
 turns_of bots rules places next = λ s commands step ready keep before rest l perm. record {
   bots = bots s commands step ready keep before rest l perm;

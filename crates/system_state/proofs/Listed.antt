@@ -85,15 +85,13 @@ module _ (bots : List Bot) (commands : List Command) (i : ℕ) (b : Bot) (k : Co
   -- by the numbers of the bots behind it
   pub numbered_more : (turns next : List Turn) (numbers : List ℕ) (n partner : ℕ)
       → next ≡ turns ++ record { leader = b.bid; place = i; partner = partner } ∷ []
-      → list_any (are_together (act b k)) (acts (take i bots) (take i commands)) ≡ false
-      → with_number n (take (length bots - (i + 1)) (drop (i + 1) bots))
-      (take (length numbers - (i + 1)) (drop (i + 1) numbers))
+      → list_any (are_together (act b k)) (acts (take i bots) (take i commands)) ≡ false → with_number n
+      (take (length bots - (i + 1)) (drop (i + 1) bots)) (take (length numbers - (i + 1)) (drop (i + 1) numbers))
       ≡ map (λ (x : Act). x.bot) (filter (are_together (act b k)) (acts (drop (i + 1) bots) (drop (i + 1) commands)))
-      → partner
-      ≡ slice_index_or (map (λ (x : Bot). x.bid) (with_number n (take (length bots - (i + 1)) (drop (i + 1) bots)) (take (length numbers - (i + 1)) (drop (i + 1) numbers)))) 0 0
-      → AreTurns (acts bots commands)
-      (filter (is_leader (acts bots commands)) (acts (take i bots) (take i commands))) turns
-      → AreTurns (acts bots commands)
+      → partner ≡ slice_index_or (map (λ (x : Bot). x.bid) (with_number n
+      (take (length bots - (i + 1)) (drop (i + 1) bots)) (take (length numbers - (i + 1)) (drop (i + 1) numbers)))) 0 0
+      → AreTurns (acts bots commands) (filter (is_leader (acts bots commands)) (acts (take i bots) (take i commands)))
+      turns → AreTurns (acts bots commands)
       (filter (is_leader (acts bots commands)) (acts (take (i + 1) bots) (take (i + 1) commands))) next
   numbered_more turns next numbers n partner f e tell second h =
       leader_more turns next partner f e (second ∙ ap (λ bids. slice_index_or bids 0 0) (ap (map (λ (x : Bot). x.bid)) tell ∙ of_bots (λ (x : Bot). x.bid) (filter (are_together (act b k)) ys))) h

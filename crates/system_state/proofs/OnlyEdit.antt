@@ -45,16 +45,15 @@ module _ (s : State) (b : Bot) (d : Diff) (only : s.bots ≡ b ∷ []) (i : in_s
       subst (λ (t : State). record t { matrix = with_voxel t.matrix there false; energy = (t.energy +ℤ upkeep t) +ℤ cond (is_full t.matrix there) (negsuc 11) (pos 3) } ≡ after t (Void d ∷ [])) same
       (λ j. record { matrix = matrix j; harmonics = s.harmonics; bots = b ∷ []; energy = (s.energy +ℤ upkeep start) +ℤ cost j; profile = s.profile })
 
-  changed_on : (full : Bool)
-      → record s { matrix = with_voxel s.matrix there full; energy = (s.energy +ℤ upkeep s) +ℤ edit_cost full (is_full s.matrix there) }
-      ≡ after s (edit_of full d ∷ [])
+  changed_on : (full : Bool) → record s { matrix = with_voxel s.matrix there full;
+      energy = (s.energy +ℤ upkeep s) +ℤ edit_cost full (is_full s.matrix there) } ≡ after s (edit_of full d ∷ [])
   changed_on true = filled_on
   changed_on false = voided_on
 
 -- the state after the voxel at a coordinate was filled, or else voided
 pub edited_on : (s : State) (b : Bot) (d : Diff) (at : Coord) (full : Bool) → s.bots ≡ b ∷ []
-    → IsInSpace s.matrix.resolution at → point at ≡ plus (point b.pos) d
-    → record s { matrix = with_voxel s.matrix at full; energy = (s.energy +ℤ upkeep s) +ℤ edit_cost full (is_full s.matrix at) }
+    → IsInSpace s.matrix.resolution at → point at ≡ plus (point b.pos) d → record s
+    { matrix = with_voxel s.matrix at full; energy = (s.energy +ℤ upkeep s) +ℤ edit_cost full (is_full s.matrix at) }
     ≡ after s (edit_of full d ∷ [])
 edited_on s b d at full only stays named =
     let in_space_holds : in_space s.matrix.resolution (plus (point b.pos) d) ≡ true = subst (λ (p : Point). in_space s.matrix.resolution p ≡ true) named (in_space_is s.matrix.resolution at stays) in

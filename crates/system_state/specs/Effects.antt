@@ -45,9 +45,12 @@ abbrev pub bots_after_deed : List Bot → Bot → ℕ → Deed → List Bot
 bots_after_deed bots bot partner Halts = []
 bots_after_deed bots bot partner (Moves to) = replaced bots (bot.bid ∷ []) (moved bot (point to) ∷ [])
 bots_after_deed bots bot partner (Bends middle to) = replaced bots (bot.bid ∷ []) (moved bot (point to) ∷ [])
-bots_after_deed bots bot partner (Splits to seeds) = replaced bots (bot.bid ∷ []) (parent bot seeds ∷ newborn bot (point to) seeds ∷ [])
-bots_after_deed bots bot partner (Fuses place true) = with_partner bots partner (λ other. replaced bots (bot.bid ∷ partner ∷ []) (fused bot other ∷ []))
-bots_after_deed bots bot partner (Fuses place false) = with_partner bots partner (λ other. replaced bots (partner ∷ bot.bid ∷ []) (fused other bot ∷ []))
+bots_after_deed bots bot partner (Splits to seeds) =
+    replaced bots (bot.bid ∷ []) (parent bot seeds ∷ newborn bot (point to) seeds ∷ [])
+bots_after_deed bots bot partner (Fuses place true) =
+    with_partner bots partner (λ other. replaced bots (bot.bid ∷ partner ∷ []) (fused bot other ∷ []))
+bots_after_deed bots bot partner (Fuses place false) =
+    with_partner bots partner (λ other. replaced bots (partner ∷ bot.bid ∷ []) (fused other bot ∷ []))
 bots_after_deed bots bot partner _ = bots
 
 -- the same by its command

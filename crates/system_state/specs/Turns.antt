@@ -42,6 +42,7 @@ abbrev pub bots_after_some : State → List Command → List ℕ → List Bot
 bots_after_some s commands bids = (after_some s (acts s.bots commands) (acts_of (acts s.bots commands) bids)).bots
 
 -- the group of a leader takes its turn after those of some others, whose turns led to the bots
-pub record FollowsOn (s : State) (commands : List Command) (before : List ℕ) (leader : ℕ) (rest : List ℕ) (bots : List Bot) : Type 0 where
+pub record FollowsOn (s : State) (commands : List Command) (before : List ℕ) (leader : ℕ) (rest : List ℕ)
+    (bots : List Bot) : Type 0 where
   pub leaders : IsPermutation (leader_bids (acts s.bots commands)) (before ++ leader ∷ rest)
   pub bots_are : bots ≡ bots_after_some s commands before

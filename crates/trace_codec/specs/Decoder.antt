@@ -36,11 +36,13 @@ pub record Completes (decoder : DecoderState) (piece : List ℕ) (command : Comm
 abbrev pub AnswersPiece : DecoderState → List ℕ → Fed → Type 0
 AnswersPiece decoder piece (Got command used) = Completes decoder piece command used
 AnswersPiece decoder piece All = IsFalse decoder.failed × BeginsSpelling (decoder.held ++ piece)
-AnswersPiece decoder piece (Bad offset) = (offset ≡ decoder.offset) × (IsTrue decoder.failed ⊎ IsNoCommand (decoder.held ++ piece))
+AnswersPiece decoder piece (Bad offset) =
+    (offset ≡ decoder.offset) × (IsTrue decoder.failed ⊎ IsNoCommand (decoder.held ++ piece))
 
 -- what a decoder is after that answer
 abbrev pub decoder_after : DecoderState → List ℕ → Fed → DecoderState
-decoder_after decoder piece (Got command used) = record { held = []; offset = decoder.offset + length (spelling command); failed = false }
+decoder_after decoder piece (Got command used) =
+    record { held = []; offset = decoder.offset + length (spelling command); failed = false }
 decoder_after decoder piece All = record { held = decoder.held ++ piece; offset = decoder.offset; failed = false }
 decoder_after decoder piece (Bad offset) = record { held = decoder.held; offset = decoder.offset; failed = true }
 

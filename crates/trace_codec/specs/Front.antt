@@ -7,6 +7,7 @@ use Rattle.trace_codec.specs.Decoder.{Completes, DecoderState, decoder_after}
 
 -- it takes a command whose whole spelling is there, and stays as it is where none is
 abbrev pub TakesWhole : DecoderState → List ℕ → One → DecoderState → Type 0
-TakesWhole old piece (Got command len) new = Completes old piece command len × (new ≡ decoder_after old piece (fed.Got command len))
+TakesWhole old piece (Got command len) new =
+    Completes old piece command len × (new ≡ decoder_after old piece (fed.Got command len))
 TakesWhole old piece More new = new ≡ old
 TakesWhole old piece Bad new = new ≡ old

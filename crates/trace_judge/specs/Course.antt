@@ -46,7 +46,8 @@ IsUnderway machine pending _ = Unit {0}
 
 -- steps are made no more, and one command more has come
 pub record IsAfterEnd (old new : Mark) : Type 0 where
-  pub pushes : (p : Progress) (command : Command) → p.mark ≡ mark_by old → Pushes p command (record p { mark = mark_by new })
+  pub pushes : (p : Progress) (command : Command) → p.mark ≡ mark_by old
+      → Pushes p command (record p { mark = mark_by new })
   pub ended : new ≡ mark.Running → ⊥
 
 -- what the step is answered that one command more makes, in this state then or by this fault, where it makes one

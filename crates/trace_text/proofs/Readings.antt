@@ -49,9 +49,9 @@ none_behind ps zero so_far line q h e = cc
 none_behind ps (suc n) so_far [] q h e = cc
 none_behind ps (suc n) so_far (b ∷ more) q h e = by (is_digit b) refl e
   where
-    by : (t : Bool) → is_digit b ≡ t
-        → cond t (longer (record { number = pos (10 * so_far + (b - 48)); rest = more }) (longest n (10 * so_far + (b - 48)) more)) None
-        ≡ Some q → readings ps (b ∷ more) ≡ []
+    by : (t : Bool) → is_digit b ≡ t → cond t
+        (longer (record { number = pos (10 * so_far + (b - 48)); rest = more }) (longest n (10 * so_far + (b - 48)) more))
+        None ≡ Some q → readings ps (b ∷ more) ≡ []
     by true f g = no_digit ps b more h f
     by false f g = cc
 
@@ -78,9 +78,11 @@ longest_taken value ps (suc n) so_far [] h = refl
 longest_taken value ps (suc n) so_far (b ∷ more) h = by (is_digit b) (longest_taken value ps n (10 * so_far + (b - 48)) more h)
   where
     by : (t : Bool) → flat_map (behind value ps) (digits n (10 * so_far + (b - 48)) more)
-        ≡ behind_any value ps (longest n (10 * so_far + (b - 48)) more) → flat_map (behind value ps)
-        (cond t (record { number = pos (10 * so_far + (b - 48)); rest = more } ∷ digits n (10 * so_far + (b - 48)) more) [])
-        ≡ behind_any value ps (cond t (longer (record { number = pos (10 * so_far + (b - 48)); rest = more }) (longest n (10 * so_far + (b - 48)) more)) None)
+        ≡ behind_any value ps (longest n (10 * so_far + (b - 48)) more) → flat_map (behind value ps) (cond t
+        (record { number = pos (10 * so_far + (b - 48)); rest = more } ∷ digits n (10 * so_far + (b - 48)) more) [])
+        ≡ behind_any value ps (cond t
+        (longer (record { number = pos (10 * so_far + (b - 48)); rest = more }) (longest n (10 * so_far + (b - 48)) more))
+        None)
     by true later = further value ps (record { number = pos (10 * so_far + (b - 48)); rest = more }) n (10 * so_far + (b - 48)) more refl h (longest n (10 * so_far + (b - 48)) more) refl later
     by false later = refl
 

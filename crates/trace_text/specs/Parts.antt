@@ -54,5 +54,7 @@ longer r (Some q) = Some q
 abbrev pub longest : ℕ → ℕ → List ℕ → Option Read
 longest zero so_far line = None
 longest (suc n) so_far [] = None
-longest (suc n) so_far (b ∷ more) = cond (is_digit b)
-    (longer (record { number = pos (10 * so_far + (b - 48)); rest = more }) (longest n (10 * so_far + (b - 48)) more)) None
+longest (suc n) so_far (b ∷ more) =
+    cond (is_digit b)
+    (longer (record { number = pos (10 * so_far + (b - 48)); rest = more }) (longest n (10 * so_far + (b - 48)) more))
+    None

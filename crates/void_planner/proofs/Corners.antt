@@ -101,9 +101,8 @@ none_repeats : (a b d e f g : Bool) → a ≡ false → b ≡ false → d ≡ fa
     → ((a || (b || (d || false))) || ((e || (f || false)) || ((g || false) || (false || false)))) ≡ false
 none_repeats a b d e f g ea eb ed ee ef eg = rw (ea, eb, ed, ee, ef, eg) refl
 
-corners_differ : (far x y z : ℕ) → 1 ≤ far
-    → repeats (point (coord x y z) ∷ point (coord (x + far) y z) ∷ point (coord (x + far) y (z + far)) ∷ point (coord x y (z + far)) ∷ [])
-    ≡ false
+corners_differ : (far x y z : ℕ) → 1 ≤ far → repeats (point (coord x y z) ∷ point (coord (x + far) y z)
+    ∷ point (coord (x + far) y (z + far)) ∷ point (coord x y (z + far)) ∷ []) ≡ false
 corners_differ far x y z h =
     let first_corner = coord x y z in
     let second_corner = coord (x + far) y z in

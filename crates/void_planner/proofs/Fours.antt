@@ -262,8 +262,8 @@ module _ (p : TapeState) (axis : Axis) (at next : ℕ) (a b e g : Diff) (square 
   pub can_shift : CanMoveAll p (SMove a ∷ SMove b ∷ SMove e ∷ SMove g ∷ [])
   can_shift = can_move_all p _ _ _ _ _ _ _ _ _ _ square.full square.stand then (shift_apart axis p.matrix (spot p.bots) at next square.wide here near back square.stand then) (shift_goes axis (spot p.bots) (far_of p.matrix.resolution) at next a b e g here ea eb ee eg) square.bots_are
 
-  pub shift_went : (q : TapeState)
-      → AllStep p q (SMove a ∷ SMove b ∷ SMove e ∷ SMove g ∷ []) p.matrix p.harmonics (bots_gone p.bots (SMove a ∷ SMove b ∷ SMove e ∷ SMove g ∷ []))
+  pub shift_went : (q : TapeState) → AllStep p q (SMove a ∷ SMove b ∷ SMove e ∷ SMove g ∷ []) p.matrix p.harmonics
+      (bots_gone p.bots (SMove a ∷ SMove b ∷ SMove e ∷ SMove g ∷ []))
       → FourGo p q (far_of p.matrix.resolution) (far_of p.matrix.resolution) (put axis (spot p.bots) next) 1
   shift_went q = went p _ _ _ _ _ _ _ _ _ _ square.full square.stand then (shift_apart axis p.matrix (spot p.bots) at next square.wide here near back square.stand then) (shift_goes axis (spot p.bots) (far_of p.matrix.resolution) at next a b e g here ea eb ee eg) square.bots_are q square.high refl
 
@@ -274,9 +274,8 @@ module _ (p : TapeState) (d at next : ℕ) (b e : Diff) (rectangle : IsRectangle
   pub can_widen : CanMoveAll p (Wait ∷ SMove b ∷ SMove e ∷ Wait ∷ [])
   can_widen = can_move_all p _ _ _ _ _ _ _ _ _ _ rectangle.full rectangle.stand wider (stay_apart (spot p.bots) at d next d rectangle.wide rectangle.deep some rectangle.deep) (widen_goes (spot p.bots) d at next b e eb ee) rectangle.bots_are
 
-  pub widen_went : (q : TapeState)
-      → AllStep p q (Wait ∷ SMove b ∷ SMove e ∷ Wait ∷ []) p.matrix p.harmonics (bots_gone p.bots (Wait ∷ SMove b ∷ SMove e ∷ Wait ∷ []))
-      → FourGo p q next d (spot p.bots) 1
+  pub widen_went : (q : TapeState) → AllStep p q (Wait ∷ SMove b ∷ SMove e ∷ Wait ∷ []) p.matrix p.harmonics
+      (bots_gone p.bots (Wait ∷ SMove b ∷ SMove e ∷ Wait ∷ [])) → FourGo p q next d (spot p.bots) 1
   widen_went q = went p _ _ _ _ _ _ _ _ _ _ rectangle.full rectangle.stand wider (stay_apart (spot p.bots) at d next d rectangle.wide rectangle.deep some rectangle.deep) (widen_goes (spot p.bots) d at next b e eb ee) rectangle.bots_are q rectangle.high refl
 
 module _ (p : TapeState) (w at next : ℕ) (e g : Diff) (rectangle : IsRectangle p w at) (some : 1 ≤ next) (within : (spot p.bots).z + next < p.matrix.resolution) (ee : e ≡ along Z (pos next -ℤ pos at)) (eg : g ≡ along Z (pos next -ℤ pos at)) where
@@ -286,7 +285,6 @@ module _ (p : TapeState) (w at next : ℕ) (e g : Diff) (rectangle : IsRectangle
   pub can_deepen : CanMoveAll p (Wait ∷ Wait ∷ SMove e ∷ SMove g ∷ [])
   can_deepen = can_move_all p _ _ _ _ _ _ _ _ _ _ rectangle.full rectangle.stand deeper (stay_apart (spot p.bots) w at w next rectangle.wide rectangle.deep rectangle.wide some) (deepen_goes (spot p.bots) w at next e g ee eg) rectangle.bots_are
 
-  pub deepen_went : (q : TapeState)
-      → AllStep p q (Wait ∷ Wait ∷ SMove e ∷ SMove g ∷ []) p.matrix p.harmonics (bots_gone p.bots (Wait ∷ Wait ∷ SMove e ∷ SMove g ∷ []))
-      → FourGo p q w next (spot p.bots) 1
+  pub deepen_went : (q : TapeState) → AllStep p q (Wait ∷ Wait ∷ SMove e ∷ SMove g ∷ []) p.matrix p.harmonics
+      (bots_gone p.bots (Wait ∷ Wait ∷ SMove e ∷ SMove g ∷ [])) → FourGo p q w next (spot p.bots) 1
   deepen_went q = went p _ _ _ _ _ _ _ _ _ _ rectangle.full rectangle.stand deeper (stay_apart (spot p.bots) w at w next rectangle.wide rectangle.deep rectangle.wide some) (deepen_goes (spot p.bots) w at next e g ee eg) rectangle.bots_are q rectangle.high refl

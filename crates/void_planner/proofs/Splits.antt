@@ -75,8 +75,8 @@ below a b h = record { near = omega (arith, ints); far = omega (arith, ints); ne
 
 -- ---- one bot becomes two
 
-split_bots : (c q : Coord)
-    → in_rising_order (parent (bot_with 1 c (2 ^ 41 - 2 ^ 2)) 1 ∷ newborn (bot_with 1 c (2 ^ 41 - 2 ^ 2)) (point q) 1 ∷ [])
+split_bots : (c q : Coord) → in_rising_order
+    (parent (bot_with 1 c (2 ^ 41 - 2 ^ 2)) 1 ∷ newborn (bot_with 1 c (2 ^ 41 - 2 ^ 2)) (point q) 1 ∷ [])
     ≡ bot_with 1 c (2 ^ 41 - 2 ^ 4) ∷ bot_with 2 q (2 ^ 3) ∷ []
 unfolding seed_numbers
 split_bots c q = refl
@@ -109,8 +109,9 @@ module _ (p : TapeState) (c : Coord) (d : Diff) (bots : p.bots ≡ one c) (full 
 
 -- ---- two become four
 
-split_bots_both : (c f g e : Coord)
-    → in_rising_order (parent (bot_with 1 c (2 ^ 41 - 2 ^ 4)) 0 ∷ newborn (bot_with 1 c (2 ^ 41 - 2 ^ 4)) (point f) 0 ∷ parent (bot_with 2 e (2 ^ 3)) 0 ∷ newborn (bot_with 2 e (2 ^ 3)) (point g) 0 ∷ [])
+split_bots_both : (c f g e : Coord) → in_rising_order (parent (bot_with 1 c (2 ^ 41 - 2 ^ 4)) 0
+    ∷ newborn (bot_with 1 c (2 ^ 41 - 2 ^ 4)) (point f) 0 ∷ parent (bot_with 2 e (2 ^ 3)) 0
+    ∷ newborn (bot_with 2 e (2 ^ 3)) (point g) 0 ∷ [])
     ≡ bot_with 1 c (2 ^ 41 - 2 ^ 5) ∷ bot_with 2 e 0 ∷ bot_with 3 g 0 ∷ bot_with 4 f 0 ∷ []
 unfolding seed_numbers
 split_bots_both c f g e = refl

@@ -27,8 +27,9 @@ two c = bot_with 1 c (2 ^ 41 - 2 ^ 4) ∷ bot_with 2 (coord (c.x + 1) c.y c.z) (
 
 -- four bots at the corners of a rectangle, with the first bot at its least corner: the seeds 5 to 40, and none
 abbrev pub four : Coord → ℕ → ℕ → List Bot
-four c w d = bot_with 1 c (2 ^ 41 - 2 ^ 5) ∷ bot_with 2 (coord (c.x + w) c.y c.z) 0 ∷ bot_with 3 (coord (c.x + w) c.y (c.z + d)) 0
-    ∷ bot_with 4 (coord c.x c.y (c.z + d)) 0 ∷ []
+four c w d =
+    bot_with 1 c (2 ^ 41 - 2 ^ 5) ∷ bot_with 2 (coord (c.x + w) c.y c.z) 0
+    ∷ bot_with 3 (coord (c.x + w) c.y (c.z + d)) 0 ∷ bot_with 4 (coord c.x c.y (c.z + d)) 0 ∷ []
 
 -- bots at the corners of a rectangle stand in space, and all is void from their height on
 pub record CanStand (m : Matrix) (w d : ℕ) (c : Coord) : Type 0 where

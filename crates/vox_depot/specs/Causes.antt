@@ -28,4 +28,6 @@ pub record DepotFaults : Type 0 where
   pub failed_stores : ℕ
 
 abbrev pub depot_faults_code : Coded DepotFaults
-depot_faults_code = code_by (ℕ × ℕ) (coded× coded_ℕ coded_ℕ) (λ m. (m.faults, m.failed_stores)) (λ p. record { faults = p.0; failed_stores = p.1 }) (λ _. refl)
+depot_faults_code =
+    code_by (ℕ × ℕ) (coded× coded_ℕ coded_ℕ) (λ m. (m.faults, m.failed_stores))
+    (λ p. record { faults = p.0; failed_stores = p.1 }) (λ _. refl)

@@ -107,8 +107,9 @@ between_tallied low high r h k =
     ap (λ v. tally test v 0) r_is ∙ (outer ∙ (omega arith ∙ sym (extent_is low high h)))
 
 -- the coordinates of the matrix in a region are counted axis by axis
-axis_by_axis : (r : ℕ) (s : Span) → count_by (λ c. is_within s (point c)) (coordinates r)
-    ≡ tally (λ v. is_between s.from.x s.to.x (pos v)) r 0 * tally (λ v. is_between s.from.y s.to.y (pos v)) r 0 * tally (λ v. is_between s.from.z s.to.z (pos v)) r 0
+axis_by_axis : (r : ℕ) (s : Span) → count_by (λ c. is_within s (point c)) (coordinates r) ≡ tally
+    (λ v. is_between s.from.x s.to.x (pos v)) r 0 * tally (λ v. is_between s.from.y s.to.y (pos v)) r 0 * tally
+    (λ v. is_between s.from.z s.to.z (pos v)) r 0
 axis_by_axis r s =
     let is_between_x : ℕ → Bool = λ v. is_between s.from.x s.to.x (pos v) in
     let is_between_y : ℕ → Bool = λ v. is_between s.from.y s.to.y (pos v) in

@@ -15,30 +15,39 @@ pub record WorkedDifferences : Type 0 where
   pub manhattan : mlen (towards (pos 2) (negsuc 2) (pos 1)) ≡ 6
   pub chessboard : clen (towards (pos 2) (negsuc 2) (pos 1)) ≡ 3
   -- along one axis, along two, and along none
-  pub linear : map is_linear (towards (pos 0) (negsuc 4) (pos 0) ∷ towards (pos 1) (pos 0) (pos 1) ∷ towards (pos 0) (pos 0) (pos 0) ∷ [])
+  pub linear : map is_linear
+      (towards (pos 0) (negsuc 4) (pos 0) ∷ towards (pos 1) (pos 0) (pos 1) ∷ towards (pos 0) (pos 0) (pos 0) ∷ [])
       ≡ true ∷ false ∷ false ∷ []
   pub short : map is_short (towards (pos 5) (pos 0) (pos 0) ∷ towards (pos 6) (pos 0) (pos 0) ∷ []) ≡ true ∷ false ∷ []
-  pub long : map is_long (towards (pos 0) (pos 0) (negsuc 14) ∷ towards (pos 0) (pos 0) (negsuc 15) ∷ []) ≡ true ∷ false ∷ []
+  pub long :
+      map is_long (towards (pos 0) (pos 0) (negsuc 14) ∷ towards (pos 0) (pos 0) (negsuc 15) ∷ []) ≡ true ∷ false ∷ []
   -- at a face, at an edge, at a corner, at nothing, and two away
-  pub near : map is_near (towards (pos 1) (pos 0) (pos 0) ∷ towards (pos 1) (negsuc 0) (pos 0) ∷ towards (pos 1) (pos 1) (pos 1) ∷ towards (pos 0) (pos 0) (pos 0)
-      ∷ towards (pos 2) (pos 0) (pos 0) ∷ []) ≡ true ∷ true ∷ false ∷ false ∷ false ∷ []
-  pub far : map is_far (towards (pos 30) (negsuc 29) (pos 1) ∷ towards (pos 0) (pos 31) (pos 0) ∷ towards (pos 0) (pos 0) (pos 0) ∷ []) ≡ true ∷ false ∷ false ∷ []
+  pub near : map is_near (towards (pos 1) (pos 0) (pos 0) ∷ towards (pos 1) (negsuc 0) (pos 0)
+      ∷ towards (pos 1) (pos 1) (pos 1) ∷ towards (pos 0) (pos 0) (pos 0) ∷ towards (pos 2) (pos 0) (pos 0) ∷ [])
+      ≡ true ∷ true ∷ false ∷ false ∷ false ∷ []
+  pub far : map is_far
+      (towards (pos 30) (negsuc 29) (pos 1) ∷ towards (pos 0) (pos 31) (pos 0) ∷ towards (pos 0) (pos 0) (pos 0) ∷ [])
+      ≡ true ∷ false ∷ false ∷ []
 
 -- coordinates, their order and their places
 pub record WorkedCoordinates : Type 0 where
   -- at a face, at an edge, two away, and the same
-  pub neighbours : map (are_adjacent (coord 1 1 1)) (coord 1 0 1 ∷ coord 2 1 2 ∷ coord 1 3 1 ∷ coord 1 1 1 ∷ []) ≡ true ∷ false ∷ false ∷ false ∷ []
-  pub a_sum : plus (point (coord 1 0 2)) (towards (negsuc 1) (pos 3) (pos 1)) ≡ record { x = negsuc 0; y = pos 3; z = pos 3 }
+  pub neighbours : map (are_adjacent (coord 1 1 1)) (coord 1 0 1 ∷ coord 2 1 2 ∷ coord 1 3 1 ∷ coord 1 1 1 ∷ [])
+      ≡ true ∷ false ∷ false ∷ false ∷ []
+  pub a_sum :
+      plus (point (coord 1 0 2)) (towards (negsuc 1) (pos 3) (pos 1)) ≡ record { x = negsuc 0; y = pos 3; z = pos 3 }
   pub a_difference : minus (coord 1 0 2) (coord 2 3 2) ≡ towards (negsuc 0) (negsuc 2) (pos 0)
   -- by x, then y, then z
   pub by_x_first : map (is_before (coord 1 2 2)) (coord 2 0 0 ∷ coord 0 3 3 ∷ []) ≡ true ∷ false ∷ []
   pub by_y_then : map (is_before (coord 1 1 2)) (coord 1 2 0 ∷ coord 1 0 3 ∷ []) ≡ true ∷ false ∷ []
-  pub by_z_last : map (is_before (coord 1 1 1)) (coord 1 1 2 ∷ coord 1 1 1 ∷ coord 1 1 0 ∷ []) ≡ true ∷ false ∷ false ∷ []
+  pub by_z_last :
+      map (is_before (coord 1 1 1)) (coord 1 1 2 ∷ coord 1 1 1 ∷ coord 1 1 0 ∷ []) ≡ true ∷ false ∷ false ∷ []
   -- 27 = 1 * 16 + 2 * 4 + 3
   pub a_place : place 4 (coord 1 2 3) ≡ 27
   pub at_a_place : coordinate_at 4 27 ≡ coord 1 2 3
   -- the greatest corner, and one past it or below 0 on each axis
-  pub within_space : map (in_space 3) (point (coord 2 2 2) ∷ point (coord 3 2 2) ∷ point (coord 2 3 2) ∷ point (coord 2 2 3) ∷ record { x = negsuc 0; y = pos 0; z = pos 0 }
+  pub within_space : map (in_space 3) (point (coord 2 2 2) ∷ point (coord 3 2 2) ∷ point (coord 2 3 2)
+      ∷ point (coord 2 2 3) ∷ record { x = negsuc 0; y = pos 0; z = pos 0 }
       ∷ record { x = pos 0; y = negsuc 0; z = pos 0 } ∷ record { x = pos 0; y = pos 0; z = negsuc 0 } ∷ [])
       ≡ true ∷ false ∷ false ∷ false ∷ false ∷ false ∷ false ∷ []
 
@@ -49,9 +58,11 @@ box = between (point (coord 2 1 0)) (point (coord 1 1 3))
 -- regions
 pub record WorkedRegions : Type 0 where
   -- its corners and a coordinate between them
-  pub within : map (λ c. is_within box (point c)) (coord 2 1 0 ∷ coord 1 1 3 ∷ coord 1 1 0 ∷ coord 2 1 2 ∷ []) ≡ true ∷ true ∷ true ∷ true ∷ []
+  pub within : map (λ c. is_within box (point c)) (coord 2 1 0 ∷ coord 1 1 3 ∷ coord 1 1 0 ∷ coord 2 1 2 ∷ [])
+      ≡ true ∷ true ∷ true ∷ true ∷ []
   -- beside it on each axis
-  pub beside : map (λ c. is_within box (point c)) (coord 0 1 1 ∷ coord 3 1 1 ∷ coord 1 0 1 ∷ coord 1 2 1 ∷ coord 1 1 4 ∷ [])
+  pub beside :
+      map (λ c. is_within box (point c)) (coord 0 1 1 ∷ coord 3 1 1 ∷ coord 1 0 1 ∷ coord 1 2 1 ∷ coord 1 1 4 ∷ [])
       ≡ false ∷ false ∷ false ∷ false ∷ false ∷ []
   pub its_size : size box ≡ 8
   pub its_dimension : dimension box ≡ 2

@@ -26,7 +26,8 @@ pub record IsLayered (r : ℕ) (words : List ℕ) : Type 0 where
   pub some : 1 ≤ r
   pub most : r ≤ MOST_R
   pub whole : length words ≡ r * layer_words r
-  pub unused : (y i : ℕ) → y < r → r * r ≤ i → i < layer_words r * 64 → IsFalse (is_set words (y * layer_words r * 64 + i))
+  pub unused : (y i : ℕ) → y < r → r * r ≤ i → i < layer_words r * 64
+      → IsFalse (is_set words (y * layer_words r * 64 + i))
 
 -- no bit is 1 from the word of this index on
 pub record AreZeroFrom (words : List ℕ) (end : ℕ) : Type 0 where

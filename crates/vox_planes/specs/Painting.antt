@@ -33,7 +33,8 @@ is_in_row first last c = is_in_box first (record { x = first.x + 1; y = first.y 
 
 -- whether a coordinate is of the region, has this y, and an x before an end
 abbrev pub is_in_layer : Corners → ℕ → ℕ → Coord → Bool
-is_in_layer k y end c = is_in_box (record { x = k.low.x; y = y; z = k.low.z }) (record { x = end; y = y + 1; z = k.high.z + 1 }) c
+is_in_layer k y end c =
+    is_in_box (record { x = k.low.x; y = y; z = k.low.z }) (record { x = end; y = y + 1; z = k.high.z + 1 }) c
 
 -- whether a coordinate is of the region and has an y before an end
 abbrev pub is_in_layers : Corners → ℕ → Coord → Bool

@@ -14,4 +14,5 @@ is_from from count p = nat_le from p && nat_lt p (from + count)
 
 -- whether a coordinate is one of so many of a row from a first one on, for which the bit is 1
 abbrev pub is_marked : Coord → ℕ → ℕ → Coord → Bool
-is_marked first count bits c = (c.x == first.x && c.y == first.y && is_from first.z count c.z) && bit bits (c.z - first.z)
+is_marked first count bits c =
+    (c.x == first.x && c.y == first.y && is_from first.z count c.z) && bit bits (c.z - first.z)

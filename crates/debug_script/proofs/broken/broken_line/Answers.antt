@@ -7,9 +7,8 @@ use Rattle.debug_script.specs.Broken.{broken_line, printed_place}
 use Rattle.debug_script.proofs.broken.broken_line.Goals as goal
 
 line_is : (b : Broken) (n : ℕ) (name at : List ℕ) → n ≡ rule_number b.rule → name ≡ name_of b.rule
-    → at ≡ printed_place b.at
-    → concat (codes "broken " ∷ decimal n ∷ codes " " ∷ name ∷ codes " step " ∷ decimal b.step ∷ codes " bid " ∷ decimal b.bid ∷ codes " at " ∷ at ∷ codes "\n" ∷ [])
-    ≡ broken_line b
+    → at ≡ printed_place b.at → concat (codes "broken " ∷ decimal n ∷ codes " " ∷ name ∷ codes " step " ∷ decimal b.step
+    ∷ codes " bid " ∷ decimal b.bid ∷ codes " at " ∷ at ∷ codes "\n" ∷ []) ≡ broken_line b
 line_is b n name at e f g = rw (e, f, g) refl
 
 if_ok : {A E : Type 0} {P Q : A → Type 0} (r : Result A E) → ((x : A) → P x → Q x) → IfOk r P → IfOk r Q

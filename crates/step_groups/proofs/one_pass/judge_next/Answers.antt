@@ -11,8 +11,9 @@ use Rattle.step_groups.proofs.one_pass.judge_next.Goals as goal
 
 -- where the command is allowed, the first rule that it breaks is the first of the others
 allowed : (s : State) (all : List Act) (a : Act) (step bid : ℕ) (t : Bool) → t ≡ true
-    → first_value (map (λ rule. broken_by step rule bid (fault s all a rule)) later_rules)
-    ≡ first_value (broken_by step Forbidden bid (here a (not t)) ∷ map (λ rule. broken_by step rule bid (fault s all a rule)) later_rules)
+    → first_value (map (λ rule. broken_by step rule bid (fault s all a rule)) later_rules) ≡ first_value
+    (broken_by step Forbidden bid (here a (not t))
+    ∷ map (λ rule. broken_by step rule bid (fault s all a rule)) later_rules)
 allowed s all a step bid t e = sym (skip step bid Forbidden a (not t) (map (λ rule. broken_by step rule bid (fault s all a rule)) later_rules) (ap not e))
 
 pub returns-in-Ok-clause-value : goal.returns-in-Ok-clause-value

@@ -43,12 +43,16 @@ paint_all-requires-clause-group c =
     (overs _ _ _ _ _ c.across.ensures forth_here forth_here) (overs _ _ _ _ _ c.across-2.ensures back_here forth_here) (overs _ _ _ _ _ c.across-3.ensures back_here back_here) (overs _ _ _ _ _ c.across-4.ensures forth_here back_here)
     (square.bots_are ∙ ap (λ n. four (coord at.x n at.z) c.args.far c.args.far) (raised at.y c.requires.above))
 
-voided : (c : goal.After-paint_all) → ((region : Span) (full : Bool)
-    → AreOneGroup (state_of c.args.tape.now) region full (acts c.args.tape.now.bots (GVoid c.down.result c.across.result ∷ GVoid c.down-2.result c.across-2.result ∷ GVoid c.down-3.result c.across-3.result ∷ GVoid c.down-4.result c.across-4.result ∷ []))
-    → AllStep c.args.tape.now c.paint_all.new.self (GVoid c.down.result c.across.result ∷ GVoid c.down-2.result c.across-2.result ∷ GVoid c.down-3.result c.across-3.result ∷ GVoid c.down-4.result c.across-4.result ∷ [])
-    (with_region c.args.tape.now.matrix region full) c.args.tape.now.harmonics c.args.tape.now.bots)
-    → FourVoid c.args.tape.now c.paint_all.new.self c.args.far (tile c.args.far (coord (spot c.args.tape.now.bots).x ((spot c.args.tape.now.bots).y - 1) (spot c.args.tape.now.bots).z))
-    (with_region c.args.tape.now.matrix (tile c.args.far (coord (spot c.args.tape.now.bots).x ((spot c.args.tape.now.bots).y - 1) (spot c.args.tape.now.bots).z)) false)
+voided : (c : goal.After-paint_all) → ((region : Span) (full : Bool) → AreOneGroup (state_of c.args.tape.now) region
+    full (acts c.args.tape.now.bots (GVoid c.down.result c.across.result ∷ GVoid c.down-2.result c.across-2.result
+    ∷ GVoid c.down-3.result c.across-3.result ∷ GVoid c.down-4.result c.across-4.result ∷ [])) → AllStep c.args.tape.now
+    c.paint_all.new.self (GVoid c.down.result c.across.result ∷ GVoid c.down-2.result c.across-2.result
+    ∷ GVoid c.down-3.result c.across-3.result ∷ GVoid c.down-4.result c.across-4.result ∷ [])
+    (with_region c.args.tape.now.matrix region full) c.args.tape.now.harmonics c.args.tape.now.bots) → FourVoid
+    c.args.tape.now c.paint_all.new.self c.args.far (tile c.args.far
+    (coord (spot c.args.tape.now.bots).x ((spot c.args.tape.now.bots).y - 1) (spot c.args.tape.now.bots).z))
+    (with_region c.args.tape.now.matrix (tile c.args.far
+    (coord (spot c.args.tape.now.bots).x ((spot c.args.tape.now.bots).y - 1) (spot c.args.tape.now.bots).z)) false)
 voided c all =
     let tape = c.args.tape.now in
     let at = spot tape.bots in

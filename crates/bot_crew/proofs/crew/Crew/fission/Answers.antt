@@ -33,8 +33,9 @@ insert-requires c =
     let done = split_result c.self.inside.bots.items c.args.self.now c.deref_mut.result.now c.args.bid c.place_of-old.result c.args.c c.args.m c.split_seeds-seeds.result.bid c.split_seeds-seeds.result.taken c.split_seeds-seeds.result.kept c.place_of-new.result c.self.view_is c.deref_mut.ensures.value c.self.invariant place c.requires.active c.requires.free c.requires.seeds split later in
     (omega arith, (later.within, done.0))
 
-done : (c : goal.After-insert)
-    → SplitResult c.self.inside.bots.items c.args.self.now c.deref_mut.result.now c.args.bid c.place_of-old.result c.args.c c.args.m c.split_seeds-seeds.result.bid c.split_seeds-seeds.result.taken c.split_seeds-seeds.result.kept c.place_of-new.result
+done : (c : goal.After-insert) → SplitResult c.self.inside.bots.items c.args.self.now c.deref_mut.result.now c.args.bid
+    c.place_of-old.result c.args.c c.args.m c.split_seeds-seeds.result.bid c.split_seeds-seeds.result.taken
+    c.split_seeds-seeds.result.kept c.place_of-new.result
 done c =
     let place = place_is c.self.inside.bots.items c.deref.result.now c.args.bid c.place_of-old.result c.deref.ensures.0 c.place_of-old.ensures.within c.place_of-old.ensures.before c.place_of-old.ensures.from in
     let split : IsSplit (get_or c.self.inside.bots.items c.place_of-old.result nobody) c.args.m c.split_seeds-seeds.result.bid c.split_seeds-seeds.result.taken c.split_seeds-seeds.result.kept =

@@ -22,8 +22,8 @@ bounds-deref_mut-place c =
     let later : IsPlace (remove c.self.inside.bots.items c.place_of-end.result) c.args.primary c.place_of-place.result = subst (λ v. IsPlace v c.args.primary c.place_of-place.result) c.remove-other.ensures.items (place_is c.remove-other.new.self.items c.deref-2.result.now c.args.primary c.place_of-place.result c.deref-2.ensures.0 c.place_of-place.ensures.within c.place_of-place.ensures.before c.place_of-place.ensures.from) in
     subst (λ v. c.place_of-place.result < length v) (sym (c.deref_mut.ensures.value ∙ c.remove-other.ensures.items)) (at_rest c.self.inside.bots.items c.self.invariant c.args.primary c.args.secondary c.place_of-end.result place (subst (λ v. IsActive v c.args.primary) (sym c.self.view_is) c.requires.primary) (subst (λ v. IsActive v c.args.secondary) (sym c.self.view_is) c.requires.secondary) c.requires.two c.place_of-place.result later)
 
-done : (c : goal.After-self-1)
-    → FusionResult c.self.inside.bots.items c.args.self.now c.remove-other.new.self.items c.deref_mut.result.now c.args.primary c.args.secondary c.place_of-place.result c.unite.result
+done : (c : goal.After-self-1) → FusionResult c.self.inside.bots.items c.args.self.now c.remove-other.new.self.items
+    c.deref_mut.result.now c.args.primary c.args.secondary c.place_of-place.result c.unite.result
 done c =
     let place = place_is c.self.inside.bots.items c.deref.result.now c.args.secondary c.place_of-end.result c.deref.ensures.0 c.place_of-end.ensures.within c.place_of-end.ensures.before c.place_of-end.ensures.from in
     let later : IsPlace (remove c.self.inside.bots.items c.place_of-end.result) c.args.primary c.place_of-place.result = subst (λ v. IsPlace v c.args.primary c.place_of-place.result) c.remove-other.ensures.items (place_is c.remove-other.new.self.items c.deref-2.result.now c.args.primary c.place_of-place.result c.deref-2.ensures.0 c.place_of-place.ensures.within c.place_of-place.ensures.before c.place_of-place.ensures.from) in

@@ -8,8 +8,8 @@ bounds-deref_mut-place c =
     let place = place_is c.self.inside.bots.items c.deref.result.now c.args.bid c.place_among-place.result c.deref.ensures.0 c.place_among-place.ensures.within c.place_among-place.ensures.before c.place_among-place.ensures.from in
     subst (λ v. c.place_among-place.result < length v) (sym c.deref_mut.ensures.value) (at_place c.self.inside.bots.items c.self.invariant c.args.bid c.place_among-place.result place (subst (λ v. IsActive v c.args.bid) (sym c.self.view_is) c.requires.active))
 
-done : (c : goal.After-self-1)
-    → MoveResult c.self.inside.bots.items c.args.self.now c.deref_mut.result.now c.args.bid c.place_among-place.result c.args.c
+done : (c : goal.After-self-1) → MoveResult c.self.inside.bots.items c.args.self.now c.deref_mut.result.now c.args.bid
+    c.place_among-place.result c.args.c
 done c =
     let place = place_is c.self.inside.bots.items c.deref.result.now c.args.bid c.place_among-place.result c.deref.ensures.0 c.place_among-place.ensures.within c.place_among-place.ensures.before c.place_among-place.ensures.from in
     move_result c.self.inside.bots.items c.args.self.now c.deref_mut.result.now c.args.bid c.place_among-place.result c.args.c c.self.view_is c.deref_mut.ensures.value c.self.invariant place c.requires.active c.requires.free

@@ -34,8 +34,8 @@ charge c =
     let value : c.energy_after-energy.result ≡ (old.energy +ℤ pos (c.moves_to-count.result * upkeep_of_step old)) +ℤ pos (2 * distance c.spot-from.result c.args.to) = search rules in
     charged_as old c.moves_to-count.result _ c.energy_after-energy.result _ (search rules) (value ∙ ap (λ p. (old.energy +ℤ pos (c.moves_to-count.result * upkeep_of_step old)) +ℤ pos (2 * distance p c.args.to)) c.spot-from.ensures.value) c.energy_after-energy.ensures.bounded
 
-comes : (c : goal.After-self-1)
-    → Comes c.args.self.now (progress_of c.self.inside.source c.push_leg-3.new.commands.items c.set_energy.new.self (c.self.inside.steps + c.moves_to-count.result)) c.args.to
+comes : (c : goal.After-self-1) → Comes c.args.self.now (progress_of c.self.inside.source
+    c.push_leg-3.new.commands.items c.set_energy.new.self (c.self.inside.steps + c.moves_to-count.result)) c.args.to
 comes c =
     let inside = c.self.inside in
     let old = c.args.self.now in

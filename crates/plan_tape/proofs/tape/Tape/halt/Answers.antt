@@ -10,8 +10,9 @@ charge : (c : goal.After-self-1)
     → IsCharged c.args.self.now 1 (pos 0) (to_z w64 (of_z w64 c.energy_after-energy.result))
 charge c = charged_as c.args.self.now 1 (pos 0) c.energy_after-energy.result _ (search rules) c.energy_after-energy.ensures.value c.energy_after-energy.ensures.bounded
 
-makes : (c : goal.After-self-1)
-    → Makes c.args.self.now (progress_of c.self.inside.source c.write.new.commands.items c.halt.new.self (c.self.inside.steps + 1)) Halt c.args.self.now.matrix c.args.self.now.harmonics [] (pos 0)
+makes : (c : goal.After-self-1) → Makes c.args.self.now
+    (progress_of c.self.inside.source c.write.new.commands.items c.halt.new.self (c.self.inside.steps + 1)) Halt
+    c.args.self.now.matrix c.args.self.now.harmonics [] (pos 0)
 makes c =
     let inside = c.self.inside in
     let energy = to_z w64 (of_z w64 c.energy_after-energy.result) in

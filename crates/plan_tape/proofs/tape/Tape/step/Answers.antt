@@ -14,8 +14,9 @@ advance-requires-clause-payable c =
 pub advance-requires-clause-judged : goal.advance-requires-clause-judged
 advance-requires-clause-judged c = (c.self.inside.steps + 1, subst (λ (p : TapeState). broken (state_of p) c.args.commands.now (p.steps + 1) ≡ None) (sym c.self.view_is) c.requires.unbroken)
 
-takes : (c : goal.After-self-1)
-    → Takes c.args.self.now (progress_of c.self.inside.source c.write_all.new.commands.items c.advance.new.system (c.self.inside.steps + 1)) c.args.commands.now
+takes : (c : goal.After-self-1) → Takes c.args.self.now
+    (progress_of c.self.inside.source c.write_all.new.commands.items c.advance.new.system (c.self.inside.steps + 1))
+    c.args.commands.now
 takes c = step_takes (the_view c.self.inside) c.args.self.now c.self.view_is c.self.invariant c.args.commands.now c.write_all.new.commands.items c.advance.new.system c.requires.some c.requires.commands c.requires.unbroken c.requires.held c.requires.limit c.in_ok-write_all.ensures.ok
     (record { value = c.advance.ensures.value; whole = c.advance.ensures.whole; within = c.advance.ensures.within; rises = c.advance.ensures.rises; falls = c.advance.ensures.falls })
 

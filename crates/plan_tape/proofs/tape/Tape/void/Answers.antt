@@ -20,18 +20,19 @@ cost_is c =
     (elim c.if-is_full.branch [ then-is_full w ↦ (search rules) | else-is_full w ↦ (search rules) ]) in
     by ∙ (λ i. cond (is_full (c.matrix.ensures.value i) (at c i)) (negsuc 11) (pos 3))
 
-charge : (c : goal.After-self-1)
-    → IsCharged c.args.self.now 1 (cond (is_full c.args.self.now.matrix (beside c.args.self.now c.args.d)) (negsuc 11) (pos 3))
+charge : (c : goal.After-self-1) → IsCharged c.args.self.now 1
+    (cond (is_full c.args.self.now.matrix (beside c.args.self.now c.args.d)) (negsuc 11) (pos 3))
     (to_z w64 (of_z w64 c.energy_after-energy.result))
 charge c =
     let old = c.args.self.now in
     let value : c.energy_after-energy.result ≡ (old.energy +ℤ pos (1 * upkeep_of_step old)) +ℤ c.if-is_full.cost = search rules in
     charged_as old 1 (cond (is_full c.args.self.now.matrix (beside c.args.self.now c.args.d)) (negsuc 11) (pos 3)) c.energy_after-energy.result _ (search rules) (value ∙ ap (λ k. (old.energy +ℤ pos (1 * upkeep_of_step old)) +ℤ k) (cost_is c)) c.energy_after-energy.ensures.bounded
 
-makes : (c : goal.After-self-1)
-    → Makes c.args.self.now (progress_of c.self.inside.source c.write.new.commands.items c.set_voxel.new.self (c.self.inside.steps + 1))
-    (Void c.args.d)
-    (with_voxel c.args.self.now.matrix (beside c.args.self.now c.args.d) false) c.args.self.now.harmonics c.args.self.now.bots (cond (is_full c.args.self.now.matrix (beside c.args.self.now c.args.d)) (negsuc 11) (pos 3))
+makes : (c : goal.After-self-1) → Makes c.args.self.now
+    (progress_of c.self.inside.source c.write.new.commands.items c.set_voxel.new.self (c.self.inside.steps + 1))
+    (Void c.args.d) (with_voxel c.args.self.now.matrix (beside c.args.self.now c.args.d) false)
+    c.args.self.now.harmonics c.args.self.now.bots
+    (cond (is_full c.args.self.now.matrix (beside c.args.self.now c.args.d)) (negsuc 11) (pos 3))
 makes c =
     let inside = c.self.inside in
     let energy = to_z w64 (of_z w64 c.energy_after-energy.result) in

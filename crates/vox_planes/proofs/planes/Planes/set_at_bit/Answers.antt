@@ -14,8 +14,9 @@ within c = subst (λ (n : ℕ). IsInSpace n c.args.c) (ap (λ (m : Matrix). m.re
 at_bit : (c : goal.After-self-2-1) → c.args.bit ≡ bit_index c.self.inside.resolution c.args.c
 at_bit c = c.requires.bit ∙ ap (λ (m : Matrix). bit_index m.resolution c.args.c) (sym c.self.view_is)
 
-changed : (c : goal.After-self-2-1)
-    → IsChanged c.self.inside.words.items (Rattle.std.specs.Vec.with_items c.self.inside.words c.set_bit.new.words).items (bit_index c.self.inside.resolution c.args.c) c.args.full
+changed : (c : goal.After-self-2-1) → IsChanged c.self.inside.words.items
+    (Rattle.std.specs.Vec.with_items c.self.inside.words c.set_bit.new.words).items
+    (bit_index c.self.inside.resolution c.args.c) c.args.full
 changed c =
     let length_is = c.set_bit.auto.words ∙ c.deref_mut.ensures.len in
     changed_by c.self.inside.resolution c.args.c c.self.inside.words.items c.deref_mut.result.now c.set_bit.new.words _ c.args.bit c.args.full c.deref_mut.ensures.value (sym (with_items_is c.self.inside.words c.set_bit.new.words length_is)) (c.set_bit.auto.words ∙ ap length c.deref_mut.ensures.value) (at_bit c) c.set_bit.ensures.here c.set_bit.ensures.others

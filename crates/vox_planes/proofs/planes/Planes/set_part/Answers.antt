@@ -12,8 +12,10 @@ use Rattle.vox_planes.proofs.Ends.{end_with, zero_beside_put}
 use Rattle.vox_planes.proofs.Voxels.{layered_whole}
 use Rattle.vox_planes.proofs.planes.Planes.set_part.Goals as goal
 
-put : (c : goal.After-self-2-1)
-    → ArePutBits c.self.inside.words.items (Rattle.std.specs.Vec.with_items c.self.inside.words c.put_bits.new.words).items (bit_index c.self.inside.resolution (coordinate_at c.self.inside.resolution c.args.from)) c.part-count.result c.args.bits
+put : (c : goal.After-self-2-1) → ArePutBits c.self.inside.words.items
+    (Rattle.std.specs.Vec.with_items c.self.inside.words c.put_bits.new.words).items
+    (bit_index c.self.inside.resolution (coordinate_at c.self.inside.resolution c.args.from)) c.part-count.result
+    c.args.bits
 put c =
     let length_is = c.put_bits.auto.words ∙ c.deref_mut.ensures.len in
     put_by c.self.inside.resolution c.args.from c.of_place-c.result c.self.inside.words.items c.deref_mut.result.now c.put_bits.new.words _ c.bit_index-index.result c.part-count.result c.args.bits c.deref_mut.ensures.value (sym (with_items_is c.self.inside.words c.put_bits.new.words length_is)) c.of_place-c.ensures.value c.bit_index-index.ensures.value c.put_bits.ensures.here c.put_bits.ensures.others

@@ -13,8 +13,9 @@ use Rattle.vox_planes.proofs.Voxels.{layered_whole}
 use Rattle.vox_planes.proofs.planes.Planes.take_row.Given.{Over}
 use Rattle.vox_planes.proofs.planes.Planes.take_row.Goals as goal
 
-taken : (g : Over) (c : goal.After-self-1 g)
-    → AreTaken c.self.inside.words.items (Rattle.std.specs.Vec.with_items c.self.inside.words c.take_bits.new.words).items (bit_index c.self.inside.resolution c.args.first) c.args.count c.args.bits c.take_bits.result
+taken : (g : Over) (c : goal.After-self-1 g) → AreTaken c.self.inside.words.items
+    (Rattle.std.specs.Vec.with_items c.self.inside.words c.take_bits.new.words).items
+    (bit_index c.self.inside.resolution c.args.first) c.args.count c.args.bits c.take_bits.result
 taken g c =
     let length_is = c.take_bits.auto.words ∙ c.deref_mut.ensures.len in
     taken_by c.self.inside.resolution c.args.first c.self.inside.words.items c.deref_mut.result.now c.take_bits.new.words _ c.bit_index-index.result c.args.count c.args.bits c.take_bits.result c.deref_mut.ensures.value (sym (with_items_is c.self.inside.words c.take_bits.new.words length_is)) c.bit_index-index.ensures.value c.take_bits.ensures.below c.take_bits.ensures.was c.take_bits.ensures.left

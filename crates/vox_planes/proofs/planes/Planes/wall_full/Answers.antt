@@ -11,8 +11,8 @@ use Rattle.vox_planes.proofs.planes.Planes.wall_full.Goals as goal
 -- what the row's search says of the walk, at the corners that the code has read
 step : (m : Matrix) (k : Corners) (low high : Coord) (x y : ℕ) (found : Option Coord) → IsOrdered k
     → IsInSpace m.resolution k.high → low ≡ k.low → high ≡ k.high → k.low.x ≤ x → x ≤ k.high.x → low.y ≤ y → y ≤ high.y
-    → found ≡ find (is_full m) (row (record { x = x; y = y; z = low.z }) high.z)
-    → option_or found (find (passes_in k (is_full m)) (coordinates_from m.resolution (place m.resolution (row_start k x (y + 1)))))
+    → found ≡ find (is_full m) (row (record { x = x; y = y; z = low.z }) high.z) → option_or found
+    (find (passes_in k (is_full m)) (coordinates_from m.resolution (place m.resolution (row_start k x (y + 1)))))
     ≡ find (passes_in k (is_full m)) (coordinates_from m.resolution (place m.resolution (row_start k x y)))
 step m k low high x y found o s el eh xl xh yl yh e =
     ap (λ f. option_or f (find (passes_in k (is_full m)) (coordinates_from m.resolution (place m.resolution (row_start k x (y + 1)))))) (e ∙ (λ i. find (is_full m) (row (record { x = x; y = y; z = (el i).z }) (eh i).z)))
