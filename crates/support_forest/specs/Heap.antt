@@ -70,7 +70,7 @@ pub record IsSomeHeap (m : Matrix) (g : Grid) (p : ℕ) : Type 0 where
 abbrev pub AreBits : Matrix → ℕ → ℕ → ℕ → Type 0
 AreBits m from count bits = (k : ℕ) → k < count → bit bits k ≡ voxel_at m (from + k)
 
--- the full ones of some voxels of a row in one brick may be stacked, by their bits: those before them are in the heap or listed
+-- the full ones of these voxels of a row of a brick may be stacked: those before them are in the heap or listed
 pub record CanStackPart (m : Matrix) (g : Grid) (c : Coord) (n word : ℕ) (rest : List Coord) : Type 0 where
   pub brick : c.z % 8 + n ≤ 8
   pub within : IsInSpace m.resolution c
