@@ -1,4 +1,5 @@
--- Bots with nothing in common: what is known of a crew by its members, and what becomes of it where some bots are replaced.
+-- Bots with nothing in common: what is known of a crew by its members, and what becomes of it where some bots are
+-- replaced.
 use Rattle.std.proofs.Common.{◌≡◌, ◌≢◌, ℕ, zero, suc, ◌+◌, ◌<◌, ◌≤◌, refl, sym, ◌∙◌, ap, subst, arith, inl, inr, ◌⊎◌, Bool, true, false, not, ◌==◌, List, [], ◌∷◌, ◌++◌, length, get_or}
 use Rattle.std.specs.Prelude.{All, IsTrue, IsFalse}
 use Rattle.std.specs.List.{list_any}

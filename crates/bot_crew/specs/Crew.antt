@@ -1,4 +1,5 @@
--- What holds of the active bots, and what a command of one or two of them makes of them (docs/FORMATS.md, "State" and "Commands").
+-- What holds of the active bots, and what a command of one or two of them makes of them (docs/FORMATS.md, "State" and
+-- "Commands").
 use Rattle.std.specs.Prelude.{◌≢◌, ℕ, ◌<◌, ◌≤◌, ◌==◌, Bool, ◌&&◌, not, List, ◌++◌, length, filter, find, Option, IsTrue, IsFalse, IsSome, All, AllPairs}
 use Rattle.std.specs.List.{list_any}
 use Rattle.vox_geom.specs.declared.coordinate.Coord.{Coord}

@@ -1,4 +1,5 @@
--- Places of a chunk that follow one another are taken out as room for an array, and put back with one word in each. Assumes `Logic`.
+-- Places of a chunk that follow one another are taken out as room for an array, and put back with one word in each.
+-- Assumes `Logic`.
 use mathlib.Core.Path.{◌≡◌, refl, sym, ap, subst, ◌∙◌}
 use Prim.Native.Nat.{ℕ, zero, suc, ◌+◌, ◌*◌, ◌-◌, ◌^◌, ◌<◌, ◌≤◌}
 use native.Mathlib.Omega.{arith}

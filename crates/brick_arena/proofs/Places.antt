@@ -1,4 +1,5 @@
--- One place of a chunk is taken out of the row, put back, or seen; and room for a chunk is a row of empty places. Assumes `Logic`.
+-- One place of a chunk is taken out of the row, put back, or seen; and room for a chunk is a row of empty places.
+-- Assumes `Logic`.
 use mathlib.Core.Path.{◌≡◌, refl, sym, ap, subst, ◌∙◌}
 use Prim.Native.Nat.{ℕ, zero, suc, ◌+◌, ◌*◌, ◌<◌, ◌≤◌}
 use native.Mathlib.Omega.{arith}

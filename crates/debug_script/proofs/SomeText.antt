@@ -1,5 +1,5 @@
--- The lines of a script print something: each line has an answer in a session whose points are ready and whose begun groups are of
--- leaders of the next step, and it leads to such a session.
+-- The lines of a script print something: each line has an answer in a session whose points are ready and whose begun
+-- groups are of leaders of the next step, and it leads to such a session.
 use Rattle.std.proofs.Common.{◌≡◌, ◌⊎◌, ◌∙◌, ℕ, zero, suc, ◌+◌, ◌-◌, ◌==◌, inl, inr, Bool, true, false, not, List, [], ◌∷◌, ◌++◌, length, take, drop, Some, None, Option, refl, sym, ap, subst}
 use Rattle.std.specs.Prelude.{IsPermutation, MatchBool, MatchOption}
 use Rattle.std.specs.List.{list_any, remove}
@@ -67,7 +67,8 @@ last_of p (q ∷ past) = let last_moment = last_of q past in (p ∷ last_moment.
 abbrev next_broken : List Command → Session → Option Broken
 next_broken commands s = broken s.point.state (next_commands commands s.point) (s.point.steps + 1)
 
--- the points of a session are ready for a step, and what is begun is of leaders of the next one, which then breaks no rule at its start
+-- the points of a session are ready for a step, and what is begun is of leaders of the next one, which then breaks no
+-- rule at its start
 record IsOrderly (commands : List Command) (s : Session) : Type 0 where
   point : IsReady s.point.state
   past : (p : Moment) → In p s.past → IsReady p.state

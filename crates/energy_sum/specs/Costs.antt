@@ -1,4 +1,5 @@
--- What a command costs by the voxels that it meets (task description, section on commands; docs/FORMATS.md, "Commands").
+-- What a command costs by the voxels that it meets (task description, section on commands; docs/FORMATS.md,
+-- "Commands").
 use Rattle.std.specs.Prelude.{ℕ, ◌+◌, ◌*◌, ℤ, pos, negsuc, ◌-ℤ◌, Bool, true, false, cond, ◌&&◌, not, List, ◌++◌, count_by}
 use Rattle.std.specs.List.{list_any}
 use Rattle.vox_geom.specs.declared.coordinate.Coord.{Coord}

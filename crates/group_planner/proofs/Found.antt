@@ -53,7 +53,8 @@ full_begin : (b : Bool) (n : ℕ) → b ≡ true → n % 31 ≡ 0 → one_if (b 
 full_begin b n e f = rw (e, f) refl
 
 module _ (m : Matrix) (x y : ℕ) where
-  -- before a full voxel that comes directly after void ones, or at which no run is cut, a multiple of 31 full ones stand
+  -- before a full voxel that comes directly after void ones, or at which no run is cut, a multiple of 31 full ones
+  -- stand
   at_first : (z first : ℕ) → IsCut m x y z → z ≤ first → IsAll m x y z first false → is_full_at m x y first ≡ true
       → full_before m x y first % 31 ≡ 0
   at_first z first cut l void full = by (cases_lt z first)

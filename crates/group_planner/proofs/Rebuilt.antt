@@ -46,7 +46,8 @@ emptied : (t o : Bool) → t ≡ false → cond (false && t) true (cond (true &&
 emptied t true e = sym e
 emptied t false e = sym e
 
--- where the source was voided from the lowest layer of a difference on, and the target filled from there, the voxels are those of the target
+-- where the source was voided from the lowest layer of a difference on, and the target filled from there, the voxels
+-- are those of the target
 pub alike_target : (s t b d : Matrix) (low : ℕ) → IsLegal t → ((c : Coord) → c.y < low → is_full s c ≡ is_full t c)
     → ((c : Coord) → is_full b c ≡ cond (from_layer low c && is_full s c) false (is_full s c))
     → ((c : Coord) → is_full d c ≡ cond (between_layers low (t.resolution - 1) c && is_full t c) true (is_full b c))

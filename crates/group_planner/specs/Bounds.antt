@@ -1,4 +1,5 @@
--- How many steps and bytes a group plan has at most, by the rows and runs of both models (docs/FORMATS.md, "Printed lines").
+-- How many steps and bytes a group plan has at most, by the rows and runs of both models (docs/FORMATS.md, "Printed
+-- lines").
 use Rattle.std.specs.Prelude.{ℕ, ◌+◌, ◌*◌}
 use Rattle.nano_spec.specs.Matrix.{Matrix}
 use Rattle.group_planner.specs.Rows.{rows, runs}

@@ -57,8 +57,8 @@ pub record PairGoes (old new : TapeState) (a b : Coord) (steps : ℕ) : Type 0 w
   pub steps_are : new.steps ≤ old.steps + steps
   pub spends : Spends old new 0
 
--- both bots may make a move along z in one step: each move is one towards the bot's end, and all of the rear one's way lies before all
--- of the front one's
+-- both bots may make a move along z in one step: each move is one towards the bot's end, and all of the rear one's way
+-- lies before all of the front one's
 pub record MaySlide (behind rear_next rear_to ahead front_next front_to : ℕ) : Type 0 where
   pub rear_differs : behind ≢ rear_next
   pub rear_near : (rear_next ≤ behind + 15) × (behind ≤ rear_next + 15)

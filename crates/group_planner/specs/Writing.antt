@@ -14,7 +14,8 @@ abbrev pub one_below : Bool → Command
 one_below true = Fill down
 one_below false = Void down
 
--- the command that makes the voxels from the one below to another along z full, or else void, together with the other bot
+-- the command that makes the voxels from the one below to another along z full, or else void, together with the other
+-- bot
 abbrev pub all_below : Bool → ℤ → Command
 all_below true z = GFill down (ahead z)
 all_below false z = GVoid down (ahead z)

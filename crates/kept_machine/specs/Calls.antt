@@ -32,7 +32,8 @@ OpensFile bytes profile room answer =
     ((m : Matrix) × (model bytes ≡ Ok m) × Opens m profile room answer)
     ⊎ ((fault : ModelFault) × (answer ≡ Err fault) × ReadsModel (model bytes) (Err fault))
 
--- a step was made of one command for each bot: it leads to the definition's state, and can be taken back as long as it is among the last that are kept
+-- a step was made of one command for each bot: it leads to the definition's state, and can be taken back as long as it
+-- is among the last that are kept
 pub record IsMade (old : Kept) (commands : List Command) (new : Kept) (ok : StepOk) : Type 0 where
   pub some : 1 ≤ length old.state.bots
   pub each : length commands ≡ length old.state.bots
@@ -66,8 +67,8 @@ no_step_of (fault.Broken b) = no_step.Broken b
 no_step_of fault.Memory = no_step.Memory
 no_step_of fault.Spent = no_step.Memory
 
--- the last step is taken back: where the machine stood before it, it stands again, the steps before can be taken back next, and the
--- commands of the bots that are active again are no more in the trace
+-- the last step is taken back: where the machine stood before it, it stands again, the steps before can be taken back
+-- next, and the commands of the bots that are active again are no more in the trace
 pub record IsTakenBack (old new : Kept) : Type 0 where
   pub past : old.past ≡ new.past ++ present new ∷ []
   pub room : new.room ≡ old.room

@@ -9,8 +9,8 @@ use Rattle.step_machine.specs.declared.machine.StepOk.{StepOk}
 use Rattle.kept_machine.specs.Calls.{BeginsTrace, IsMade, IsTakenBack}
 use Rattle.kept_machine.specs.Kept.{Kept, kept_opening}
 
--- calls have led to the machine: it was started, and then keeps its trace, makes a step, takes one back, or is a copy; all other calls,
--- and those that are refused, leave it as it was
+-- calls have led to the machine: it was started, and then keeps its trace, makes a step, takes one back, or is a copy;
+-- all other calls, and those that are refused, leave it as it was
 pub data IsLedTo (source : Matrix) (profile : Profile) : Kept → Type 0 where
   by_start : {k : Kept} (room : ℕ) → k ≡ kept_opening source profile room → IsLedTo source profile k
   by_keep : {k : Kept} (old : Kept) → IsLedTo source profile old → BeginsTrace old k true → IsLedTo source profile k
@@ -20,8 +20,8 @@ pub data IsLedTo (source : Matrix) (profile : Profile) : Kept → Type 0 where
   by_copy : {k : Kept} (old : Kept) → IsLedTo source profile old → k ≡ record old { past = [] }
       → IsLedTo source profile k
 
--- the run of these commands from the source on goes through where the machine stands: whatever follows them, and whatever the target is,
--- the verdict is the one of what follows from there on
+-- the run of these commands from the source on goes through where the machine stands: whatever follows them, and
+-- whatever the target is, the verdict is the one of what follows from there on
 abbrev pub RunsThrough : Matrix → Profile → List Command → Kept → Type 0
 RunsThrough source profile made k =
     (target : Matrix) (rest : List Command) (verdict : Verdict) → Run target k.state rest k.steps verdict

@@ -18,8 +18,8 @@ pub record Instant : Type 0 where
   pub state : State
   pub steps : ℕ
 
--- the state, how many steps were made, where the machine stood before each of the last steps, the last one last, how many of these
--- are kept, and the commands of the steps that were made and not taken back, if they are kept
+-- the state, how many steps were made, where the machine stood before each of the last steps, the last one last, how
+-- many of these are kept, and the commands of the steps that were made and not taken back, if they are kept
 pub record Kept : Type 0 where
   pub state : State
   pub steps : ℕ

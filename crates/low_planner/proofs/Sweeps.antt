@@ -132,7 +132,8 @@ popped m s t last h er ea ends alone trail = record {
 
 -- ---- what was not visited
 
--- a layer of which all that rests was visited, and none is on the trail, has no voxel of a supported part that was not visited
+-- a layer of which all that rests was visited, and none is on the trail, has no voxel of a supported part that was not
+-- visited
 pub none_left : (m : Matrix) (s : Sweep) (y : ℕ) → IsSweep m s
     → ((c : Coord) → c.y ≡ y → IsTrue (rests m c) → is_full s.remaining c ≡ false)
     → ((c : Coord) → c.y ≡ y → Contains s.trail.items c → ⊥) → (c : Coord) → IsSupported m c → c.y ≡ y

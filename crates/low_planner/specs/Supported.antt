@@ -1,5 +1,5 @@
--- Which voxels of a layer are supported. A part is a largest set of full voxels of one layer that are connected within it;
--- a part above the floor is supported where one of its voxels has a full voxel right below it.
+-- Which voxels of a layer are supported. A part is a largest set of full voxels of one layer that are connected within
+-- it; a part above the floor is supported where one of its voxels has a full voxel right below it.
 use Rattle.std.specs.Prelude.{Bool, false, ◌&&◌, ◌||◌, ◌==◌, List, [], ◌∷◌, Option, IsTrue}
 use Rattle.vox_geom.specs.declared.coordinate.Coord.{Coord}
 use Rattle.vox_geom.specs.Point.{are_adjacent, below}
@@ -11,7 +11,8 @@ use Rattle.nano_spec.specs.Matrix.{Matrix, is_full, all_of}
 abbrev pub rests : Matrix → Coord → Bool
 rests m c = c.y == 0 || is_full m (below c)
 
--- whether the list is a path of full coordinates of one layer: each is adjacent to the next, and the last rests on the floor or on a full voxel
+-- whether the list is a path of full coordinates of one layer: each is adjacent to the next, and the last rests on the
+-- floor or on a full voxel
 abbrev pub is_layer_path : Matrix → List Coord → Bool
 is_layer_path m [] = false
 is_layer_path m (a ∷ []) = is_full m a && rests m a
@@ -21,7 +22,8 @@ is_layer_path m (a ∷ b ∷ more) = is_full m a && are_adjacent a b && a.y == b
 abbrev pub is_layer_path_from : Matrix → Coord → List Coord → Bool
 is_layer_path_from m c path = begins_at c path && is_layer_path m path
 
--- the part of a full voxel is supported: a path leads within it from the voxel to one that rests on the floor or on a full voxel
+-- the part of a full voxel is supported: a path leads within it from the voxel to one that rests on the floor or on a
+-- full voxel
 abbrev pub IsSupported : Matrix → Coord → Type 0
 IsSupported m c = (path : List Coord) × IsTrue (is_layer_path_from m c path)
 

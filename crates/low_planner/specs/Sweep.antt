@@ -1,4 +1,5 @@
--- A sweep over a model: which voxels it has not visited, the trail through the part that it visits, and where that part began.
+-- A sweep over a model: which voxels it has not visited, the trail through the part that it visits, and where that part
+-- began.
 use Rattle.std.specs.Prelude.{◌≡◌, ◌≢◌, ℕ, ◌+◌, ◌*◌, ◌<◌, ◌≤◌, false, List, [], ◌∷◌, ◌++◌, IsTrue, Contains, length, Option, Some, None, ◌⊎◌}
 use Rattle.vox_geom.specs.declared.coordinate.Coord.{Coord}
 use Rattle.vox_geom.specs.Point.{are_adjacent}

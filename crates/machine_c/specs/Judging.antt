@@ -8,7 +8,8 @@ use Rattle.machine_c.specs.declared.stepping.StepAnswer.TheVariants.{Made}
 use Rattle.machine_c.specs.declared.told.JudgedTold.{JudgedTold}
 use Rattle.machine_c.specs.Calls.{ComesTo, StepComesTo, bit_of, offset_by, rule_told, status_of_step}
 
--- what a step of commands, or of the bytes of commands, would come to: the same as one that is made, whichever machine that would leave
+-- what a step of commands, or of the bytes of commands, would come to: the same as one that is made, whichever machine
+-- that would leave
 abbrev pub WouldStep : Kept → List Command → StepAnswer → Type 0
 WouldStep k commands answer = (next : Kept) × StepComesTo k commands next answer
 

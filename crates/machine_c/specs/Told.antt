@@ -31,7 +31,8 @@ number_refusal number want have = record { number = number; want = want; have = 
 abbrev pub voxel_refusal : ℕ → Coord → ModelTold
 voxel_refusal number at = record { number = number; want = 0; have = 0; x = at.x; y = at.y; z = at.z }
 
--- a refusal of a model: how many bytes it wants, what it has (the resolution, bytes or voxels, or the index of a run), the voxel
+-- a refusal of a model: how many bytes it wants, what it has (the resolution, bytes or voxels, or the index of a run),
+-- the voxel
 abbrev pub model_told : ModelRefusal → ModelTold
 model_told NoByte = number_refusal 1 0 0
 model_told (Resolution r) = number_refusal 2 0 r

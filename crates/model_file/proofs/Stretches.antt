@@ -1,4 +1,5 @@
--- What lies beside a stretch: the stretches of the four rows around it, its own voxels moved by one, and the ends beside it.
+-- What lies beside a stretch: the stretches of the four rows around it, its own voxels moved by one, and the ends
+-- beside it.
 use Rattle.std.proofs.Common.{◌≡◌, ℕ, zero, suc, ◌+◌, ◌-◌, ◌*◌, ◌/◌, ◌%◌, ◌^◌, ◌<◌, ◌≤◌, refl, sym, ◌∙◌, ap, subst, arith, true, false, ◌==◌, bit_or, max, inl, inr}
 use Rattle.std.specs.Prelude.{◌⊎◌}
 use Rattle.std.specs.Int.{bit_at}

@@ -1,4 +1,5 @@
--- What is answered to the bytes of a model, and to the question whether it is legal (docs/FORMATS.md, "Model files", "Refusals").
+-- What is answered to the bytes of a model, and to the question whether it is legal (docs/FORMATS.md, "Model files",
+-- "Refusals").
 use Rattle.std.specs.Prelude.{◌≡◌, ◌⊎◌, ℕ, Result, Ok, Err, Some, None, ⊤}
 use mathlib.Core.Logic.{inl, inr}
 use Rattle.nano_spec.specs.Legal as legal

@@ -1,4 +1,5 @@
--- A search from the floor: what is left of a matrix, and the voxels that were taken out of it and not yet looked around.
+-- A search from the floor: what is left of a matrix, and the voxels that were taken out of it and not yet looked
+-- around.
 use Rattle.std.specs.Prelude.{◌≡◌, ◌⊎◌, ℕ, zero, suc, ◌+◌, ◌-◌, ◌*◌, ◌%◌, ◌<◌, ◌≤◌, Bool, true, false, cond, IsTrue, length, Contains}
 use Rattle.vox_geom.specs.declared.coordinate.Coord.{Coord}
 use Rattle.vox_geom.specs.Point.{are_adjacent}
@@ -92,7 +93,8 @@ pub record AreOut (m left : Matrix) (first : Coord) (bits : ℕ) : Type 0 where
   pub out : (c : Coord) → IsAmong (record { first = first; bits = bits }) c → IsTaken m left c
   pub all : (c : Coord) → IsNextTo first c → IsTaken m left c → IsAmong (record { first = first; bits = bits }) c
 
--- the search looked around those voxels of an area that were out: what it took is grounded, and nothing beside them is left
+-- the search looked around those voxels of an area that were out: what it took is grounded, and nothing beside them is
+-- left
 pub record LooksAround (m : Matrix) (area : Coord → Type 0) (old new : Flood) : Type 0 where
   pub takes : TakesOut (Grounded m) old new
   pub bare : (c d : Coord) → area c → IsTaken m old.remaining c → IsTrue (are_adjacent c d)

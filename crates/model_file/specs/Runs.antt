@@ -1,4 +1,5 @@
--- What is answered to the runs of the wide form, and what has become of the matrix (docs/FORMATS.md, "Model files", "The wide form").
+-- What is answered to the runs of the wide form, and what has become of the matrix (docs/FORMATS.md, "Model files",
+-- "The wide form").
 use Rattle.std.specs.Prelude.{◌≡◌, ℕ, ◌++◌, Bool, List, Result, Ok, Err, flat_map}
 use Rattle.nano_spec.specs.Matrix.{Matrix}
 use Rattle.nano_spec.specs.Model.{four_bytes, of_runs, run_lengths, runs_in, volume}

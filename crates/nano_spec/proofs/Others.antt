@@ -1,4 +1,5 @@
--- Worked examples of the forge, of steps whose groups act one after another, of work, of paths and of names, each by computing.
+-- Worked examples of the forge, of steps whose groups act one after another, of work, of paths and of names, each by
+-- computing.
 use Rattle.std.proofs.Common.{refl, ◌<◌, arith, List, [], ◌∷◌, length}
 use Rattle.std.specs.Prelude.{IsTrue}
 use Rattle.vox_geom.specs.declared.coordinate.Coord.{Coord}

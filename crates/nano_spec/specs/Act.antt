@@ -1,4 +1,5 @@
--- What a bot does in a step: the points and regions that its command names (task description, section on commands; docs/FORMATS.md, "Commands").
+-- What a bot does in a step: the points and regions that its command names (task description, section on commands;
+-- docs/FORMATS.md, "Commands").
 use Rattle.std.specs.Prelude.{ℕ, Bool, true, false, List, [], ◌∷◌}
 use Rattle.std.specs.List.{list_all}
 use Rattle.vox_geom.specs.declared.difference.Diff.{Diff}

@@ -44,7 +44,8 @@ line_of_tallest number r =
 abbrev pub is_inner : ℕ → Coord → Bool
 is_inner r c = nat_le 1 c.x && nat_lt (c.x + 1) r && nat_le 1 c.z && nat_lt (c.z + 1) r
 
--- the columns up to their heights, and on the layer of the greatest height t the lines of even x and the line z0, which join them
+-- the columns up to their heights, and on the layer of the greatest height t the lines of even x and the line z0, which
+-- join them
 abbrev pub forged_by : ℕ → ℕ → ℕ → ℕ → Matrix
 forged_by number r t z0 =
     matrix_where r

@@ -1,4 +1,5 @@
--- The groups of a step: bots that act together (task description, sections on fusion and on group commands; docs/FORMATS.md, "Groups").
+-- The groups of a step: bots that act together (task description, sections on fusion and on group commands;
+-- docs/FORMATS.md, "Groups").
 use Rattle.std.specs.Prelude.{Bool, false, ◌&&◌, ◌||◌, nat_le, ◌==◌, List, filter}
 use Rattle.std.specs.List.{list_all}
 use Rattle.vox_geom.specs.Point.{Point, plus, same_point}

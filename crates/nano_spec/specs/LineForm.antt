@@ -1,4 +1,5 @@
--- All ways to read a line of text by a form, and the words, with the form of what follows each and what it says (docs/FORMATS.md, "Trace text").
+-- All ways to read a line of text by a form, and the words, with the form of what follows each and what it says
+-- (docs/FORMATS.md, "Trace text").
 use Prim.Native.String.{String}
 use Rattle.std.specs.Prelude.{ℕ, zero, suc, ◌+◌, ◌*◌, ◌-◌, ℤ, pos, negsuc, neg_ℤ, Bool, cond, ◌&&◌, ◌||◌, nat_le, ◌==◌, List, [], ◌∷◌, ◌++◌, map, flat_map, codes, slice_index_or, Option, Some, None, option_map}
 use Rattle.vox_geom.specs.declared.difference.Diff.{Diff}
@@ -79,7 +80,8 @@ abbrev pub natural : ℤ → Option ℕ
 natural (pos n) = Some n
 natural (negsuc n) = None
 
--- a word: how it is written, the form of what follows it, and the command of the numbers that stand there, if they give one
+-- a word: how it is written, the form of what follows it, and the command of the numbers that stand there, if they give
+-- one
 pub record Word : Type 0 where
   pub letters : List ℕ
   pub form : List Part

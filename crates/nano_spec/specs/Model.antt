@@ -6,8 +6,8 @@ use Rattle.nano_spec.specs.First.{with_first}
 use Rattle.nano_spec.specs.Matrix.{Matrix}
 
 -- why bytes are no model. In the first form: no byte; a resolution that is not 1 to 250; fewer bytes than wanted; more.
--- In the wide form: fewer than three bytes; a resolution that is not 251 to 400; a run that is 0 or too long, by its index;
--- no whole run where voxels are wanting, by the number of voxels before; bytes after the last voxel
+-- In the wide form: fewer than three bytes; a resolution that is not 251 to 400; a run that is 0 or too long, by its
+-- index; no whole run where voxels are wanting, by the number of voxels before; bytes after the last voxel
 pub data NoModel : Type 0 where
   NoByte : NoModel
   Resolution : ℕ → NoModel
@@ -61,7 +61,8 @@ is_no_run total index sum run = (nat_lt 0 index && run == 0) || nat_lt total (su
 abbrev pub number_of_four : ℕ → ℕ → ℕ → ℕ → ℕ
 number_of_four a b c d = ((a * 256 + b) * 256 + c) * 256 + d
 
--- the runs in the bytes from the run of an index on, with this sum of the runs before it; they are taken while the sum is below the total
+-- the runs in the bytes from the run of an index on, with this sum of the runs before it; they are taken while the sum
+-- is below the total
 abbrev pub runs_in : ℕ → ℕ → ℕ → List ℕ → Result (List ℕ) NoModel
 runs_in total index sum (a ∷ b ∷ c ∷ d ∷ more) =
     elim (nat_lt sum total) [

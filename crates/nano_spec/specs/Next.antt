@@ -1,4 +1,5 @@
--- What comes of a step: a broken rule or the next state (task description, section on execution; docs/FORMATS.md, "Rules").
+-- What comes of a step: a broken rule or the next state (task description, section on execution; docs/FORMATS.md,
+-- "Rules").
 use Rattle.std.specs.Prelude.{◌≡◌, ℕ, List, Some, None}
 use Rattle.vox_geom.specs.declared.coordinate.Coord.{Coord}
 use Rattle.nano_spec.specs.declared.commands.Command.{Command}

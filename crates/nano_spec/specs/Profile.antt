@@ -1,4 +1,5 @@
--- The profiles: how many seeds the first bot has, and which commands are allowed (the light profile is this project's own: docs/FORMATS.md, "Profiles").
+-- The profiles: how many seeds the first bot has, and which commands are allowed (the light profile is this project's
+-- own: docs/FORMATS.md, "Profiles").
 use Rattle.std.specs.Prelude.{ℕ, ◌/◌, ◌%◌, ◌^◌, ◌==◌, Bool}
 use Rattle.nano_spec.specs.declared.commands.Command.{Command}
 use Rattle.nano_spec.specs.declared.commands.Command.TheVariants.{Halt, Wait, Flip, SMove, LMove, FusionP, FusionS, Fission, Fill, Void, GFill, GVoid}

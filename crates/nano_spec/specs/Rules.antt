@@ -38,7 +38,8 @@ abbrev pub repeats : List Point → Bool
 repeats [] = false
 repeats (p ∷ more) = list_any (same_point p) more || repeats more
 
--- whether the bots that fill or void a region together are not as many as it has corners, or two of them are at one corner
+-- whether the bots that fill or void a region together are not as many as it has corners, or two of them are at one
+-- corner
 abbrev pub fit_badly : List Act → Span → Bool
 fit_badly group region =
     not (length group == 2 ^ dimension region) || repeats (flat_map (λ b. corners_of (position b) b.command) group)

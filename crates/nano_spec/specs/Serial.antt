@@ -1,4 +1,5 @@
--- The groups of a step one after another, in some order of their leaders: each meets the state that those before it leave (docs/FORMATS.md, "Groups").
+-- The groups of a step one after another, in some order of their leaders: each meets the state that those before it
+-- leave (docs/FORMATS.md, "Groups").
 use Rattle.std.specs.Prelude.{ℕ, ◌+ℤ◌, Bool, cond, ◌&&◌, not, ◌==◌, List, [], ◌∷◌, ◌++◌, map, filter, find, flat_map, unwrap_or, Option, Some, None, is_none}
 use Rattle.std.specs.List.{list_all, list_any}
 use Rattle.nano_spec.specs.declared.commands.Command.{Command}
@@ -42,7 +43,8 @@ after_group s group = record {
   profile = s.profile;
 }
 
--- the state after the groups of some leaders, one after another; none where a group breaks a rule in the state that it meets
+-- the state after the groups of some leaders, one after another; none where a group breaks a rule in the state that it
+-- meets
 abbrev pub in_turn : State → List Act → List Act → Option State
 in_turn s all [] = Some s
 in_turn s all (leader ∷ more) =

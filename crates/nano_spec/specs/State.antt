@@ -9,7 +9,8 @@ use Rattle.nano_spec.specs.declared.system.Profile.{Profile}
 use Rattle.nano_spec.specs.Grounded.{FirstUngrounded}
 use Rattle.nano_spec.specs.Matrix.{Matrix, is_full}
 
--- the matrix, the harmonics, the active bots in rising order of their bids, the energy, and the profile, which no step changes
+-- the matrix, the harmonics, the active bots in rising order of their bids, the energy, and the profile, which no step
+-- changes
 pub record State : Type 0 where
   pub matrix : Matrix
   pub harmonics : Harmonics
@@ -69,9 +70,9 @@ pub record IsWellFormed (s : State) : Type 0 where
   -- no bot has an active bid as a seed
   pub unborn : All (λ a. All (λ b. IsFalse (is_seed a.seeds b.bid)) s.bots) s.bots
 
--- a state is ready for a step: its matrix is whole, and its bots stand in space, in rising order of their bids, with nothing in common.
--- A ready state is well-formed where it is grounded under Low and its bots stand in void voxels; a well-formed one is ready where its
--- matrix is whole, its bots stand in space and their bids rise
+-- a state is ready for a step: its matrix is whole, and its bots stand in space, in rising order of their bids, with
+-- nothing in common. A ready state is well-formed where it is grounded under Low and its bots stand in void voxels; a
+-- well-formed one is ready where its matrix is whole, its bots stand in space and their bids rise
 pub record IsReady (s : State) : Type 0 where
   -- the matrix has a voxel for each of its coordinates
   pub whole : length s.matrix.voxels ≡ s.matrix.resolution * s.matrix.resolution * s.matrix.resolution

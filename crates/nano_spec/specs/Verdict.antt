@@ -1,4 +1,5 @@
--- What comes of a run (task description, section on execution; that commands after the Halt are refused is this project's own: docs/FORMATS.md, "Rules").
+-- What comes of a run (task description, section on execution; that commands after the Halt are refused is this
+-- project's own: docs/FORMATS.md, "Rules").
 use Rattle.std.specs.Prelude.{◌≡◌, ℕ, ◌+◌, ℤ, List, [], ◌∷◌, length, take, drop, find, Option, Some, None}
 use Rattle.vox_geom.specs.declared.coordinate.Coord.{Coord}
 use Rattle.nano_spec.specs.declared.commands.Command.{Command}

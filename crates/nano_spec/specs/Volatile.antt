@@ -1,4 +1,5 @@
--- The volatile coordinates of a group (task description, section on commands; docs/FORMATS.md, "Commands" and "Groups").
+-- The volatile coordinates of a group (task description, section on commands; docs/FORMATS.md, "Commands" and
+-- "Groups").
 use Rattle.std.specs.Prelude.{Bool, List, [], ◌∷◌}
 use Rattle.std.specs.List.{list_any}
 use Rattle.vox_geom.specs.Point.{Point, plus}

@@ -1,4 +1,5 @@
--- The work of a run: a number that bounds how often voxels are touched (this project's own: docs/FORMATS.md, "Levels and work").
+-- The work of a run: a number that bounds how often voxels are touched (this project's own: docs/FORMATS.md, "Levels
+-- and work").
 use Rattle.std.specs.Prelude.{◌≡◌, ℕ, ◌+◌, Bool, true, false, ◌&&◌, not, ◌==◌, cond, List, [], ◌∷◌, length, take, drop, map, filter, sum, count_by, Option, Some, None}
 use Rattle.std.specs.List.{list_any}
 use Rattle.vox_geom.specs.declared.coordinate.Coord.{Coord}
@@ -69,14 +70,15 @@ pub record LevelsOfStep (m : Matrix) (all : List Act) : Type 0 where
   pub between_are : Levels (without_voided m all) between
   pub afterwards_are : Levels (matrix_after m all) afterwards
 
--- n is the work of acts that break none of the rules that are judged at a step's start: the volatile coordinates, the voxels that
--- change, those whose levels change by what is voided, and those whose levels change then by what is filled
+-- n is the work of acts that break none of the rules that are judged at a step's start: the volatile coordinates, the
+-- voxels that change, those whose levels change by what is voided, and those whose levels change then by what is filled
 abbrev pub WorkOfActs : Matrix → List Act → ℕ → Type 0
 WorkOfActs m all n =
     (levels : LevelsOfStep m all) × (n ≡ volatile_total m all + changed_count m (matrix_after m all)
     + differing levels.before levels.between + differing levels.between levels.afterwards)
 
--- the work of a step that is broken by a rule that is judged at its start: none where the trace ends, and else the volatile coordinates
+-- the work of a step that is broken by a rule that is judged at its start: none where the trace ends, and else the
+-- volatile coordinates
 abbrev pub work_by_rule : Matrix → List Act → Rule → ℕ
 work_by_rule m all TraceEnds = 0
 work_by_rule m all _ = volatile_total m all
@@ -90,7 +92,8 @@ WorkOfJudged s all (Some b) n = n ≡ work_by_rule s.matrix all b.rule
 abbrev pub WorkOfStep : State → List Command → ℕ → ℕ → Type 0
 WorkOfStep s commands step n = WorkOfJudged s (acts s.bots commands) (broken s commands step) n
 
--- n is the sum of the work of the steps that are made from a state on, after this many steps, with the step that is broken, if one is
+-- n is the sum of the work of the steps that are made from a state on, after this many steps, with the step that is
+-- broken, if one is
 pub data WorkFrom : State → List Command → ℕ → ℕ → Type 0 where
   rests : {s : State} {commands : List Command} {steps : ℕ} → s.bots ≡ [] → WorkFrom s commands steps 0
   stops : {s : State} {commands : List Command} {steps n : ℕ} {bot : Bot} {bots : List Bot} (b : Broken)

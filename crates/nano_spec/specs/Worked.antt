@@ -61,7 +61,8 @@ two_voxels = hex "04 00 00 22 00 00 00 00 00"
 abbrev pub a_line : List ℕ
 a_line = hex "05 00 00 00 1C 00 00 00 00 00 00 00 00 00 00 00 00"
 
--- at resolution 5 a ring of eight voxels at y = 1 round (2,1,2), on the post (1,0,1), on that and the post (3,0,3), and on the latter alone
+-- at resolution 5 a ring of eight voxels at y = 1 round (2,1,2), on the post (1,0,1), on that and the post (3,0,3), and
+-- on the latter alone
 abbrev pub ring_on_a_post : List ℕ
 ring_on_a_post = hex "05 00 00 00 84 03 00 00 05 00 00 0E 00 00 00 00 00"
 

@@ -1,4 +1,5 @@
--- Worked examples of the forge, of steps whose groups act one after another, of work, of paths, of states, and of names.
+-- Worked examples of the forge, of steps whose groups act one after another, of work, of paths, of states, and of
+-- names.
 use Rattle.std.specs.Prelude.{◌≡◌, ℕ, ◌^◌, true, false, pos, List, [], ◌∷◌, ◌++◌, map, filter, flat_map, take, codes, Some, None}
 use Rattle.std.specs.List.{list_all}
 use Rattle.vox_geom.specs.declared.coordinate.Coord.{Coord}
@@ -100,19 +101,19 @@ pub record WorkedWork : Type 0 where
       Work (voxels_at 5 (coord 1 0 1 ∷ ring)) (Void (diff (pos 1) (pos 0) (pos 1)) ∷ Halt ∷ []) full_profile 8
   -- a command that leaves space has no volatile coordinate
   pub work_of_a_command_out_of_space : Work (empty 3) (SMove (diff (below_zero 1) (pos 0) (pos 0)) ∷ []) full_profile 0
-  -- two bots would fill a line of two voxels from one corner: two volatile coordinates for the Fission, and then once four
-  -- for the whole group
+  -- two bots would fill a line of two voxels from one corner: two volatile coordinates for the Fission, and then once
+  -- four for the whole group
   pub work_of_a_refused_group : Work (empty 3)
       (Fission (diff (pos 0) (pos 0) (pos 1)) 0 ∷ GFill (diff (pos 1) (pos 0) (pos 1)) (diff (pos 0) (pos 0) (pos 1))
       ∷ GFill (diff (pos 1) (pos 0) (pos 0)) (diff (pos 0) (pos 0) (pos 1)) ∷ []) full_profile 6
-  -- two voxels above the floor on a post, which one bot voids while another bot fills a post below the other of them: two volatile
-  -- coordinates for the Fission, and then four, two voxels that change, three whose levels change by what is voided, and three by
-  -- what is filled
+  -- two voxels above the floor on a post, which one bot voids while another bot fills a post below the other of them:
+  -- two volatile coordinates for the Fission, and then four, two voxels that change, three whose levels change by what
+  -- is voided, and three by what is filled
   pub work_of_another_post : Work (voxels_at 4 (coord 1 0 1 ∷ coord 1 1 1 ∷ coord 1 1 2 ∷ []))
       (Fission (diff (pos 0) (pos 0) (pos 1)) 0 ∷ Void (diff (pos 1) (pos 0) (pos 1))
       ∷ Fill (diff (pos 1) (pos 0) (pos 1)) ∷ []) full_profile 14
-  -- a post is voided and the voxel above it floats, so that the step is refused: its work is two volatile coordinates, one voxel that
-  -- changes, and two whose levels change
+  -- a post is voided and the voxel above it floats, so that the step is refused: its work is two volatile coordinates,
+  -- one voxel that changes, and two whose levels change
   pub work_of_a_floating_voxel :
       Work (voxels_at 3 (coord 1 0 1 ∷ coord 1 1 1 ∷ [])) (Void (diff (pos 1) (pos 0) (pos 1)) ∷ []) full_profile 5
 

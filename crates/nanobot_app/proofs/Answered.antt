@@ -1,4 +1,5 @@
--- What is answered to a row: one reply, or replies of one status where it asks for a plan, and some reply where it asks for none.
+-- What is answered to a row: one reply, or replies of one status where it asks for a plan, and some reply where it asks
+-- for none.
 use Rattle.std.proofs.Common.{◌≡◌, ℕ, ◌≤◌, List, Option, Some, None, refl, sym, ap, ◌∙◌, subst, length}
 use Rattle.std.specs.Prelude.{Ok, Err, MatchResult, IsSomeAnd, ⊤}
 use Rattle.nano_spec.specs.declared.commands.Command.{Command}

@@ -15,13 +15,15 @@ use Rattle.nanobot_rows.specs.Models.{AreModels}
 use Rattle.nanobot_rows.specs.Lines.{accepted_line}
 use Rattle.nanobot_words.specs.Rows.{HasName}
 
--- the machine of the definitions takes the whole trace from the one model to the other, to a halt, with this energy in so many steps
+-- the machine of the definitions takes the whole trace from the one model to the other, to a halt, with this energy in
+-- so many steps
 abbrev pub TakesBytes : Matrix → Matrix → List ℕ → ℤ → ℕ → Type 0
 TakesBytes source target bytes energy steps =
     (length bytes ≤ run_limit) × ((commands : List Command) × Cutting bytes commands
     × VerdictOf source target commands full_profile (Accepted energy steps))
 
--- the same of files: one model at least has a file, both are legal and of one resolution, and the file of the trace is not too long
+-- the same of files: one model at least has a file, both are legal and of one resolution, and the file of the trace is
+-- not too long
 pub record MachineTakes (files : Files) (source target : Option (List ℕ)) (trace : List ℕ) (energy : ℤ) (steps : ℕ)
     : Type 0 where
   pub named : HasName source target

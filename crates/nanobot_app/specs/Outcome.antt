@@ -62,7 +62,8 @@ LacksFile answers old =
 abbrev pub CanBeDone : Answers → Outside → Type 0
 CanBeDone answers old = IfSome old.files (λ files. (reply : Reply) × answers files reply × (reply.status ≡ is.Done))
 
--- a file could not be stored: its store failed where the call can be done, and all files but the one that is stored then are as they were
+-- a file could not be stored: its store failed where the call can be done, and all files but the one that is stored
+-- then are as they were
 pub record LosesFile (answers : Answers) (stores : List ℕ → Type 0) (old new : Outside) : Type 0 where
   pub failed : StoreFailed old new
   pub done : CanBeDone answers old

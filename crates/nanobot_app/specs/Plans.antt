@@ -15,7 +15,8 @@ PlansAsLight Low = ⊤
 PlansAsLight Swarm = ⊤
 PlansAsLight planner = ⊥
 
--- the reply tells of a plan, and a run in the round over the files that are left answers 0 with its energy and its steps
+-- the reply tells of a plan, and a run in the round over the files that are left answers 0 with its energy and its
+-- steps
 pub record IsRunOfPlan (round : Round) (source target : Option (List ℕ)) (trace : List ℕ) (reply : Reply) : Type 0 where
   pub energy : ℤ
   pub steps : ℕ

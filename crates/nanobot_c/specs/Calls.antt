@@ -57,7 +57,8 @@ GaveFileOf name row files old new size result = (reply : Reply) × AnswerOf row 
 abbrev pub GavePlanOf : Row → Files → List ℕ → List ℕ → ℕ → ℕ → Type 0
 GavePlanOf row files old new size result = GaveFileOf plan_name row files old new size result
 
--- the answer of a planner between two models was given, of which one at least has bytes; or there was no memory, and nothing was
+-- the answer of a planner between two models was given, of which one at least has bytes; or there was no memory, and
+-- nothing was
 pub record GivesPlanBetween (planner : Planner) (source target old new : List ℕ) (size result : ℕ) : Type 0 where
   pub answer : HasModel source target → (IsMemory result → ⊥)
       → GavePlanOf (plan planner (source_side source) (target_side target) plan_name) (lent source target [])

@@ -13,7 +13,8 @@ IsDone result = result ≡ code_of is.Done
 abbrev pub IsMemory : ℕ → Type 0
 IsMemory result = result ≡ code_of is.Memory
 
--- these bytes with this status: they stand at the front of the buffer; or they are more than it takes, and it is as it was; their number is told
+-- these bytes with this status: they stand at the front of the buffer; or they are more than it takes, and it is as it
+-- was; their number is told
 pub record Gave (status : ℕ) (bytes old new : List ℕ) (size result : ℕ) : Type 0 where
   pub told : size ≡ length bytes
   pub fits : length bytes ≤ length old → (result ≡ status) × (new ≡ bytes ++ drop (length bytes) old)

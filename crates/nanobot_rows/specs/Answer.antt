@@ -1,4 +1,5 @@
--- What is answered to the words over known files: a status, a line and the files afterwards (docs/FORMATS.md, "Printed lines").
+-- What is answered to the words over known files: a status, a line and the files afterwards (docs/FORMATS.md, "Printed
+-- lines").
 use Rattle.std.specs.Prelude.{◌≡◌, ◌⊎◌, ℕ, ◌+◌, ℤ, nat_lt, ◌==◌, List, [], length, Option, Some, None, ok_or, Result, Ok, Err, MatchOption, MatchBool, MatchResult, ⊤}
 use Rattle.std.specs.Result.{result_map_both}
 use Rattle.std.specs.FinMap as finite
@@ -110,7 +111,8 @@ abbrev pub ModelOf : Who → List ℕ → Finding Matrix
 ModelOf who name =
     With (FileOf name) (λ bytes. With (OfResult is.Model (no_model_line who) (model bytes)) (LegalOf who))
 
--- the models of a source and a target, of one resolution: by `None` it has no file, and is the empty model of the other's
+-- the models of a source and a target, of one resolution: by `None` it has no file, and is the empty model of the
+-- other's
 abbrev pub ModelsOf : Option (List ℕ) → Option (List ℕ) → Finding (Matrix × Matrix)
 ModelsOf None None files found = ⊥
 ModelsOf (Some source) None files found =
@@ -182,8 +184,8 @@ facts_of Swarm = IsSwarmPlan
 abbrev pub group_limit : ℕ
 group_limit = 1073741824
 
--- that the planner makes a plan: a group plan may be too long, by the runs and rows of both models, and a part of a low plan's target may be
--- unsupported
+-- that the planner makes a plan: a group plan may be too long, by the runs and rows of both models, and a part of a low
+-- plan's target may be unsupported
 abbrev pub CanPlan : Planner → Matrix → Matrix → Finding ⊤
 CanPlan Group source target files found =
     MatchBool (nat_lt group_limit (group.most_bytes source target))

@@ -65,8 +65,9 @@ of_trace trace.Memory = stop.Memory
 abbrev pub end_of : Report → Status × List ℕ
 end_of report = (status_of report, report_line report)
 
--- what a call that reads files comes to: where files are told, X finds its value there, or the report that ends it; a stop without a report comes
--- where the depot failed or, where files are told, a file is not there, or for want of memory
+-- what a call that reads files comes to: where files are told, X finds its value there, or the report that ends it; a
+-- stop without a report comes where the depot failed or, where files are told, a file is not there, or for want of
+-- memory
 abbrev pub Finds : {A : Type 0} → Finding A → Option Files → Type 0 → Result A Stop → Type 0
 Finds X told rose (Ok a) = IfSome told (λ files. X files (Ok a))
 Finds X told rose (Err (stop.Told report)) = IfSome told (λ files. X files (Err (end_of report)))

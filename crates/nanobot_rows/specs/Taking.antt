@@ -11,8 +11,8 @@ use Rattle.trace_codec.specs.declared.decoder.Fed.TheVariants.{Got, All, Bad}
 use Rattle.nanobot_rows.specs.Reading.{HasRun, RunState}
 use Rattle.nanobot_rows.specs.Touching.{HasPaid}
 
--- a run takes the bytes, with voxels touched so often until it began and until it ended: whatever it was a run of, it is then one of these
--- bytes more, and the work of their commands pays for the touches
+-- a run takes the bytes, with voxels touched so often until it began and until it ended: whatever it was a run of, it
+-- is then one of these bytes more, and the work of their commands pays for the touches
 pub record Takes (old : RunState) (bytes : List ℕ) (new : RunState) (began ended : ℕ) : Type 0 where
   pub run : (source : Matrix) (profile : Profile) (before : List ℕ) → HasRun source profile before old
       → HasRun source profile (before ++ bytes) new

@@ -26,8 +26,8 @@ pub record BeginWith (bytes : List ℕ) (commands : List Command) : Type 0 where
   pub rest : List ℕ
   pub bytes_are : bytes ≡ spellings commands ++ rest
 
--- from before to after there are at most a hundred touches for each voxel of the source and for each part of a work: of that of the longest
--- front of the trace, and of that of commands that the trace begins with
+-- from before to after there are at most a hundred touches for each voxel of the source and for each part of a work: of
+-- that of the longest front of the trace, and of that of commands that the trace begins with
 pub record IsWithinTrace (profile : Profile) (source : Matrix) (bytes : List ℕ) (before after : ℕ) : Type 0 where
   pub longest : (commands : List Command) → AreInFront bytes commands
       → IsWithinWorkOfRun source commands profile before after

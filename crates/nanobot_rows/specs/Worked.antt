@@ -1,4 +1,5 @@
--- Worked examples of what is told: statuses and lines, limits, and numbers that plans are bounded by (docs/FORMATS.md, "Printed lines").
+-- Worked examples of what is told: statuses and lines, limits, and numbers that plans are bounded by (docs/FORMATS.md,
+-- "Printed lines").
 use Rattle.std.specs.Prelude.{◌≡◌, ℕ, ◌*◌, ◌^◌, pos, negsuc, List, [], ◌∷◌, codes}
 use Rattle.vox_geom.specs.Point.{coord}
 use Rattle.nano_spec.specs.declared.outcomes.Rule.TheVariants.{HaltLow, Ungrounded, Forbidden}

@@ -1,4 +1,5 @@
--- The table of words: each row as the words that it is written with (this project's own: docs/FORMATS.md, "Printed lines").
+-- The table of words: each row as the words that it is written with (this project's own: docs/FORMATS.md, "Printed
+-- lines").
 use Rattle.std.specs.Prelude.{◌≡◌, ◌≢◌, ◌<◌, ◌≤◌, ◌^◌, ℕ, List, [], ◌∷◌, map, codes, decimal, Option, Some, None, String, string_bytes, All, ⊤}
 use Rattle.vox_geom.specs.declared.TheConstants.{MOST_R}
 use Rattle.nanobot_words.specs.declared.planner.Planner.{Planner}

@@ -1,4 +1,5 @@
--- Worked examples of the table of words: how rows are written, which files they read and store, and which sides planners take (docs/FORMATS.md, "Printed lines").
+-- Worked examples of the table of words: how rows are written, which files they read and store, and which sides
+-- planners take (docs/FORMATS.md, "Printed lines").
 use Rattle.std.specs.Prelude.{◌≡◌, [], ◌∷◌, codes, Some, None}
 use Rattle.nanobot_words.specs.declared.planner.Planner.TheVariants.{Layer, Group, Crew, Void, Low, Swarm}
 use Rattle.nanobot_words.specs.declared.row.Round.TheVariants.{Full, Light}

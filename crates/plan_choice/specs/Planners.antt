@@ -21,8 +21,8 @@ use Rattle.void_planner.specs.Bounds as void
 abbrev pub PlanFacts : Type 1
 PlanFacts = Matrix → Matrix → List Command → ℤ → ℕ → Type 0
 
--- every plan: the definitions accept the commands from the one model to the other with this energy in so many steps, by the profile at most so
--- many bots are active at once, and where both models are the same, it is a Halt alone
+-- every plan: the definitions accept the commands from the one model to the other with this energy in so many steps, by
+-- the profile at most so many bots are active at once, and where both models are the same, it is a Halt alone
 pub record IsPlan (profile : Profile) (most : ℕ) (source target : Matrix) (commands : List Command) (energy : ℤ)
     (steps : ℕ) : Type 0 where
   pub are_commands : AreCommands commands
@@ -40,23 +40,24 @@ pub record IsVoidPlan (source target : Matrix) (commands : List Command) (energy
   pub plan : IsPlan full_profile 4 source target commands energy steps
   pub few_steps : steps ≤ void.most_void_steps source.resolution
 
--- a plan of the group planner, of two bots at most: steps, commands and bytes are few, by the runs and rows of both models
+-- a plan of the group planner, of two bots at most: steps, commands and bytes are few, by the runs and rows of both
+-- models
 pub record IsGroupPlan (source target : Matrix) (commands : List Command) (energy : ℤ) (steps : ℕ) : Type 0 where
   pub plan : IsPlan full_profile 2 source target commands energy steps
   pub few_steps : steps ≤ group.most_group_steps source target
   pub few_commands : length commands ≤ 2 * group.most_group_steps source target
   pub few_bytes : length (spellings commands) ≤ group.most_bytes source target
 
--- a plan of the low planner, of one bot, from the empty model: the light profile takes it too, none of its commands is a Flip, a Fission or
--- one of a group, and its steps are few
+-- a plan of the low planner, of one bot, from the empty model: the light profile takes it too, none of its commands is
+-- a Flip, a Fission or one of a group, and its steps are few
 pub record IsLowPlan (source target : Matrix) (commands : List Command) (energy : ℤ) (steps : ℕ) : Type 0 where
   pub plan : IsPlan light_profile 1 source target commands energy steps
   pub accepted_as_light : VerdictOf source target commands light_profile (verdict.Accepted energy steps)
   pub plain : All low.IsPlain commands
   pub few_steps : steps ≤ 4 * full_count target + volume target.resolution + 200
 
--- a plan of the swarm planner, of twenty bots at most, from the empty model: the light profile takes it too, and its steps are few, by the
--- width of the widest strip
+-- a plan of the swarm planner, of twenty bots at most, from the empty model: the light profile takes it too, and its
+-- steps are few, by the width of the widest strip
 pub record IsSwarmPlan (source target : Matrix) (commands : List Command) (energy : ℤ) (steps : ℕ) : Type 0 where
   pub plan : IsPlan light_profile 20 source target commands energy steps
   pub accepted_as_light : VerdictOf source target commands light_profile (verdict.Accepted energy steps)
@@ -72,8 +73,9 @@ abbrev pub IsNoDearer : PlanFacts → Matrix → Matrix → ℤ → Type 0
 IsNoDearer Is source target energy =
     (commands : List Command) × (paid : ℤ) × (steps : ℕ) × Is source target commands paid steps × (energy ≤ℤ paid)
 
--- a plan of the crew, of forty bots at most: its spellings are no longer than a trace that is run, and each other planner that makes plans of
--- such models has one that costs no less: of any models, of any whose group plan is not too long, to the empty model, or from it
+-- a plan of the crew, of forty bots at most: its spellings are no longer than a trace that is run, and each other
+-- planner that makes plans of such models has one that costs no less: of any models, of any whose group plan is not too
+-- long, to the empty model, or from it
 pub record IsCrewPlan (source target : Matrix) (commands : List Command) (energy : ℤ) (steps : ℕ) : Type 0 where
   pub plan : IsPlan full_profile 40 source target commands energy steps
   pub few_bytes : length (spellings commands) ≤ crew_limit

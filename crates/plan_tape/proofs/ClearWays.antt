@@ -1,4 +1,5 @@
--- Ways along which all is void, which are free, how many moves they take, the ways home of a legal model, and that High asks for no grounding.
+-- Ways along which all is void, which are free, how many moves they take, the ways home of a legal model, and that High
+-- asks for no grounding.
 use Rattle.std.proofs.Common.{◌≡◌, ◌⊎◌, inl, inr, ℕ, ◌+◌, ◌≤◌, sym, ◌∙◌, subst, arith, Bool, false, ◌&&◌}
 use Rattle.std.specs.Prelude.{pos, IsTrue}
 use Rattle.vox_geom.specs.declared.coordinate.Coord.{Coord}
@@ -87,7 +88,8 @@ moves_most r a b l i j =
 
 -- ---- ways home
 
--- where all is void from the height of the one coordinate on, or it is at the border of x, the ways from there to the border and along it are void
+-- where all is void from the height of the one coordinate on, or it is at the border of x, the ways from there to the
+-- border and along it are void
 pub ways_home : (m : Matrix) (a b : Coord) → IsLegal m → IsVoidFrom m a.y ⊎ (a.x ≡ 0) → b.x ≡ 0 → AreVoidTo m a b
 ways_home m a b h (inl void) e = ways_to_border m a b e void (void_at_border m h)
 ways_home m a b h (inr f) e = ways_by_x m a b e (λ c t. void_at_border m h c (at_zero c (first_of_three (is_between (pos a.x) (pos b.x) (pos c.x)) _ _ t))) (void_at_border m h)

@@ -1,4 +1,5 @@
--- Steps of all bots: each moves, fills, splits or fuses, or waits, or all make one region full or void together (docs/FORMATS.md, "Commands" and "Groups").
+-- Steps of all bots: each moves, fills, splits or fuses, or waits, or all make one region full or void together
+-- (docs/FORMATS.md, "Commands" and "Groups").
 use Rattle.std.specs.Prelude.{◌≡◌, ◌+◌, ◌+ℤ◌, pos, Bool, ◌||◌, List, [], ◌∷◌, ◌++◌, length, map, flat_map, IsFalse}
 use Rattle.std.specs.List.{AllByRecursion}
 use Rattle.vox_geom.specs.Point.{Point, plus}

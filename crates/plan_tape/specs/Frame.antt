@@ -8,7 +8,8 @@ use Rattle.plan_tape.specs.Fissions.{fissions}
 use Rattle.plan_tape.specs.Leg.{moves_to}
 use Rattle.plan_tape.specs.Progress.{IsVoidFrom, TapeState, bots_at, bytes, spot, top}
 
--- nothing is changed, and the only bot there ever was is at the top above the origin, under High, with all void from its height on
+-- nothing is changed, and the only bot there ever was is at the top above the origin, under High, with all void from
+-- its height on
 pub record HasRisen (t : TapeState) : Type 0 where
   pub matrix : t.matrix ≡ t.source
   pub harmonics : t.harmonics ≡ High

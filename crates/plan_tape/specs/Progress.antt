@@ -104,7 +104,8 @@ IsAllowed p command = IsTrue (is_allowed p.profile command)
 abbrev pub upkeep_of_step : TapeState → ℕ
 upkeep_of_step p = unsigned_abs (upkeep (state_of p))
 
--- one more command in one step, which costs this beside its upkeep, and what it leaves: the matrix, the harmonics and the bots
+-- one more command in one step, which costs this beside its upkeep, and what it leaves: the matrix, the harmonics and
+-- the bots
 pub record Writes (old new : TapeState) (command : Command) (m : Matrix) (h : Harmonics) (bots : List Bot) (cost : ℤ)
     : Type 0 where
   pub source : new.source ≡ old.source

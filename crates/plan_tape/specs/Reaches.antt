@@ -24,7 +24,8 @@ abbrev pub HasAtMost : Matrix → Profile → List Command → ℕ → Type 0
 HasAtMost source profile commands n = (before rest : List Command) (s : State) (steps : ℕ) → commands ≡ before ++ rest
     → Reaches source profile before s steps → length s.bots ≤ n
 
--- the commands reach a state without bots, with this energy in so many steps, whose matrix differs nowhere from the target
+-- the commands reach a state without bots, with this energy in so many steps, whose matrix differs nowhere from the
+-- target
 pub record ReachesTarget (source target : Matrix) (profile : Profile) (commands : List Command) (energy : ℤ) (steps : ℕ)
     : Type 0 where
   pub last : State

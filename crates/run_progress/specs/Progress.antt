@@ -1,4 +1,5 @@
--- How a run stands after the commands that have come so far, and what one more command changes (docs/FORMATS.md, "Rules").
+-- How a run stands after the commands that have come so far, and what one more command changes (docs/FORMATS.md,
+-- "Rules").
 use Rattle.std.specs.Prelude.{◌≡◌, ℕ, ◌+◌, ◌==◌, List, [], ◌∷◌, ◌++◌, length, Some, MatchBool}
 use Rattle.nano_spec.specs.declared.commands.Command.{Command}
 use Rattle.nano_spec.specs.declared.outcomes.Broken.{Broken}

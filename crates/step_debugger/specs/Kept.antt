@@ -25,7 +25,8 @@ abbrev pub LeadTo : Moment → List Undo → Type 0
 LeadTo p [] = Unit {0}
 LeadTo p (undo ∷ notes) = LeadsTo (earliest p notes) undo × LeadTo p notes
 
--- the groups of these leaders of the next step are begun, and those of the others are left; the bots are those after the begun groups
+-- the groups of these leaders of the next step are begun, and those of the others are left; the bots are those after
+-- the begun groups
 pub record AreBegun (commands : List Command) (p : Moment) (begun left : List ℕ) (bots : List Bot) : Type 0 where
   pub keeps : broken p.state (next_commands commands p) (p.steps + 1) ≡ None
   pub leaders : IsPermutation (next_leaders commands p) (begun ++ left)

@@ -1,4 +1,5 @@
--- A session, in which a trace is walked forwards and backwards, step by step or group by group (docs/FORMATS.md, "Sessions").
+-- A session, in which a trace is walked forwards and backwards, step by step or group by group (docs/FORMATS.md,
+-- "Sessions").
 use Rattle.std.specs.Prelude.{◌≡◌, ℕ, ◌+◌, ◌-◌, ℤ, Bool, true, false, cond, ◌&&◌, not, ◌==◌, List, [], ◌∷◌, ◌++◌, length, take, drop, Option, Some, MatchBool, MatchOption}
 use Rattle.std.specs.List.{list_any}
 use Rattle.vox_geom.specs.declared.coordinate.Coord.{Coord}
@@ -22,8 +23,8 @@ pub record Moment : Type 0 where
   pub steps : ℕ
   pub taken : ℕ
 
--- the point where it stands, the points before it, of which the last comes last, and the leaders of the groups that are begun, in the
--- order in which they were begun
+-- the point where it stands, the points before it, of which the last comes last, and the leaders of the groups that are
+-- begun, in the order in which they were begun
 pub record Session : Type 0 where
   pub point : Moment
   pub past : List Moment

@@ -15,8 +15,8 @@ abbrev pub IsWithinWorkOf : ℕ → List Command → Moment → ℕ → ℕ → 
 IsWithinWorkOf most commands p began ended =
     (n : ℕ) × WorkOfStep p.state (next_commands commands p) (p.steps + 1) n × (ended ≤ began + most * n)
 
--- they are so where the step is refused too, but for 92 at each voxel where it breaks the rule of grounding: those of a search, and of a machine
--- that is made anew
+-- they are so where the step is refused too, but for 92 at each voxel where it breaks the rule of grounding: those of a
+-- search, and of a machine that is made anew
 abbrev pub IsRefusedWithin : ℕ → List Command → Moment → Broken → ℕ → ℕ → Type 0
 IsRefusedWithin most commands p b began ended =
     IsWithinWorkOf most commands p (began + 92 * searched_for b.rule p.state.matrix) ended
@@ -30,8 +30,8 @@ IfRefused _ P = Unit {0}
 abbrev pub common : Matrix → Matrix → Matrix
 common old new = matrix_where old.resolution (λ c. is_full old c && is_full new c)
 
--- at most a hundred touches for each voxel that changes, for each voxel whose level changes by what becomes void, and for each whose
--- level changes then by what becomes full
+-- at most a hundred touches for each voxel that changes, for each voxel whose level changes by what becomes void, and
+-- for each whose level changes then by what becomes full
 abbrev pub IsTouchedBack : Matrix → Matrix → ℕ → ℕ → Type 0
 IsTouchedBack old new began ended =
     (levels : LevelsThrough old (common old new) new)

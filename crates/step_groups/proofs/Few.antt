@@ -1,4 +1,5 @@
--- What is known where no bot breaks a rule of single bots: commands stay in space, and groups have eight members at most.
+-- What is known where no bot breaks a rule of single bots: commands stay in space, and groups have eight members at
+-- most.
 use Rattle.std.proofs.Common.{◌≡◌, ℕ, zero, suc, ◌+◌, ◌<◌, ◌≤◌, ◌^◌, refl, ap, sym, ◌∙◌, subst, arith, inl, inr, ◌⊎◌, Bool, true, false, ◌||◌, ◌==◌, not, cond, List, [], ◌∷◌, filter, length, map, Option, Some, None}
 use Rattle.std.specs.Prelude.{IsTrue, AllPairs, ◌≢◌, ℤ}
 use Rattle.std.specs.List.{list_any}

@@ -1,4 +1,5 @@
--- The touches of all bots: a bot that reads voxels is alone, so it leads a group whose volatile coordinates pay for them.
+-- The touches of all bots: a bot that reads voxels is alone, so it leads a group whose volatile coordinates pay for
+-- them.
 use Rattle.std.proofs.Common.{◌≡◌, ℕ, ◌+◌, ◌*◌, ◌<◌, ◌≤◌, refl, ap, sym, ◌∙◌, subst, arith, inl, inr, Bool, true, false, ◌&&◌, not, cond, List, [], ◌∷◌, ◌++◌, count_by, filter, length, map}
 use Rattle.std.specs.Prelude.{IsTrue, AllPairs, sum, sum_by}
 use Rattle.std.specs.List.{list_any}

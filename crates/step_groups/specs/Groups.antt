@@ -28,7 +28,8 @@ abbrev pub is_volatile_with : Act → List Act → Coord → Bool
 is_volatile_with a mates c =
     is_volatile_of (point c) a || list_any (λ b. is_within (span (box_of_bot b)) (point c)) mates
 
--- the group that this bot leads: its members are those of the definition, and its boxes are in space and cover what is volatile for it
+-- the group that this bot leads: its members are those of the definition, and its boxes are in space and cover what is
+-- volatile for it
 pub record IsGroup (r : ℕ) (all : List Act) (a : Act) (g : Group) : Type 0 where
   pub leader : g.leader ≡ a.bot.bid
   pub members : g.members.items ≡ map bid_of (members all a)

@@ -49,7 +49,8 @@ judge_bot s all step a = first_fault s all step a rules_of_bots
 abbrev pub later_rules : List Rule
 later_rules = HaltAlone ∷ HaltOrigin ∷ HaltLow ∷ OutOfSpace ∷ Blocked ∷ Seeds ∷ InRegion ∷ Partner ∷ GroupShape ∷ []
 
--- the first rule after the one on the profile that a bot breaks, whatever the state is beside the matrix and whoever else acts
+-- the first rule after the one on the profile that a bot breaks, whatever the state is beside the matrix and whoever
+-- else acts
 abbrev pub IsLaterFault : Matrix → ℕ → Act → Option Broken → Type 0
 IsLaterFault m step a fault =
     (s : State) (all : List Act) → fault ≡ first_fault (record s { matrix = m }) all step a later_rules

@@ -84,7 +84,8 @@ module _ (m : Matrix) (b : Bot) (d : Diff) (at : Coord) (named : point at ≡ pl
   one_counted true = let one_there = counted_there in omega (arith, one_there)
   one_counted false = let one_there = counted_there in omega (arith, one_there)
 
--- what a voxel is removed from that is filled, or else voided, and what it is added to: it changes where it was otherwise
+-- what a voxel is removed from that is filled, or else voided, and what it is added to: it changes where it was
+-- otherwise
 
 abbrev ArePart : Bool → Bool → List Coord → List Coord → List Coord → Type 0
 ArePart full was cell removed added = (removed ≡ cond (not full && was) cell []) × (added ≡ cond (full && not was) cell [])

@@ -88,7 +88,8 @@ module _ (s : State) (commands : List Command) (step : ℕ) (ready : IsReady s) 
     pub refitted : (new : Matrix) → AreAdded between new back → new ≡ (after s commands).matrix
     refitted new won = new_is s (acts s.bots commands) good between lost_is new (subst (λ (cells : List Coord). AreAdded between new cells) g won)
 
-  -- the forest is that of the step's state, and the touches are paid for, where it lost what is voided and gained what is filled
+  -- the forest is that of the step's state, and the touches are paid for, where it lost what is voided and gained what
+  -- is filled
   pub is_refitted : (old between : Matrix) (forest : Standing) (front back : List Coord)
       (before listed middle after : ℕ) → old ≡ s.matrix → front ≡ edits_of s commands true
       → back ≡ edits_of s commands false → listed ≤ before + 96 * volatile_total s.matrix (acts s.bots commands)

@@ -104,7 +104,8 @@ may_gain_back m n undo e h = subst (λ (x : Matrix). MayAdd (without_filled x un
     void_still true full f = refl
     void_still false full f = f
 
--- the machine's parts belong together in the state that a note tells, where the machine is spent or its forest is that state's
+-- the machine's parts belong together in the state that a note tells, where the machine is spent or its forest is that
+-- state's
 pub sound_restored : (s : State) (undo : Undo) (old : Standing) (changed : Changes) (steps : ℕ) (spent : Bool)
     → IsConsistent s old changed steps spent → MayUndo s undo → (now : State) (new : Standing) (spends : Bool)
     (filled voided : List Coord) → filled ≡ undo.filled.items → voided ≡ undo.voided.items → now ≡ state_before s undo

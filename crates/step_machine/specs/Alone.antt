@@ -17,8 +17,8 @@ pub record IsSolo (m : Situation) : Type 0 where
   pub one : length m.state.bots ≡ 1
   pub held : m.state.harmonics ≡ Low → FirstUngrounded m.state.matrix None
 
--- a try to make a step by the command: it is made, or it is refused for the fault, or it is declined, and then nothing is changed and no
--- voxel was touched
+-- a try to make a step by the command: it is made, or it is refused for the fault, or it is declined, and then nothing
+-- is changed and no voxel was touched
 pub record IsTried (old new : Situation) (command : Command) (answer : Tried) (fault : StepFault) (began ended : ℕ)
     : Type 0 where
   pub made : answer ≡ Made → Stepped old new (command ∷ []) (answer_of true new.state fault) began ended

@@ -35,8 +35,8 @@ IsPaidBy s commands began ended =
     (n : ℕ) → WorkOfActs s.matrix (acts s.bots commands) n
     → ended + 4 * volatile_total s.matrix (acts s.bots commands) ≤ began + 100 * n
 
--- what the groups of a step change may be listed and made: the turns are those of the leaders, the list has room for all that a step
--- changes, and the forest is one of the state's matrix
+-- what the groups of a step change may be listed and made: the turns are those of the leaders, the list has room for
+-- all that a step changes, and the forest is one of the state's matrix
 pub record IsPrepared (s : State) (all : List Command) (taken : List Turn) (list : Changes) (forest : Standing)
     : Type 0 where
   pub commands : AreCommands all
@@ -63,7 +63,8 @@ pub record CanBeSettled (s : State) (commands : List Command) (step : ℕ) (take
   pub few : length commands ≤ length s.bots
   pub prepared : IsPrepared s commands taken list forest
 
--- the step is one of the only bot, which fills the voxel at the coordinate, or else voids it, and the forest is one of the state's matrix
+-- the step is one of the only bot, which fills the voxel at the coordinate, or else voids it, and the forest is one of
+-- the state's matrix
 pub record CanEditOne (s : State) (commands : List Command) (d : Diff) (at : Coord) (full : Bool) (forest : Standing)
     : Type 0 where
   pub one : length s.bots ≡ 1
@@ -114,6 +115,7 @@ IsUnsettled s commands step (fault.Broken b) began ended = IsFloating s commands
 IsUnsettled s commands step fault.Memory began ended = Unit {0}
 IsUnsettled s commands step fault.Spent began ended = ⊥
 
--- a try to make a step at once, that was declined, touched no voxel, or only a few where no rule is broken that is judged at the start
+-- a try to make a step at once, that was declined, touched no voxel, or only a few where no rule is broken that is
+-- judged at the start
 abbrev pub IsDeclined : State → List Command → ℕ → ℕ → ℕ → Type 0
 IsDeclined s commands step began ended = (ended ≡ began) ⊎ ((broken s commands step ≡ None) × (ended ≤ began + 9))

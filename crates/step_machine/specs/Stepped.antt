@@ -19,8 +19,8 @@ abbrev pub answer_of : Bool → State → StepFault → Result StepOk StepFault
 answer_of true s fault = Ok (record { energy = s.energy; halted = false })
 answer_of false s fault = Err fault
 
--- a machine is given the commands of a step: where it stood, where it stands then, its answer, and how often voxels were touched until
--- the call began and until it ended
+-- a machine is given the commands of a step: where it stood, where it stands then, its answer, and how often voxels
+-- were touched until the call began and until it ended
 pub record Stepped (old new : Situation) (commands : List Command) (answer : Result StepOk StepFault) (began ended : ℕ)
     : Type 0 where
   -- a step that is accepted leads to the definition's state and is counted
@@ -35,13 +35,15 @@ pub record Stepped (old new : Situation) (commands : List Command) (answer : Res
   pub breaks : IfBroken answer (λ b. (old.spent ≡ false) × Next old.state commands (old.steps + 1) (Breaks b))
   -- after every other answer state and steps are as before
   pub stays : IfErr answer (λ _. (new.state ≡ old.state) × (new.steps ≡ old.steps))
-  -- a machine is spent exactly after a step that broke the rule of grounding, or that was refused memory, and only then says so
+  -- a machine is spent exactly after a step that broke the rule of grounding, or that was refused memory, and only then
+  -- says so
   pub stands : IfOk answer (λ _. (old.spent ≡ false) × (new.spent ≡ false))
   pub ungrounded : IfBroken answer (λ b. new.spent ≡ true ↔ b.rule ≡ Ungrounded)
   pub memory : answer ≡ Err fault.Memory → new.spent ≡ true
   pub spent : answer ≡ Err fault.Spent ↔ old.spent ≡ true
   pub stays_spent : old.spent ≡ true → new.spent ≡ true
-  -- at most a hundred touches for each unit of the step's work, and each voxel once more where it breaks the rule of grounding
+  -- at most a hundred touches for each unit of the step's work, and each voxel once more where it breaks the rule of
+  -- grounding
   pub touches : IfOk answer (λ _. IsWithinWork old.state commands (old.steps + 1) began ended)
   pub touches_broken : IfBroken answer
       (λ b. IsWithinWork old.state commands (old.steps + 1) (began + searched_for b.rule old.state.matrix) ended)

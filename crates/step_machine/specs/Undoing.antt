@@ -43,8 +43,8 @@ state_before s undo =
     state_with (matrix_before s.matrix undo.filled.items undo.voided.items) undo.crew undo.harmonics undo.energy
     s.profile
 
--- the voxels of the note have changed as it says: they are in space and all differ, those that became full are full, and those that
--- became void are void
+-- the voxels of the note have changed as it says: they are in space and all differ, those that became full are full,
+-- and those that became void are void
 pub record HaveChanged (m : Matrix) (undo : Undo) : Type 0 where
   pub filled_within : All (λ c. IsInSpace m.resolution c) undo.filled.items
   pub voided_within : All (λ c. IsInSpace m.resolution c) undo.voided.items
@@ -53,7 +53,8 @@ pub record HaveChanged (m : Matrix) (undo : Undo) : Type 0 where
   pub filled : All (λ c. IsTrue (is_full m c)) undo.filled.items
   pub voided : All (λ c. IsFalse (is_full m c)) undo.voided.items
 
--- the step of the note can be taken back in the state: its voxels have changed, and a machine can stand in the state that it tells
+-- the step of the note can be taken back in the state: its voxels have changed, and a machine can stand in the state
+-- that it tells
 pub record MayUndo (s : State) (undo : Undo) : Type 0 where
   pub voxels : HaveChanged s.matrix undo
   pub before : IsMachineState (state_before s undo) undo.steps
@@ -85,8 +86,8 @@ pub record LevelsThrough (old between new : Matrix) : Type 0 where
 abbrev pub levels_moved : {old between new : Matrix} → LevelsThrough old between new → ℕ
 levels_moved levels = differing levels.first levels.middle + differing levels.middle levels.last
 
--- a step is taken back by at most a hundred touches for each voxel of its note, for each voxel whose level changes by what is made
--- void, and for each whose level changes then by what is made full
+-- a step is taken back by at most a hundred touches for each voxel of its note, for each voxel whose level changes by
+-- what is made void, and for each whose level changes then by what is made full
 abbrev pub IsUndoneBy : Matrix → List Coord → List Coord → ℕ → ℕ → Type 0
 IsUndoneBy m filled voided began ended =
     (levels : LevelsThrough m (without_filled m filled) (matrix_before m filled voided))

@@ -1,4 +1,5 @@
--- What a step that breaks no rule makes of the bots and of the matrix, by kinds of commands (docs/FORMATS.md, "Commands").
+-- What a step that breaks no rule makes of the bots and of the matrix, by kinds of commands (docs/FORMATS.md,
+-- "Commands").
 use Rattle.std.specs.Prelude.{Bool, true, false, cond}
 use Rattle.vox_geom.specs.Point.{Point, point, plus}
 use Rattle.vox_geom.specs.Region.{Span, is_within}

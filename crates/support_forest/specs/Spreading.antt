@@ -34,7 +34,8 @@ to_do old now q =
     7 * (old.resolution * old.resolution * old.resolution - changed old.resolution (word_at old) (word_at now))
     + number q
 
--- a run of offers is under way, and has the candidate in hand: its neighbours from a direction on are still to be offered the next height
+-- a run of offers is under way, and has the candidate in hand: its neighbours from a direction on are still to be
+-- offered the next height
 pub record IsSpreading (old now : Grid) (start q : Waiting) (x : Candidate) (d before steps limit : ℕ) : Type 0 where
   pub same : AreSame old now
   pub settling : AreSettling old.resolution (word_at now) (AtHand old.resolution q.seeds q.found x d)

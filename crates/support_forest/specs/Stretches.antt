@@ -26,7 +26,8 @@ pub record IsStretch (gone : List Coord) (start n : ℕ) (c : Coord) : Type 0 wh
   pub row : c.z % 8 + n ≤ 8
   pub each : (k : ℕ) (d : Coord) → k < n → slice_index_or gone (start + k) d ≡ further c k
 
--- so many voxels from this one on, one at least, are a row of the brick with the slot, and no voxel beyond space is full
+-- so many voxels from this one on, one at least, are a row of the brick with the slot, and no voxel beyond space is
+-- full
 pub record IsBrickRow (g : Grid) (slot : ℕ) (c : Coord) (n : ℕ) : Type 0 where
   pub some : 0 < n
   pub own : slot_of g c ≡ Some slot

@@ -110,7 +110,8 @@ pub record CanFillLayer (p : TapeState) (target : Matrix) (y : ℕ) : Type 0 whe
 abbrev pub crew_steps_to : TapeState → Coord → ℕ
 crew_steps_to p c = p.steps + distance (spot p.bots) c
 
--- the tape has built the voxels of which the test says so; with the way to a place it has so many steps more at most than it had with the way to another
+-- the tape has built the voxels of which the test says so; with the way to a place it has so many steps more at most
+-- than it had with the way to another
 pub record Builds (old new : TapeState) (target : Matrix) (done : Coord → Bool) (from to : Coord) (most : ℕ)
     : Type 0 where
   pub source : new.source ≡ old.source

@@ -19,7 +19,8 @@ pub record SwarmIsOpened (t : TapeState) (nothing : Matrix) : Type 0 where
 abbrev pub phase_steps : ℕ → ℕ
 phase_steps r = (r - 1) * swarm_layer_steps r + 823
 
--- the target is built, and one bot is left, with all void from its height on; with the way home there are so many steps at most
+-- the target is built, and one bot is left, with all void from its height on; with the way home there are so many steps
+-- at most
 pub record IsErected (t : TapeState) (target : Matrix) : Type 0 where
   pub swarm : IsSwarm t
   pub alone : length t.bots ≡ 1

@@ -19,7 +19,8 @@ held l c = record { x = min c.x l; y = c.y; z = c.z }
 abbrev pub next : ℕ → Coord → Coord
 next w c = record { x = c.x + w; y = c.y; z = c.z }
 
--- the places of n bots, the first of them led to c, each further one a width further along x, and none past the last column
+-- the places of n bots, the first of them led to c, each further one a width further along x, and none past the last
+-- column
 abbrev pub bot_row : ℕ → ℕ → ℕ → Coord → List Coord
 bot_row w l zero c = []
 bot_row w l (suc n) c = held l c ∷ bot_row w l n (next w c)

@@ -1,4 +1,5 @@
--- What is known of a group in the state that it meets: its bots are there, it keeps the rules, and where it goes nobody stands.
+-- What is known of a group in the state that it meets: its bots are there, it keeps the rules, and where it goes nobody
+-- stands.
 use Rattle.std.proofs.Common.{rules, ◌≡◌, ℕ, ◌≤◌, refl, sym, ◌∙◌, ap, arith, inl, inr, List, [], ◌∷◌, Bool, true, false, cond, ◌&&◌, ◌||◌, ◌==◌, map, not, length}
 use Rattle.std.specs.Prelude.{Some, None, Option, find, unwrap_or, IsNone, IfSome, is_none, nat_lt}
 use Rattle.std.specs.List.{list_all, list_any}

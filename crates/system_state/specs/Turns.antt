@@ -14,7 +14,8 @@ use Rattle.step_groups.specs.Groups.{bid_of}
 abbrev pub first_mate : Act → List Act → ℕ
 first_mate a more = slice_index_or (map bid_of (filter (are_together a) more)) 0 0
 
--- the turn of the group that the act's bot leads: its place among the acts, and the bid of the second member, or 0 where it is alone
+-- the turn of the group that the act's bot leads: its place among the acts, and the bid of the second member, or 0
+-- where it is alone
 pub record IsTurn (all : List Act) (a : Act) (t : Turn) : Type 0 where
   pub leader : t.leader ≡ a.bot.bid
   pub place : slice_get all t.place ≡ Some a

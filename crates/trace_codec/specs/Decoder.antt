@@ -10,7 +10,8 @@ use Rattle.trace_codec.specs.declared.fault.TraceRefusal.{TraceRefusal}
 use Rattle.trace_codec.specs.declared.fault.TraceRefusal.TheVariants as refusal
 use Rattle.trace_codec.specs.One.{IsNoCommand}
 
--- a decoder as contracts see it: the bytes that it holds of the next command, where the first of them stands in the trace, and whether it has failed
+-- a decoder as contracts see it: the bytes that it holds of the next command, where the first of them stands in the
+-- trace, and whether it has failed
 pub record DecoderState : Type 0 where
   pub held : List ℕ
   pub offset : ℕ
@@ -58,7 +59,8 @@ EndsTrace decoder (Ok _) = IsFalse decoder.failed × (decoder.held ≡ [])
 EndsTrace decoder (Err (refusal.Cut offset)) = IsFalse decoder.failed × (decoder.held ≢ []) × (offset ≡ decoder.offset)
 EndsTrace decoder (Err (refusal.Bad offset)) = IsTrue decoder.failed × (offset ≡ decoder.offset)
 
--- the decoder has taken the bytes, and has given the commands: their spellings, and after them what is held, are the bytes
+-- the decoder has taken the bytes, and has given the commands: their spellings, and after them what is held, are the
+-- bytes
 pub record HasTaken (bytes : List ℕ) (commands : List Command) (decoder : DecoderState) : Type 0 where
   pub works : IsFalse decoder.failed
   pub are_commands : AreCommands commands

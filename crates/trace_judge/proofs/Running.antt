@@ -68,7 +68,8 @@ step_moved old now new before pending all command result answer began start ende
     (subst (λ (r : Result StepOk StepFault). Stepped now new all r began ended) a
     (subst (λ (n : ℕ). Stepped now new all result n ended) s stepped)))
 
--- some bot has no command yet: where one command more waits, where a step was made that leaves some bot, and where no steps are made
+-- some bot has no command yet: where one command more waits, where a step was made that leaves some bot, and where no
+-- steps are made
 pub waits_on : (old new : Situation) (before after : List Command) (command : Command) (m : Mark) → new ≡ old
     → after ≡ before ++ command ∷ [] → length before + 1 < length old.state.bots → m ≡ mark.Running
     → IsUnderway new after m

@@ -10,20 +10,21 @@ use Rattle.run_progress.specs.Progress.{Progress}
 use Rattle.step_machine.specs.Stepped.{IsWithinWork}
 use Rattle.trace_judge.specs.Course.{MakesNoStep, searched_by}
 
--- the touches from began to ended are within the work of the run: at most a hundred for each unit of it and for each voxel
+-- the touches from began to ended are within the work of the run: at most a hundred for each unit of it and for each
+-- voxel
 abbrev pub IsWithinWorkOfRun : Matrix → List Command → Profile → ℕ → ℕ → Type 0
 IsWithinWorkOfRun source commands profile began ended =
     (n : ℕ) × Work source commands profile n × (ended ≤ began + 100 * (volume source.resolution + n))
 
--- one more command: no touch where it makes no step, and else at most a hundred times the work of the step, beside a search for
--- what floats where that is found
+-- one more command: no touch where it makes no step, and else at most a hundred times the work of the step, beside a
+-- search for what floats where that is found
 pub record Touches (p q : Progress) (command : Command) (before after : ℕ) : Type 0 where
   pub untouched : MakesNoStep p → after ≡ before
   pub paid :
       IsWithinWork p.state (p.pending ++ command ∷ []) (p.steps + 1) (before + searched_by q.mark p.state.matrix) after
 
--- from start to now the touches are paid for by n, the work of a run: while steps are made, what is left of the work pays for what is
--- still to be touched; after that a search of a whole matrix may have been made beside it
+-- from start to now the touches are paid for by n, the work of a run: while steps are made, what is left of the work
+-- pays for what is still to be touched; after that a search of a whole matrix may have been made beside it
 abbrev pub LeftAt : progress.Mark → Progress → List Command → ℕ → ℕ → ℕ → ℕ → Type 0
 LeftAt progress.Running p rest searched start now n =
     (more : ℕ) × WorkFrom p.state (p.pending ++ rest) p.steps more × (now + 100 * more ≤ start + 100 * n)

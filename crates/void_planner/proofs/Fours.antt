@@ -215,7 +215,8 @@ shift_goes Z c f at next a b e g here ea eb ee eg = record {
   fourth = moves g refl (ap (plus (point (coord c.x c.y (c.z + f)))) eg ∙ along_z (coord c.x c.y (c.z + f)) (coord c.x c.y (next + f)) at next (omega arith) refl refl);
 }
 
--- the ways of a tile's four bots lie apart: where there is more than one tile along an axis, bots are further from each other than a move leads
+-- the ways of a tile's four bots lie apart: where there is more than one tile along an axis, bots are further from each
+-- other than a move leads
 pub shift_apart : (axis : Axis) (m : Matrix) (c : Coord) (at next : ℕ) → 1 ≤ far_of m.resolution
     → component_of axis c ≡ at → next ≤ at + 15 → at ≤ next + 15
     → CanStand m (far_of m.resolution) (far_of m.resolution) c

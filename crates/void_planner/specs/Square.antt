@@ -54,7 +54,8 @@ pub record IsRectangle (p : TapeState) (w d : ℕ) : Type 0 where
   pub deep : 1 ≤ d
   pub stand : CanStand p.matrix w d (spot p.bots)
 
--- in so many steps the four have come to stand at the corners of a rectangle with this least corner, and no voxel has changed
+-- in so many steps the four have come to stand at the corners of a rectangle with this least corner, and no voxel has
+-- changed
 pub record FourGo (old new : TapeState) (w d : ℕ) (c : Coord) (count : ℕ) : Type 0 where
   pub source : new.source ≡ old.source
   pub matrix : new.matrix ≡ old.matrix
@@ -80,7 +81,8 @@ AreFewer new old = (c : Coord) → is_full old c ≡ false → is_full new c ≡
 abbrev pub steps_to : TapeState → Coord → ℕ
 steps_to p c = p.steps + moves_to (spot p.bots) c
 
--- the four have voided some voxels; with the way to a coordinate the tape has so many steps more at most than it had with the way to another
+-- the four have voided some voxels; with the way to a coordinate the tape has so many steps more at most than it had
+-- with the way to another
 pub record Clears (old new : TapeState) (first last : Coord) (most : ℕ) : Type 0 where
   pub source : new.source ≡ old.source
   pub resolution : new.matrix.resolution ≡ old.matrix.resolution

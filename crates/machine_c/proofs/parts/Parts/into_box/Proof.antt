@@ -53,7 +53,8 @@ into_box_spec 𝓤 𝓛 𝓜 𝓡 wired X Z LX LZ g d dd allocator glue =
     let of_parts : D the_box = record { ptr = z.0.3.0.ptr; alloc = its_alloc; value = its_value } in
     let toks : Item 𝓤 = ‵ (flft κs.0 qs.0) ⊛ ‵ (flft κs.1.0 qs.1.0) ⊛ ‵ ftrue in
     let in_x : Item 𝓤 = raw (fact 𝓤 (κs.0 ⊑ X.lives)) in let in_a : Item 𝓤 = raw (fact 𝓤 (κs.1.0 ⊑ Z.lives)) in
-    -- the parts own what a box of them owns: the value in its block, the token by which the block is freed, and the allocator
+    -- the parts own what a box of them owns: the value in its block, the token by which the block is freed, and the
+    -- allocator
     qed 𝓛 ((toks ⊛ ‵ (fsep ((B the_box).own_val of_parts z.0.4.0) ftrue)) ∷ (in_x ⊛ in_a ⊛ ‵ ftrue) ∷ []) ∵ split ! $ move ! (1 ∷ []) $ fsplit ! $
     box_out the_box ! of_parts z.0.4.0 (λ b o hv at ws fits. fjoin ! $
     let word_value : Val = word the_box hv b o in
