@@ -11,6 +11,11 @@ use Rattle.plan_tape.specs.Reaches.{HasAtMost}
 use Rattle.plan_choice.specs.declared.bounds.Bounds.{Bounds}
 use Rattle.plan_tape.specs.Fissions.{is_fission}
 
+-- a run may begin with this source, by this profile
+pub record CanRun (source : Matrix) (profile : Profile) : Type 0 where
+  pub grounded : FirstUngrounded source None
+  pub seeds : profile.seeds ≤ 39
+
 -- the commands are no more than a run may have, cost less than that, and keep to the bounds, the bots by counting Fissions
 pub record IsBetter (than : ℤ) (most : Bounds) (commands : List Command) (energy : ℤ) (steps : ℕ) : Type 0 where
   pub run : length commands ≤ 1073741824
