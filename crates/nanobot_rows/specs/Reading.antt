@@ -1,5 +1,5 @@
--- What a call that reads files comes to, in the words of the answers, and how a run stands whose trace comes in pieces.
-use Rattle.std.specs.Prelude.{◌⊎◌, ℕ, List, [], ◌++◌, Option, Result, Ok, Err, MatchBool, IfSome, IsSomeAnd, ⊤}
+-- What a call that reads comes to and leaves, in the words of the answers, and how a run of a trace in pieces stands.
+use Rattle.std.specs.Prelude.{◌≡◌, ◌⊎◌, ℕ, ◌≤◌, List, [], ◌++◌, Option, Some, Result, Ok, Err, MatchBool, IfSome, IsSomeAnd, ⊤}
 use Rattle.std.specs.Result.{result_map_both}
 use Rattle.nano_spec.specs.declared.commands.Command.{Command}
 use Rattle.nano_spec.specs.declared.system.Profile.{Profile}
@@ -58,6 +58,19 @@ abbrev pub of_trace : TraceFault → Stop
 of_trace (trace.Refused (Bad offset)) = stop.Told (TraceBad offset)
 of_trace (trace.Refused (Cut offset)) = stop.Told (TraceCut offset)
 of_trace trace.Memory = stop.Memory
+
+-- ---- what is read, and what stays
+
+-- a call that only reads: the files and the count of failed stores stay, and the count of faults does not fall
+pub record OnlyReads {A : Type 0} (told : A → Option Files) (faults_of stores_of : A → ℕ) (old new : A) : Type 0 where
+  pub files : told new ≡ told old
+  pub later : faults_of old ≤ faults_of new
+  pub stores : stores_of new ≡ stores_of old
+
+-- the files of a source and a target may be fetched, of each that has one
+pub record MayFetchSides (may_fetch : List ℕ → Type 0) (from to : Option (List ℕ)) : Type 0 where
+  pub source : (name : List ℕ) → from ≡ Some name → may_fetch name
+  pub target : (name : List ℕ) → to ≡ Some name → may_fetch name
 
 -- ---- what is found
 

@@ -1,8 +1,8 @@
 //! Commands of files, as text and as the bytes of a trace.
-ghost use Rattle.std.specs.Prelude.{◌≡◌, ◌≤◌, IfOk, length};
+ghost use Rattle.std.specs.Prelude.{◌≤◌, IfOk, length};
 ghost use Rattle.vox_depot.specs.Causes.{Rose};
 ghost use Rattle.nanobot_rows.specs.Answer.{TextOf, TraceOf, dis_limit};
-ghost use Rattle.nanobot_rows.specs.Reading.{Finds};
+ghost use Rattle.nanobot_rows.specs.Reading.{Finds, OnlyReads};
 
 use crate::limited::load_file;
 use crate::report::Report;
@@ -24,9 +24,7 @@ pub fn load_text<D: Depot>(alloc: Global, depot: &mut D, name: &str) -> Result<C
     requires { D.may_fetch name.now }
     ensures reads { Finds (TextOf name.now) (D.files depot.old)
         (Rose (D.faults depot.old) (D.faults depot.new)) result }
-    ensures files { D.files depot.new ≡ D.files depot.old }
-    ensures later { D.faults depot.old ≤ D.faults depot.new }
-    ensures stores { D.failed_stores depot.new ≡ D.failed_stores depot.old }
+    ensures only_reads { OnlyReads D.files D.faults D.failed_stores depot.old depot.new }
 {
     let long = Report::TextLong { limit: TEXT_LIMIT };
     let bytes = load_file(alloc, depot, name, TEXT_LIMIT, long)?;
@@ -42,9 +40,7 @@ pub fn load_trace<D: Depot>(alloc: Global, depot: &mut D, name: &str) -> Result<
     ensures reads { Finds (TraceOf dis_limit name.now) (D.files depot.old)
         (Rose (D.faults depot.old) (D.faults depot.new)) result }
     ensures few { IfOk result (λ commands. length commands ≤ 50000000) }
-    ensures files { D.files depot.new ≡ D.files depot.old }
-    ensures later { D.faults depot.old ≤ D.faults depot.new }
-    ensures stores { D.failed_stores depot.new ≡ D.failed_stores depot.old }
+    ensures only_reads { OnlyReads D.files D.faults D.failed_stores depot.old depot.new }
 {
     let long = Report::TraceLong { limit: TRACE_LIMIT };
     let bytes = load_file(alloc, depot, name, TRACE_LIMIT, long)?;

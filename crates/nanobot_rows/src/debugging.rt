@@ -1,11 +1,11 @@
 //! The row `debug`: a trace, walked as a script says.
-ghost use Rattle.std.specs.Prelude.{◌≡◌, ◌≤◌, IfOk, None};
+ghost use Rattle.std.specs.Prelude.{IfOk, None};
 ghost use Rattle.vox_depot.specs.Causes.{Rose};
 ghost use Rattle.nanobot_words.specs.Rows.{debug as debug_row};
 ghost use Rattle.debug_script.specs.Calls.{lines_are};
 ghost use Rattle.nanobot_rows.specs.Answer.{AnswerOf, ScriptOf};
 ghost use Rattle.nanobot_rows.specs.Effects.{EndsStored, IsFor};
-ghost use Rattle.nanobot_rows.specs.Reading.{FindsAs};
+ghost use Rattle.nanobot_rows.specs.Reading.{FindsAs, OnlyReads};
 
 use crate::commands::load_trace;
 use crate::effect::{Effect, Message};
@@ -32,9 +32,7 @@ fn load_script<D: Depot>(
     requires { D.may_fetch name.now }
     ensures reads { FindsAs (λ script. lines_are script.items) (ScriptOf resolution name.now) (D.files depot.old)
         (Rose (D.faults depot.old) (D.faults depot.new)) result }
-    ensures files { D.files depot.new ≡ D.files depot.old }
-    ensures later { D.faults depot.old ≤ D.faults depot.new }
-    ensures stores { D.failed_stores depot.new ≡ D.failed_stores depot.old }
+    ensures only_reads { OnlyReads D.files D.faults D.failed_stores depot.old depot.new }
 {
     let long = Report::TextLong {
         limit: SCRIPT_LIMIT,
@@ -61,9 +59,7 @@ pub fn debug<'a, D: Depot, L: Ledger>(
     ensures finishes { EndsStored (AnswerOf (debug_row source.now trace.now script.now)) (D.files depot.old)
         (Rose (D.faults depot.old) (D.faults depot.new)) result }
     ensures named { IfOk result (IsFor None) }
-    ensures files { D.files depot.new ≡ D.files depot.old }
-    ensures later { D.faults depot.old ≤ D.faults depot.new }
-    ensures stores { D.failed_stores depot.new ≡ D.failed_stores depot.old }
+    ensures only_reads { OnlyReads D.files D.faults D.failed_stores depot.old depot.new }
 {
     let planes = load_model(alloc, depot, source, Who::Source)?;
     let commands = load_trace(alloc, depot, trace)?;

@@ -1,8 +1,8 @@
 //! Files that have at most so many bytes.
-ghost use Rattle.std.specs.Prelude.{◌≡◌, ◌≤◌, IfOk, vec_len};
+ghost use Rattle.std.specs.Prelude.{◌≤◌, IfOk, vec_len};
 ghost use Rattle.vox_depot.specs.Causes.{Rose};
 ghost use Rattle.nanobot_rows.specs.Answer.{FileUpTo};
-ghost use Rattle.nanobot_rows.specs.Reading.{FindsAs};
+ghost use Rattle.nanobot_rows.specs.Reading.{FindsAs, OnlyReads};
 ghost use Rattle.nanobot_rows.specs.Report.{report_line, status_of};
 
 use crate::report::Report;
@@ -24,9 +24,7 @@ pub fn load_file<D: Depot>(
         (FileUpTo limit (status_of too_long) (report_line too_long) name.now) (D.files depot.old)
         (Rose (D.faults depot.old) (D.faults depot.new)) result }
     ensures size { IfOk result (λ bytes. vec_len bytes ≤ limit) }
-    ensures files { D.files depot.new ≡ D.files depot.old }
-    ensures later { D.faults depot.old ≤ D.faults depot.new }
-    ensures stores { D.failed_stores depot.new ≡ D.failed_stores depot.old }
+    ensures only_reads { OnlyReads D.files D.faults D.failed_stores depot.old depot.new }
 {
     let bytes = load(alloc, depot, name, limit + 1)?;
     if bytes.len() as u64 > limit {

@@ -1,10 +1,10 @@
 //! Models of files.
-ghost use Rattle.std.specs.Prelude.{◌≡◌, ◌≤◌, ℕ, List, Some, None, IfOk};
+ghost use Rattle.std.specs.Prelude.{◌≡◌, Some, None, IfOk};
 ghost use Rattle.nano_spec.specs.Legal.{IsLegal};
 ghost use Rattle.vox_depot.specs.Causes.{Rose};
 ghost use Rattle.nanobot_words.specs.Parsing.{side_of};
 ghost use Rattle.nanobot_rows.specs.Answer.{ModelOf, ModelsOf};
-ghost use Rattle.nanobot_rows.specs.Reading.{Finds};
+ghost use Rattle.nanobot_rows.specs.Reading.{Finds, MayFetchSides, OnlyReads};
 
 use crate::report::{Report, Who};
 use crate::stop::Stop;
@@ -27,9 +27,7 @@ pub fn load_model<D: Depot>(
     requires { D.may_fetch name.now }
     ensures reads { Finds (ModelOf who name.now) (D.files depot.old)
         (Rose (D.faults depot.old) (D.faults depot.new)) result }
-    ensures files { D.files depot.new ≡ D.files depot.old }
-    ensures later { D.faults depot.old ≤ D.faults depot.new }
-    ensures stores { D.failed_stores depot.new ≡ D.failed_stores depot.old }
+    ensures only_reads { OnlyReads D.files D.faults D.failed_stores depot.old depot.new }
     ensures legal { IfOk result IsLegal }
 {
     let bytes = load(alloc, depot, name, MOST_BYTES)?;
@@ -54,9 +52,7 @@ fn load_both<D: Depot>(
     requires target { D.may_fetch target.now }
     ensures reads { Finds (ModelsOf (Some source.now) (Some target.now)) (D.files depot.old)
         (Rose (D.faults depot.old) (D.faults depot.new)) result }
-    ensures files { D.files depot.new ≡ D.files depot.old }
-    ensures later { D.faults depot.old ≤ D.faults depot.new }
-    ensures stores { D.failed_stores depot.new ≡ D.failed_stores depot.old }
+    ensures only_reads { OnlyReads D.files D.faults D.failed_stores depot.old depot.new }
     ensures resolutions { IfOk result (λ models. models.0.resolution ≡ models.1.resolution) }
     ensures source { IfOk result (λ models. IsLegal models.0) }
     ensures target { IfOk result (λ models. IsLegal models.1) }
@@ -79,14 +75,11 @@ pub fn load_models<D: Depot>(
     source: Side<'_>,
     target: Side<'_>,
 ) -> Result<(Planes, Planes), Stop>
-    requires source { (name : List ℕ) → side_of source ≡ Some name → D.may_fetch name }
-    requires target { (name : List ℕ) → side_of target ≡ Some name → D.may_fetch name }
+    requires may_fetch { MayFetchSides D.may_fetch (side_of source) (side_of target) }
     requires some { side_of source ≡ None → side_of target ≡ None → ⊥ }
     ensures reads { Finds (ModelsOf (side_of source.entry) (side_of target.entry)) (D.files depot.old)
         (Rose (D.faults depot.old) (D.faults depot.new)) result }
-    ensures files { D.files depot.new ≡ D.files depot.old }
-    ensures later { D.faults depot.old ≤ D.faults depot.new }
-    ensures stores { D.failed_stores depot.new ≡ D.failed_stores depot.old }
+    ensures only_reads { OnlyReads D.files D.faults D.failed_stores depot.old depot.new }
     ensures resolutions { IfOk result (λ models. models.0.resolution ≡ models.1.resolution) }
     ensures source { IfOk result (λ models. IsLegal models.0) }
     ensures target { IfOk result (λ models. IsLegal models.1) }

@@ -1,5 +1,5 @@
 //! The row `plan`: the trace of a planner's plan.
-ghost use Rattle.std.specs.Prelude.{◌≡◌, ◌+◌, ◌<◌, ◌≤◌, ℕ, IfOk, List, MatchOption, Some};
+ghost use Rattle.std.specs.Prelude.{◌≡◌, ◌+◌, ◌<◌, ◌≤◌, IfOk, MatchOption, Some};
 ghost use Rattle.nano_spec.specs.Legal.{IsLegal};
 ghost use Rattle.nano_spec.specs.Matrix.{Matrix};
 ghost use Rattle.plan_tape.specs.Models.{AreLegalModels};
@@ -11,6 +11,7 @@ ghost use Rattle.nanobot_words.specs.Rows.{TakesSides, plan as plan_row};
 ghost use Rattle.nanobot_rows.specs.Answer.{AnswerOf};
 ghost use Rattle.nanobot_rows.specs.Effects.{EndsStored, IsFor, KeepsPlan};
 ghost use Rattle.nanobot_rows.specs.Plans.{Plans};
+ghost use Rattle.nanobot_rows.specs.Reading.{MayFetchSides, OnlyReads};
 ghost use Rattle.nanobot_rows.specs.declared.report.Report.TheVariants.{GroupLong};
 
 use crate::effect::Effect;
@@ -123,15 +124,12 @@ pub fn plan<'a, D: Depot>(
     target: Side<'_>,
     trace: &'a str,
 ) -> Result<Effect<'a>, Stop>
-    requires source { (name : List ℕ) → side_of source ≡ Some name → D.may_fetch name }
-    requires target { (name : List ℕ) → side_of target ≡ Some name → D.may_fetch name }
+    requires may_fetch { MayFetchSides D.may_fetch (side_of source) (side_of target) }
     requires sides { TakesSides planner (side_of source) (side_of target) }
     ensures finishes { EndsStored (AnswerOf (plan_row planner (side_of source.entry) (side_of target.entry) trace.now))
         (D.files depot.old) (Rose (D.faults depot.old) (D.faults depot.new)) result }
     ensures named { IfOk result (IsFor (Some trace.now)) }
-    ensures files { D.files depot.new ≡ D.files depot.old }
-    ensures later { D.faults depot.old ≤ D.faults depot.new }
-    ensures stores { D.failed_stores depot.new ≡ D.failed_stores depot.old }
+    ensures only_reads { OnlyReads D.files D.faults D.failed_stores depot.old depot.new }
 {
     let (source, target) = load_models(alloc, depot, source, target)?;
     let plan = choose_plan(alloc, planner, &source, &target)?;

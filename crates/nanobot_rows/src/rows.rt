@@ -1,12 +1,12 @@
 //! What each row of the table of words asks for.
-ghost use Rattle.std.specs.Prelude.{◌≡◌, ◌≤◌, ℕ, All, Err, IfOk, List, Option, Some, None};
+ghost use Rattle.std.specs.Prelude.{◌≡◌, ◌≤◌, ℕ, All, Err, IfOk, Option, Some, None};
 ghost use Rattle.vox_depot.specs.Causes.{Rose};
 ghost use Rattle.vox_depot.specs.Files.{Files};
 ghost use Rattle.nanobot_words.specs.Parsing.{row_of, side_of};
 ghost use Rattle.nanobot_words.specs.Rows.{IsOfTable, asm as asm_row, check as check_row, dis as dis_row, make as make_row, reads_of, stores_of};
 ghost use Rattle.nanobot_rows.specs.Answer.{AnswerOf, AnswerOfRun, profile_of};
 ghost use Rattle.nanobot_rows.specs.Effects.{EndsStored, IsFor};
-ghost use Rattle.nanobot_rows.specs.Reading.{EndsUnstored};
+ghost use Rattle.nanobot_rows.specs.Reading.{EndsUnstored, MayFetchSides, OnlyReads};
 ghost use Rattle.nanobot_rows.specs.Touching.{IsRowWithin, IsRunWithin};
 
 use crate::commands::{load_text, load_trace};
@@ -40,9 +40,7 @@ fn check<D: Depot, L: Ledger>(
     requires { D.may_fetch model.now }
     ensures ends { EndsUnstored (AnswerOf (check_row model.now)) (D.files depot.old)
         (Rose (D.faults depot.old) (D.faults depot.new)) result }
-    ensures files { D.files depot.new ≡ D.files depot.old }
-    ensures later { D.faults depot.old ≤ D.faults depot.new }
-    ensures stores { D.failed_stores depot.new ≡ D.failed_stores depot.old }
+    ensures only_reads { OnlyReads D.files D.faults D.failed_stores depot.old depot.new }
 {
     let planes = load_model(alloc, depot, model, Who::Model)?;
     Ok(Report::Legal {
@@ -61,16 +59,13 @@ fn judge_run<D: Depot, L: Ledger>(
     profile: Profile,
     steps: &mut Steps<L>,
 ) -> Result<Report, Stop>
-    requires source { (name : List ℕ) → side_of source ≡ Some name → D.may_fetch name }
-    requires target { (name : List ℕ) → side_of target ≡ Some name → D.may_fetch name }
+    requires may_fetch { MayFetchSides D.may_fetch (side_of source) (side_of target) }
     requires trace { D.may_fetch trace.now }
     requires some { side_of source ≡ None → side_of target ≡ None → ⊥ }
     requires seeds { profile.seeds ≤ 39 }
     ensures ends { EndsUnstored (AnswerOfRun profile (side_of source.entry) (side_of target.entry) trace.now)
         (D.files depot.old) (Rose (D.faults depot.old) (D.faults depot.new)) result }
-    ensures files { D.files depot.new ≡ D.files depot.old }
-    ensures later { D.faults depot.old ≤ D.faults depot.new }
-    ensures stores { D.failed_stores depot.new ≡ D.failed_stores depot.old }
+    ensures only_reads { OnlyReads D.files D.faults D.failed_stores depot.old depot.new }
     ensures within { (result ≡ Err Stop.Memory → ⊥)
         → IsRunWithin profile (side_of source.entry) (side_of target.entry) trace.now (D.files depot.old) steps.old
         steps.new }
@@ -101,17 +96,14 @@ fn run<'a, D: Depot, L: Ledger>(
     trace: &str,
     steps: &mut Steps<L>,
 ) -> Result<Effect<'a>, Stop>
-    requires source { (name : List ℕ) → side_of source ≡ Some name → D.may_fetch name }
-    requires target { (name : List ℕ) → side_of target ≡ Some name → D.may_fetch name }
+    requires may_fetch { MayFetchSides D.may_fetch (side_of source) (side_of target) }
     requires trace { D.may_fetch trace.now }
     requires some { side_of source ≡ None → side_of target ≡ None → ⊥ }
     ensures finishes { EndsStored
         (AnswerOfRun (profile_of round) (side_of source.entry) (side_of target.entry) trace.now) (D.files depot.old)
         (Rose (D.faults depot.old) (D.faults depot.new)) result }
     ensures named { IfOk result (IsFor None) }
-    ensures files { D.files depot.new ≡ D.files depot.old }
-    ensures later { D.faults depot.old ≤ D.faults depot.new }
-    ensures stores { D.failed_stores depot.new ≡ D.failed_stores depot.old }
+    ensures only_reads { OnlyReads D.files D.faults D.failed_stores depot.old depot.new }
     ensures within { (result ≡ Err Stop.Memory → ⊥)
         → IsRunWithin (profile_of round) (side_of source.entry) (side_of target.entry) trace.now (D.files depot.old)
         steps.old steps.new }
@@ -132,9 +124,7 @@ fn asm<'a, D: Depot>(
     ensures finishes { EndsStored (AnswerOf (asm_row text.now trace.now)) (D.files depot.old)
         (Rose (D.faults depot.old) (D.faults depot.new)) result }
     ensures named { IfOk result (IsFor (Some trace.now)) }
-    ensures files { D.files depot.new ≡ D.files depot.old }
-    ensures later { D.faults depot.old ≤ D.faults depot.new }
-    ensures stores { D.failed_stores depot.new ≡ D.failed_stores depot.old }
+    ensures only_reads { OnlyReads D.files D.faults D.failed_stores depot.old depot.new }
 {
     let commands = load_text(alloc, depot, text)?;
     let bytes = encode_all(alloc, commands.as_slice())?;
@@ -153,9 +143,7 @@ fn dis<'a, D: Depot>(
     ensures finishes { EndsStored (AnswerOf (dis_row trace.now text.now)) (D.files depot.old)
         (Rose (D.faults depot.old) (D.faults depot.new)) result }
     ensures named { IfOk result (IsFor (Some text.now)) }
-    ensures files { D.files depot.new ≡ D.files depot.old }
-    ensures later { D.faults depot.old ≤ D.faults depot.new }
-    ensures stores { D.failed_stores depot.new ≡ D.failed_stores depot.old }
+    ensures only_reads { OnlyReads D.files D.faults D.failed_stores depot.old depot.new }
 {
     let commands = load_trace(alloc, depot, trace)?;
     let bytes = print_trace(alloc, commands.as_slice())?;

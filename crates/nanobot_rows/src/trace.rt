@@ -3,7 +3,7 @@ ghost use Rattle.std.specs.Prelude.{◌≡◌, ◌≤◌, Err, None};
 ghost use Rattle.nano_spec.specs.Grounded.{FirstUngrounded};
 ghost use Rattle.vox_depot.specs.Causes.{Rose};
 ghost use Rattle.nanobot_rows.specs.Answer.{AnswerOfTrace};
-ghost use Rattle.nanobot_rows.specs.Reading.{EndsUnstored};
+ghost use Rattle.nanobot_rows.specs.Reading.{EndsUnstored, OnlyReads};
 ghost use Rattle.nanobot_rows.specs.Touching.{IsWithinFile};
 
 use crate::report::Report;
@@ -39,9 +39,7 @@ pub fn run_trace<D: Depot, L: Ledger>(
     requires resolutions { source.resolution ≡ target.now.resolution }
     ensures ends { EndsUnstored (AnswerOfTrace profile source target.now name.now) (D.files depot.old)
         (Rose (D.faults depot.old) (D.faults depot.new)) result }
-    ensures files { D.files depot.new ≡ D.files depot.old }
-    ensures later { D.faults depot.old ≤ D.faults depot.new }
-    ensures stores { D.failed_stores depot.new ≡ D.failed_stores depot.old }
+    ensures only_reads { OnlyReads D.files D.faults D.failed_stores depot.old depot.new }
     ensures within { (result ≡ Err Stop.Memory → ⊥)
         → IsWithinFile profile source (D.files depot.old) name.now steps.old steps.new }
 {

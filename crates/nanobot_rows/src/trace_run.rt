@@ -7,7 +7,7 @@ ghost use Rattle.nano_spec.specs.Model.{volume};
 ghost use Rattle.trace_codec.specs.Decoder.{AnswersPiece, DecoderState, IsBetween, decoder_after};
 ghost use Rattle.vox_depot.specs.Files.{Files};
 ghost use Rattle.nanobot_rows.specs.Reading.{AnswerOfBytes, HasRun, reply_of};
-ghost use Rattle.nanobot_rows.specs.Taking.{Gets, Takes, TakesFront};
+ghost use Rattle.nanobot_rows.specs.Taking.{CanFeed, Gets, Takes, TakesFront};
 ghost use Rattle.nanobot_rows.specs.Touching.{HasPaid};
 
 mod alone;
@@ -70,8 +70,7 @@ impl TraceRun {
 
     /// Takes the next bytes of the trace. The work of their commands pays for the touches.
     pub fn feed<L: Ledger>(&mut self, piece: &[u8], steps: &mut Steps<L>) -> Result<(), Memory>
-        requires offset { self.old.decoder.offset + length self.old.decoder.held + length piece.now ≤ 1073741824 }
-        requires stands { self.old.run.spent ≡ false }
+        requires { CanFeed self.old piece.now }
         ensures { OnOk result (Takes self.old piece.now self.new steps.old steps.new) }
     {
         let mut at = 0;
@@ -85,8 +84,7 @@ impl TraceRun {
     #[inline(always)]
     fn advance<L: Ledger>(&mut self, piece: &[u8], steps: &mut Steps<L>) -> Result<usize, Memory>
         requires some { 1 ≤ length piece.now }
-        requires offset { self.old.decoder.offset + length self.old.decoder.held + length piece.now ≤ 1073741824 }
-        requires stands { self.old.run.spent ≡ false }
+        requires feeds { CanFeed self.old piece.now }
         ensures { IfOk result (λ n. TakesFront self.old piece.now n self.new steps.old steps.new) }
     {
         let used = self.run_where_alone(piece, steps)?;
@@ -102,8 +100,7 @@ impl TraceRun {
     #[inline(always)]
     fn next<L: Ledger>(&mut self, piece: &[u8], steps: &mut Steps<L>) -> Result<usize, Memory>
         requires some { 1 ≤ length piece.now }
-        requires offset { self.old.decoder.offset + length self.old.decoder.held + length piece.now ≤ 1073741824 }
-        requires stands { self.old.run.spent ≡ false }
+        requires feeds { CanFeed self.old piece.now }
         ensures { IfOk result (λ n. TakesFront self.old piece.now n self.new steps.old steps.new) }
     {
         if !self.decoder.is_between() {
@@ -132,8 +129,7 @@ impl TraceRun {
     ) -> Result<usize, Memory>
         requires between { IsBetween self.old.decoder }
         requires head { (rest : List ℕ) × (piece.now ≡ head ∷ rest) }
-        requires offset { self.old.decoder.offset + length self.old.decoder.held + length piece.now ≤ 1073741824 }
-        requires stands { self.old.run.spent ≡ false }
+        requires feeds { CanFeed self.old piece.now }
         ensures { IfOk result (λ n. TakesFront self.old piece.now n self.new steps.old steps.new) }
     {
         pieces_decode();
@@ -146,8 +142,7 @@ impl TraceRun {
     #[inline(never)]
     fn take<L: Ledger>(&mut self, piece: &[u8], steps: &mut Steps<L>) -> Result<usize, Memory>
         requires some { 1 ≤ length piece.now }
-        requires offset { self.old.decoder.offset + length self.old.decoder.held + length piece.now ≤ 1073741824 }
-        requires stands { self.old.run.spent ≡ false }
+        requires feeds { CanFeed self.old piece.now }
         ensures { IfOk result (λ n. TakesFront self.old piece.now n self.new steps.old steps.new) }
     {
         pieces_decode();

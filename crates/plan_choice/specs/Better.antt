@@ -11,8 +11,12 @@ use Rattle.plan_tape.specs.Reaches.{HasAtMost}
 use Rattle.plan_choice.specs.declared.bounds.Bounds.{Bounds}
 use Rattle.plan_tape.specs.Fissions.{is_fission}
 
--- the commands are no more than a run may have, cost less than that, and keep to the bounds, the bots by counting
--- Fissions
+-- a run may begin with this source, by this profile
+pub record CanRun (source : Matrix) (profile : Profile) : Type 0 where
+  pub grounded : FirstUngrounded source None
+  pub seeds : profile.seeds ≤ 39
+
+-- the commands are no more than a run may have, cost less than that, and keep to the bounds, the bots by counting Fissions
 pub record IsBetter (than : ℤ) (most : Bounds) (commands : List Command) (energy : ℤ) (steps : ℕ) : Type 0 where
   pub run : length commands ≤ 1073741824
   pub cheaper : energy <ℤ than
@@ -21,8 +25,7 @@ pub record IsBetter (than : ℤ) (most : Bounds) (commands : List Command) (ener
   pub bytes_are : length (spellings commands) ≤ most.bytes
   pub fissions_are : count_by is_fission commands < most.bots
 
--- a plan that may stand in the place of another: the definitions accept it, it is no dearer, and it keeps each bound
--- that the other keeps
+-- a plan that may stand in the place of another: the definitions accept it, it is no dearer, and it keeps each bound that the other keeps
 pub record MayStandFor (source target : Matrix) (profile : Profile) (most : Bounds) (plan it : Plan) : Type 0 where
   pub accepted : IsAccepted source target it.commands profile it.energy it.steps
   pub energy : it.energy ≤ℤ plan.energy
@@ -40,6 +43,5 @@ pub record CanImprove (source target : Matrix) (profile : Profile) (plan : Plan)
 
 -- the proposal is taken wherever the definitions accept it with less energy and within the bounds
 abbrev pub IsChosen : Matrix → Matrix → Profile → Bounds → Plan → List Command → Plan → Type 0
-IsChosen source target profile most plan proposal it =
-    (energy : ℤ) (steps : ℕ) → IsAccepted source target proposal profile energy steps
+IsChosen source target profile most plan proposal it = (energy : ℤ) (steps : ℕ) → IsAccepted source target proposal profile energy steps
     → IsBetter plan.energy most proposal energy steps → it.commands ≡ proposal

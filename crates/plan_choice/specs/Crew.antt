@@ -1,5 +1,6 @@
 -- A crew's plan in the making, and the one of two plans that stands.
 use Rattle.std.specs.Prelude.{◌≡◌, ◌⊎◌, ◌≤◌, ◌≤ℤ◌, length}
+use Rattle.nano_spec.specs.Legal.{IsLegal}
 use Rattle.nano_spec.specs.Matrix.{Matrix}
 use Rattle.nano_spec.specs.Profile.{full_profile}
 use Rattle.nano_spec.specs.Spelling.{spellings}
@@ -10,6 +11,12 @@ use Rattle.plan_choice.specs.Planners.{IsPlan, crew_limit}
 pub record IsForCrew (source target : Matrix) (it : Plan) : Type 0 where
   pub plan : IsPlan full_profile 40 source target it.commands it.energy it.steps
   pub few_bytes : length (spellings it.commands) ≤ crew_limit
+
+-- a crew's plan to a legal target, in whose place one from nothing may stand where the source is empty
+pub record MayBuildInstead (from to : Matrix) (plan : Plan) : Type 0 where
+  pub target : IsLegal to
+  pub same : from.resolution ≡ to.resolution
+  pub crew : IsForCrew from to plan
 
 -- the plan that stands is one of two, and costs no more than either
 pub record Replaces (first second it : Plan) : Type 0 where

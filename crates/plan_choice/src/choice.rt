@@ -1,10 +1,9 @@
 //! A proposal is judged, and chosen where it is cheaper.
 ghost use Rattle.std.specs.Prelude.{◌≡◌, ◌⊎◌, ◌≤◌, ℕ, ℤ, IfOk, IfSome, None, Ok, length};
 ghost use Rattle.vox_geom.specs.Counting.{IsBlankOf};
-ghost use Rattle.nano_spec.specs.Grounded.{FirstUngrounded};
 ghost use Rattle.nano_spec.specs.Verdict.{VerdictOf};
 ghost use Rattle.plan_tape.specs.Progress.{IsAccepted};
-ghost use Rattle.plan_choice.specs.Better.{CanImprove, IsBetter, IsChosen, MayStandFor};
+ghost use Rattle.plan_choice.specs.Better.{CanImprove, CanRun, IsBetter, IsChosen, MayStandFor};
 
 use crate::bounds::{Bounds, MOST_COMMANDS, bytes_of, fissions_of};
 use nano_spec::{Command, CommandList, Profile, Verdict, one_verdict};
@@ -32,9 +31,8 @@ fn judged_in<L: Ledger>(
     commands: &[Command],
     blank: Blank,
 ) -> Result<Verdict, Memory>
-    requires grounded { FirstUngrounded source.now None }
+    requires run { CanRun source.now profile }
     requires resolution { source.now.resolution ≡ target.now.resolution }
-    requires seeds { profile.seeds ≤ 39 }
     requires few { length commands.now ≤ 1073741824 }
     requires blank { IsBlankOf blank L.name L.parts }
     ensures { IfOk result (λ v. VerdictOf source.now target.now commands.now profile v) }
@@ -58,9 +56,8 @@ fn judge_proposal(
     profile: Profile,
     commands: &[Command],
 ) -> Result<Verdict, Memory>
-    requires grounded { FirstUngrounded source.now None }
+    requires run { CanRun source.now profile }
     requires resolution { source.now.resolution ≡ target.now.resolution }
-    requires seeds { profile.seeds ≤ 39 }
     requires few { length commands.now ≤ 1073741824 }
     ensures { IfOk result (λ v. VerdictOf source.now target.now commands.now profile v) }
 {
@@ -78,9 +75,8 @@ pub fn improvement(
     proposal: &[Command],
     most: Bounds,
 ) -> Result<Option<Price>, Memory>
-    requires grounded { FirstUngrounded source.now None }
+    requires run { CanRun source.now profile }
     requires resolution { source.now.resolution ≡ target.now.resolution }
-    requires seeds { profile.seeds ≤ 39 }
     ensures accepted { IfOk result (λ o. IfSome o
         (λ cost. IsAccepted source.now target.now proposal.now profile cost.energy cost.steps)) }
     ensures within { IfOk result (λ o. IfSome o (λ cost. IsBetter energy most proposal.now cost.energy cost.steps)) }

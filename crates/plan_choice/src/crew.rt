@@ -5,7 +5,7 @@ ghost use Rattle.nano_spec.specs.Matrix.{empty};
 ghost use Rattle.plan_tape.specs.Models.{AreLegalModels};
 ghost use Rattle.group_planner.specs.Bounds.{most_bytes};
 ghost use Rattle.low_planner.specs.Supported.{FirstUnsupported};
-ghost use Rattle.plan_choice.specs.Crew.{IsForCrew, Replaces};
+ghost use Rattle.plan_choice.specs.Crew.{IsForCrew, MayBuildInstead, Replaces};
 ghost use Rattle.plan_choice.specs.Planners.{crew_limit, IsCrewPlan, IsGroupPlan, IsLayerPlan, IsLowPlan, IsNoDearer, IsSwarmPlan, IsVoidPlan};
 
 use crate::alone::affordable;
@@ -96,9 +96,7 @@ fn or_void(alloc: Global, source: &Planes, target: &Planes, plan: Plan) -> Resul
 
 /// The plan, or the low planner's, where the source is empty, all parts of the target are supported and that is cheaper.
 fn or_low(alloc: Global, source: &Planes, target: &Planes, plan: Plan) -> Result<Plan, Memory>
-    requires target { IsLegal target.now }
-    requires same { source.now.resolution ≡ target.now.resolution }
-    requires crew { IsForCrew source.now target.now plan }
+    requires { MayBuildInstead source.now target.now plan }
     ensures crew { IfOk result (IsForCrew source.now target.now) }
     ensures no_dearer { IfOk result (λ it. it.energy ≤ℤ plan.energy) }
     ensures as_low { source.now ≡ empty source.now.resolution → FirstUnsupported target.now None
@@ -120,9 +118,7 @@ fn or_low(alloc: Global, source: &Planes, target: &Planes, plan: Plan) -> Result
 
 /// The plan, or the swarm planner's, where the source is empty and that is cheaper.
 fn or_swarm(alloc: Global, source: &Planes, target: &Planes, plan: Plan) -> Result<Plan, Memory>
-    requires target { IsLegal target.now }
-    requires same { source.now.resolution ≡ target.now.resolution }
-    requires crew { IsForCrew source.now target.now plan }
+    requires { MayBuildInstead source.now target.now plan }
     ensures crew { IfOk result (IsForCrew source.now target.now) }
     ensures no_dearer { IfOk result (λ it. it.energy ≤ℤ plan.energy) }
     ensures as_swarm { source.now ≡ empty source.now.resolution

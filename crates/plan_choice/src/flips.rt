@@ -1,8 +1,7 @@
 //! Plans that are under High no longer than some voxel floats.
-ghost use Rattle.std.specs.Prelude.{◌≡◌, ◌≤◌, None, IfOk, length};
+ghost use Rattle.std.specs.Prelude.{◌≡◌, IfOk, length};
 ghost use Rattle.vox_geom.specs.Counting.{IsBlankOf};
-ghost use Rattle.nano_spec.specs.Grounded.{FirstUngrounded};
-ghost use Rattle.plan_choice.specs.Better.{CanImprove, MayStandFor};
+ghost use Rattle.plan_choice.specs.Better.{CanImprove, CanRun, MayStandFor};
 
 use crate::alone::affordable;
 use crate::bounds::Bounds;
@@ -65,8 +64,7 @@ fn lowered_in<L: Ledger>(
     commands: &[Command],
     blank: Blank,
 ) -> Result<CommandList, Memory>
-    requires grounded { FirstUngrounded source.now None }
-    requires seeds { profile.seeds ≤ 39 }
+    requires run { CanRun source.now profile }
     requires blank { IsBlankOf blank L.name L.parts }
 {
     let mut steps: Steps<L> = Steps::new(blank);
@@ -112,8 +110,7 @@ pub fn lower_commands(
     profile: Profile,
     commands: &[Command],
 ) -> Result<CommandList, Memory>
-    requires grounded { FirstUngrounded source.now None }
-    requires seeds { profile.seeds ≤ 39 }
+    requires { CanRun source.now profile }
 {
     lowered_in::<Brand>(alloc, source, profile, commands, Blank::new(1))
 }

@@ -1,7 +1,6 @@
 //! Proposals that are made one after another, each of which is judged: the cheapest stands in the end.
-ghost use Rattle.std.specs.Prelude.{◌≤◌, None, IfOk};
-ghost use Rattle.nano_spec.specs.Grounded.{FirstUngrounded};
-ghost use Rattle.plan_choice.specs.Better.{CanImprove, MayStandFor};
+ghost use Rattle.std.specs.Prelude.{IfOk};
+ghost use Rattle.plan_choice.specs.Better.{CanImprove, CanRun, MayStandFor};
 
 use crate::alone::{affordable, is_void};
 use crate::bounds::Bounds;
@@ -144,8 +143,7 @@ fn propose(
     steps: u64,
     bots: u8,
 ) -> Result<Option<CommandList>, Memory>
-    requires grounded { FirstUngrounded source.now None }
-    requires seeds { profile.seeds ≤ 39 }
+    requires { CanRun source.now profile }
 {
     if let Trial::Squads(manner) = trial {
         return by_manner(alloc, source, target, manner, steps, bots);

@@ -1,6 +1,7 @@
 //! The run of an only bot: what is asked of a run at each command is asked once for many.
-ghost use Rattle.std.specs.Prelude.{◌≡◌, ◌+◌, ◌≤◌, ℕ, List, ◌∷◌, false, length, IfOk};
+ghost use Rattle.std.specs.Prelude.{◌≡◌, ◌+◌, ◌≤◌, ℕ, List, ◌∷◌, length, IfOk};
 ghost use Rattle.nanobot_rows.specs.Alone.{WentOn, IsAtCommand, TakesUpTo};
+ghost use Rattle.nanobot_rows.specs.Taking.{CanFeed};
 
 use super::TraceRun;
 use std::sync::ledger::Ledger;
@@ -29,8 +30,7 @@ impl TraceRun {
         piece: &[u8],
         steps: &mut Steps<L>,
     ) -> Result<usize, Memory>
-        requires stands { self.old.run.spent ≡ false }
-        requires offset { self.old.decoder.offset + length self.old.decoder.held + length piece.now ≤ 1073741824 }
+        requires { CanFeed self.old piece.now }
         ensures { IfOk result (λ n. TakesUpTo self.old piece.now n self.new steps.old steps.new) }
     {
         if !self.runner.is_alone() {

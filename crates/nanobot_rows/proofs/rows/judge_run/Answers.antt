@@ -18,11 +18,11 @@ returns-in_err-source-clause-within g c = λ _. run_untouched c.args.profile _ (
 pub returns-clause-ends : goal.returns-clause-ends
 returns-clause-ends g c =
     says_found (ModelsOf (side_of c.args.source) (side_of c.args.target)) (λ models. AnswerOfTrace c.args.profile models.0 models.1 c.args.trace.now) reply_of (c.in_ok-source.source, c.in_ok-source.target) _ _ _ _ _ c.run_trace.result
-    (c.in_ok-source.ensures {u = tt}).reads c.load_models.ensures.files c.load_models.ensures.later c.run_trace.ensures.ends
+    (c.in_ok-source.ensures {u = tt}).reads c.load_models.ensures.only_reads.files c.load_models.ensures.only_reads.later c.run_trace.ensures.ends
 
 pub returns-clause-within : goal.returns-clause-within
 returns-clause-within g c = λ no_memory.
-    run_within c.args.profile _ (side_of c.args.source) (side_of c.args.target) c.args.trace.now (one_named _ _ c.requires.some) c.in_ok-source.source c.in_ok-source.target _ _ _ (c.in_ok-source.ensures {u = tt}).reads c.load_models.ensures.files (c.run_trace.ensures.within no_memory)
+    run_within c.args.profile _ (side_of c.args.source) (side_of c.args.target) c.args.trace.now (one_named _ _ c.requires.some) c.in_ok-source.source c.in_ok-source.target _ _ _ (c.in_ok-source.ensures {u = tt}).reads c.load_models.ensures.only_reads.files (c.run_trace.ensures.within no_memory)
 
 pub run_trace-requires-clause-grounded : goal.run_trace-requires-clause-grounded
 run_trace-requires-clause-grounded g c = (legal_is c.in_ok-source.source (c.in_ok-source.ensures {u = tt}).source).1
