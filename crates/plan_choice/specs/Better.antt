@@ -43,5 +43,6 @@ pub record CanImprove (source target : Matrix) (profile : Profile) (plan : Plan)
 
 -- the proposal is taken wherever the definitions accept it with less energy and within the bounds
 abbrev pub IsChosen : Matrix → Matrix → Profile → Bounds → Plan → List Command → Plan → Type 0
-IsChosen source target profile most plan proposal it = (energy : ℤ) (steps : ℕ) → IsAccepted source target proposal profile energy steps
+IsChosen source target profile most plan proposal it =
+    (energy : ℤ) (steps : ℕ) → IsAccepted source target proposal profile energy steps
     → IsBetter plan.energy most proposal energy steps → it.commands ≡ proposal
