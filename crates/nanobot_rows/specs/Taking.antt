@@ -20,8 +20,8 @@ pub record CanFeed (s : RunState) (bytes : List ℕ) : Type 0 where
   pub offset : s.decoder.offset + length s.decoder.held + length bytes ≤ 1073741824
   pub stands : s.run.spent ≡ false
 
--- a run takes the bytes, with voxels touched so often until it began and until it ended: whatever it was a run of, it is then one of these
--- bytes more, and the work of their commands pays for the touches
+-- a run takes the bytes, with voxels touched so often until it began and until it ended: whatever it was a run of, it
+-- is then one of these bytes more, and the work of their commands pays for the touches
 >>>>>>> ebd7b88f4b63673415a09b44296c86a7cebbe472
 pub record Takes (old : RunState) (bytes : List ℕ) (new : RunState) (began ended : ℕ) : Type 0 where
   pub run : (source : Matrix) (profile : Profile) (before : List ℕ) → HasRun source profile before old

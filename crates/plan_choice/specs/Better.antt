@@ -16,7 +16,8 @@ pub record CanRun (source : Matrix) (profile : Profile) : Type 0 where
   pub grounded : FirstUngrounded source None
   pub seeds : profile.seeds ≤ 39
 
--- the commands are no more than a run may have, cost less than that, and keep to the bounds, the bots by counting Fissions
+-- the commands are no more than a run may have, cost less than that, and keep to the bounds, the bots by counting
+-- Fissions
 pub record IsBetter (than : ℤ) (most : Bounds) (commands : List Command) (energy : ℤ) (steps : ℕ) : Type 0 where
   pub run : length commands ≤ 1073741824
   pub cheaper : energy <ℤ than
@@ -25,7 +26,8 @@ pub record IsBetter (than : ℤ) (most : Bounds) (commands : List Command) (ener
   pub bytes_are : length (spellings commands) ≤ most.bytes
   pub fissions_are : count_by is_fission commands < most.bots
 
--- a plan that may stand in the place of another: the definitions accept it, it is no dearer, and it keeps each bound that the other keeps
+-- a plan that may stand in the place of another: the definitions accept it, it is no dearer, and it keeps each bound
+-- that the other keeps
 pub record MayStandFor (source target : Matrix) (profile : Profile) (most : Bounds) (plan it : Plan) : Type 0 where
   pub accepted : IsAccepted source target it.commands profile it.energy it.steps
   pub energy : it.energy ≤ℤ plan.energy
