@@ -80,8 +80,13 @@ instants_of p (undo ∷ notes) = first_instant p (undo ∷ notes) ∷ instants_o
 -- what is seen of a machine, its notes and its trace
 abbrev pub kept_of : Situation → Buffer Undo → Option (List Command) → Kept
 kept_of m notes trace =
-    record { state = m.state; steps = m.steps; past = instants_of (instant_of m) notes.items; room = notes.capacity;
-    trace = trace }
+    record {
+      state = m.state;
+      steps = m.steps;
+      past = instants_of (instant_of m) notes.items;
+      room = notes.capacity;
+      trace = trace;
+    }
 
 -- the steps of the notes can be taken back, one after another
 abbrev pub CanBeTakenBack : Instant → List Undo → Type 0

@@ -29,8 +29,12 @@ halts_by _ = 0
 -- what is told of a step that is judged
 abbrev pub judged_told : Kept → StepAnswer → JudgedTold
 judged_told k answer =
-    record { energy = energy_by k.state.energy answer; offset = offset_by answer; halts = halts_by answer;
-    broken = rule_told answer }
+    record {
+      energy = energy_by k.state.energy answer;
+      offset = offset_by answer;
+      halts = halts_by answer;
+      broken = rule_told answer;
+    }
 
 -- a step of the bytes is judged
 abbrev pub IsJudged : Option Kept → List ℕ → JudgedTold → JudgedTold → ℕ → Type 0

@@ -16,8 +16,11 @@ moved bot p = record { bid = bot.bid; pos = coordinate p; seeds = bot.seeds }
 -- the new bot of a Fission takes the first seed as its bid, and the next m as its seeds
 abbrev pub newborn : Bot → Point → ℕ → Bot
 newborn bot p m =
-    record { bid = slice_index (seed_list bot.seeds) 0; pos = coordinate p;
-    seeds = seed_set (take m (drop 1 (seed_list bot.seeds))) }
+    record {
+      bid = slice_index (seed_list bot.seeds) 0;
+      pos = coordinate p;
+      seeds = seed_set (take m (drop 1 (seed_list bot.seeds)));
+    }
 
 -- the old bot of a Fission keeps the seeds after those
 abbrev pub parent : Bot → ℕ → Bot
@@ -26,8 +29,11 @@ parent bot m = record { bid = bot.bid; pos = bot.pos; seeds = seed_set (drop (m 
 -- the primary of a fusion takes the secondary's bid and seeds as seeds
 abbrev pub fused : Bot → Bot → Bot
 fused bot other =
-    record { bid = bot.bid; pos = bot.pos;
-    seeds = seed_set (filter (λ k. is_seed bot.seeds k || is_seed other.seeds k || k == other.bid) seed_numbers) }
+    record {
+      bid = bot.bid;
+      pos = bot.pos;
+      seeds = seed_set (filter (λ k. is_seed bot.seeds k || is_seed other.seeds k || k == other.bid) seed_numbers);
+    }
 
 -- the primary of a fusion after it, by its partner; without one it breaks a rule, and stays
 abbrev pub after_fusion : Bot → Option Act → Bot

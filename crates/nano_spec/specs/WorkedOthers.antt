@@ -80,8 +80,13 @@ both_fill = GFill (diff (pos 1) (pos 0) (pos 0)) (diff (pos 0) (pos 0) (pos 1))
 -- groups that act one after another
 pub record WorkedOrders : Type 0 where
   -- the step costs 375 for the space, 40 for the bots, and 4 for the move
-  pub in_rising_order : serial with_two one_moves (1 ∷ 2 ∷ []) ≡ Some (record { matrix = empty 5; harmonics = Low;
-      bots = bot 1 0 0 0 ∷ bot 2 0 0 3 ∷ []; energy = pos 419; profile = full_profile })
+  pub in_rising_order : serial with_two one_moves (1 ∷ 2 ∷ []) ≡ Some (record {
+    matrix = empty 5;
+    harmonics = Low;
+    bots = bot 1 0 0 0 ∷ bot 2 0 0 3 ∷ [];
+    energy = pos 419;
+    profile = full_profile;
+  })
   -- the other order gives the same state
   pub in_falling_order : serial with_two one_moves (2 ∷ 1 ∷ []) ≡ Some (after with_two one_moves)
   -- two bots are one group, which acts once

@@ -11,10 +11,6 @@ use Rattle.trace_codec.specs.declared.decoder.Fed.TheVariants.{Got, All, Bad}
 use Rattle.nanobot_rows.specs.Reading.{HasRun, RunState}
 use Rattle.nanobot_rows.specs.Touching.{HasPaid}
 
-<<<<<<< HEAD
--- a run takes the bytes, with voxels touched so often until it began and until it ended: whatever it was a run of, it
--- is then one of these bytes more, and the work of their commands pays for the touches
-=======
 -- a run may be fed the bytes: it stands, and with them its trace is no longer than one that is run
 pub record CanFeed (s : RunState) (bytes : List ℕ) : Type 0 where
   pub offset : s.decoder.offset + length s.decoder.held + length bytes ≤ 1073741824
@@ -22,7 +18,6 @@ pub record CanFeed (s : RunState) (bytes : List ℕ) : Type 0 where
 
 -- a run takes the bytes, with voxels touched so often until it began and until it ended: whatever it was a run of, it
 -- is then one of these bytes more, and the work of their commands pays for the touches
->>>>>>> ebd7b88f4b63673415a09b44296c86a7cebbe472
 pub record Takes (old : RunState) (bytes : List ℕ) (new : RunState) (began ended : ℕ) : Type 0 where
   pub run : (source : Matrix) (profile : Profile) (before : List ℕ) → HasRun source profile before old
       → HasRun source profile (before ++ bytes) new

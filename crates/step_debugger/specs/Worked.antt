@@ -30,8 +30,11 @@ floating = Fission (diff (pos 0) (pos 0) (pos 1)) 0 ∷ Fill (diff (pos 0) (pos 
 -- a session in which so many steps of one Wait were made
 abbrev pub with_past : ℕ → Session
 with_past n =
-    record { point = record { state = with_one Low (pos 0); steps = n; taken = n };
-    past = replicate n (record { state = with_one Low (pos 0); steps = 0; taken = 0 }); begun = [] }
+    record {
+      point = record { state = with_one Low (pos 0); steps = n; taken = n };
+      past = replicate n (record { state = with_one Low (pos 0); steps = 0; taken = 0 });
+      begun = [];
+    }
 
 -- sessions
 pub record WorkedSessions : Type 0 where

@@ -45,8 +45,10 @@ module _ (s : State) (b : Bot) (d : Diff) (only : s.bots ≡ b ∷ []) (i : in_s
       subst (λ (t : State). record t { matrix = with_voxel t.matrix there false; energy = (t.energy +ℤ upkeep t) +ℤ cond (is_full t.matrix there) (negsuc 11) (pos 3) } ≡ after t (Void d ∷ [])) same
       (λ j. record { matrix = matrix j; harmonics = s.harmonics; bots = b ∷ []; energy = (s.energy +ℤ upkeep start) +ℤ cost j; profile = s.profile })
 
-  changed_on : (full : Bool) → record s { matrix = with_voxel s.matrix there full;
-      energy = (s.energy +ℤ upkeep s) +ℤ edit_cost full (is_full s.matrix there) } ≡ after s (edit_of full d ∷ [])
+  changed_on : (full : Bool) → record s {
+    matrix = with_voxel s.matrix there full;
+    energy = (s.energy +ℤ upkeep s) +ℤ edit_cost full (is_full s.matrix there);
+  } ≡ after s (edit_of full d ∷ [])
   changed_on true = filled_on
   changed_on false = voided_on
 

@@ -314,8 +314,11 @@ read_by r s ws us y i first from count w u hw hu e ly li ec ef e1 ew eu a =
 pub read_differs : (r s : ℕ) (ws us : List ℕ) (m n : Matrix) (y i first count w u side : ℕ)
     → IsRead r ws us y i first count w u → r ≡ s → layered r ws ≡ m → layered s us ≡ n → side ≡ r
     → (bit_xor w u ≡ 0 → ⊥) → bit_xor w u < 2 ^ 64 → ((i * 64 + trailing_zeros w64 (bit_xor w u)) / side < r) × LeastOf
-    m.resolution (in_layer_differ m n y) (Some (record { x = (i * 64 + trailing_zeros w64 (bit_xor w u)) / side; y = y;
-    z = (i * 64 + trailing_zeros w64 (bit_xor w u)) % side }))
+    m.resolution (in_layer_differ m n y) (Some (record {
+      x = (i * 64 + trailing_zeros w64 (bit_xor w u)) / side;
+      y = y;
+      z = (i * 64 + trailing_zeros w64 (bit_xor w u)) % side;
+    }))
 read_differs r s ws us m n y i first count w u side h e em en es nz l =
     let k : ℕ = trailing_zeros w64 (bit_xor w u) in
     let found = first_differs ws us first i w u h.word h.other (omega arith) l h.alike in
