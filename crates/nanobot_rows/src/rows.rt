@@ -186,9 +186,7 @@ pub fn answer<'a, D: Depot, L: Ledger>(
     ensures finishes { EndsStored (AnswerOf (row_of row.entry)) (D.files depot.old)
         (Rose (D.faults depot.old) (D.faults depot.new)) result }
     ensures named { IfOk result (IsFor (stores_of (row_of row.entry))) }
-    ensures files { D.files depot.new ≡ D.files depot.old }
-    ensures later { D.faults depot.old ≤ D.faults depot.new }
-    ensures stores { D.failed_stores depot.new ≡ D.failed_stores depot.old }
+    ensures only_reads { OnlyReads D.files D.faults D.failed_stores depot.old depot.new }
     ensures within { (result ≡ Err Stop.Memory → ⊥)
         → IsRowWithin (row_of row.entry) (D.files depot.old) steps.old steps.new }
 {
