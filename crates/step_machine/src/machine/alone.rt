@@ -189,19 +189,19 @@ impl Machine {
     #[inline(never)]
     fn edit_alone<const FULL: bool, L: Ledger>(
         &mut self,
-        d: &Near,
+        d: Near,
         fault: &mut StepFault,
         steps: &mut Steps<L>,
     ) -> bool
         requires alone { IsSolo self.old }
         requires steps { self.old.steps < 1073741824 }
-        ensures { Stepped self.old self.new (edit_of FULL d.now ∷ []) (answer_of result self.new.state fault.new)
+        ensures { Stepped self.old self.new (edit_of FULL d ∷ []) (answer_of result self.new.state fault.new)
             steps.old steps.new }
     {
-        if self.edit_at_once::<FULL, L>(*d, steps) {
+        if self.edit_at_once::<FULL, L>(d, steps) {
             return true;
         }
-        self.edit_and_settle::<FULL, L>(*d, fault, steps)
+        self.edit_and_settle::<FULL, L>(d, fault, steps)
     }
 
     /// Whether one bot is left, the machine is not spent, and each full voxel is held up, where it has to be.
@@ -254,13 +254,13 @@ impl Machine {
                 Tried::Refused
             }
             Command::Fill(d) => {
-                if self.edit_alone::<true, L>(d, fault, steps) {
+                if self.edit_alone::<true, L>(*d, fault, steps) {
                     return Tried::Made;
                 }
                 Tried::Refused
             }
             Command::Void(d) => {
-                if self.edit_alone::<false, L>(d, fault, steps) {
+                if self.edit_alone::<false, L>(*d, fault, steps) {
                     return Tried::Made;
                 }
                 Tried::Refused

@@ -11,7 +11,7 @@ returns-then-edit_at_once g c = c.edit_at_once.ensures.made c.if-edit_at_once.tr
 
 pub returns : goal.returns
 returns g c =
-    let commands : List Command = edit_of (not (eqb g.row.FULL 0)) c.args.d.now ∷ [] in
+    let commands : List Command = edit_of (not (eqb g.row.FULL 0)) c.args.d ∷ [] in
     let stays = c.edit_at_once.ensures.stays c.if-edit_at_once.false in
     subst (λ (v : Situation). Stepped v c.edit_and_settle.new.self commands (answer_of c.edit_and_settle.result c.edit_and_settle.new.self.state c.edit_and_settle.new.fault) c.args.steps.now c.edit_and_settle.new.steps) stays
     (c.edit_and_settle.ensures c.args.steps.now
