@@ -1,13 +1,14 @@
 -- A voxel that becomes full beside others whose levels stay as they are.
 use Rattle.std.proofs.Common.{◌≡◌, ℕ, ◌+◌, ◌*◌, ◌/◌, ◌%◌, ◌<◌, ◌≤◌, ◌⊎◌, inl, inr, refl, sym, ◌∙◌, ap, subst, arith, Bool, true, false, List, length}
-use Rattle.std.specs.Prelude.{slice_index_or, MatchBool}
+use Rattle.std.specs.Prelude.{slice_index_or, ◌==◌, MatchBool}
 use Rattle.std.specs.List.{Contains}
 use Rattle.std.proofs.lemmas.Bool.{cases_lt, false≢true}
 use Rattle.std.proofs.lemmas.List.{get_or_default}
 use Rattle.vox_geom.specs.declared.coordinate.Coord.{Coord}
 use Rattle.vox_geom.specs.Space.{IsInSpace}
 use Rattle.vox_geom.proofs.Points.{same_or_not}
-use Rattle.support_forest.specs.declared.candidate.Candidate.{Candidate}
+use Rattle.vox_geom.proofs.Tests.{positive_by_test, zero_by_test}
+use Rattle.support_forest.specs.Candidates.{Candidate}
 use Rattle.support_forest.specs.declared.beside.Beside.{Beside}
 use Rattle.support_forest.specs.declared.place.Around.{Around}
 use Rattle.support_forest.specs.Directions.{Toward, AreBeside, lies_left, lies_right, lies_under, lies_over, lies_near, lies_far}
@@ -289,6 +290,13 @@ around_none w c a h t = record {
   highest = λ k q l u g. let toward_range = toward_range_seven k c q u in absurd (omega (arith, toward_range.0));
   loose = λ k q l u f g. let toward_range = toward_range_seven k c q u in absurd (omega (arith, toward_range.0));
 }
+
+-- whether a voxel is one of the floor
+pub on_floor : (c : Coord) (b : Bool) → b ≡ (c.y == 0) → b ≡ true → c.y ≡ 0
+on_floor c b e h = zero_by_test c.y (sym e ∙ h)
+
+pub off_floor : (c : Coord) (b : Bool) → b ≡ (c.y == 0) → b ≡ false → 0 < c.y
+off_floor c b e h = positive_by_test c.y (sym e ∙ h)
 
 -- ---- the voxel is full
 

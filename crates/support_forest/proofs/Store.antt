@@ -30,14 +30,14 @@ pub brick_inside : (r : ℕ) (c : Coord) → IsInSpace r c → IsInSpace (side r
 unfolding side
 brick_inside r c h = let along_x = h.x in let along_y = h.y in let along_z = h.z in record { x = omega arith; y = omega arith; z = omega arith }
 
-pub few_bricks : (r : ℕ) → r ≤ 400 → side r ≤ 50
+pub few_bricks : (r : ℕ) → r ≤ 400 → side r ≤ 51
 unfolding side
 few_bricks r h = omega arith
 
-pub cube_of_bricks : (n : ℕ) → n ≤ 50 → n * n * n ≤ 125000
+pub cube_of_bricks : (n : ℕ) → n ≤ 51 → n * n * n ≤ 132651
 cube_of_bricks n h =
-    let at_most_product : n * n ≤ 50 * n = grind arith in
-    let at_most_n : n * n * n ≤ 50 * n * n = grind arith in
+    let at_most_product : n * n ≤ 51 * n = grind arith in
+    let at_most_n : n * n * n ≤ 51 * n * n = grind arith in
     omega arith
 
 pub index_below : (c : Coord) → word_index c < 512
@@ -111,11 +111,11 @@ count_taken (o ∷ more) (suc n) s l e =
     omega arith
 
 -- there is room for the slot of each brick
-pub few_live : (g : Grid) → IsStore g → len g.bricks ≤ 125000
+pub few_live : (g : Grid) → IsStore g → len g.bricks ≤ 132651
 few_live g h =
     let at_most_length : count_by is_some g.table ≤ length g.table = count_by-le-length is_some g.table in
     let length_is : length g.table ≡ side g.resolution * side g.resolution * side g.resolution = h.bricks in
-    let side_to_125000 : side g.resolution * side g.resolution * side g.resolution ≤ 125000 = cube_of_bricks (side g.resolution) (few_bricks g.resolution h.few) in
+    let few_bricks_here : side g.resolution * side g.resolution * side g.resolution ≤ 132651 = cube_of_bricks (side g.resolution) (few_bricks g.resolution h.few) in
     let len_is : len g.bricks ≡ count_by is_some g.table = h.count in
     omega arith
 
@@ -125,7 +125,7 @@ pub number_is : (r s n : ℕ) (c : Coord) → s ≡ side r → n ≡ place s (br
 unfolding brick_number
 number_is r s n c e h = h ∙ ap (λ (k : ℕ). place k (brick c)) e
 
-pub side_is : (r n : ℕ) → (r ≤ n * 8) × (n * 8 < r + 8) → n ≡ side r
+pub side_is : (r n : ℕ) → (r ≤ n * 8) × (n * 8 < r + 8) → n + 1 ≡ side r
 unfolding side
 side_is r n h = omega arith
 

@@ -1,9 +1,8 @@
 -- What the reads and the write of a voxel's word ask for and leave.
-use Rattle.std.specs.Prelude.{◌≡◌, ℕ, ◌+◌, ◌<◌, List, Some}
-use Rattle.brick_arena.specs.Slots.{HasSlot, start_in_chunk}
+use Rattle.std.specs.Prelude.{◌≡◌, ℕ, ◌+◌, ◌<◌, Some}
 use Rattle.vox_geom.specs.declared.coordinate.Coord.{Coord}
 use Rattle.vox_geom.specs.Space.{IsInSpace}
-use Rattle.support_forest.specs.Grid.{Grid, slot_of, word_at}
+use Rattle.support_forest.specs.Grid.{Grid, slot_of, word_at, word_index}
 use Rattle.support_forest.specs.Words.{IsWritten}
 
 -- the voxel lies in space, and so do all full ones
@@ -17,12 +16,12 @@ pub record LieInBrick (g : Grid) (c : Coord) (own : ℕ) : Type 0 where
   pub slot : slot_of g c ≡ Some own
   pub space : (q : Coord) → 0 < word_at g q → IsInSpace g.resolution q
 
--- the voxel lies in space, and the chunk has the words of the slot of its brick, from that start on
-pub record IsReadIn (g : Grid) (c : Coord) (own : ℕ) (words : List ℕ) (from : ℕ) : Type 0 where
+-- the voxel lies in space, and its word is that at an index of the slot of its brick
+pub record IsWordOf (g : Grid) (own at word : ℕ) (c : Coord) : Type 0 where
   pub within : IsInSpace g.resolution c
   pub slot : slot_of g c ≡ Some own
-  pub chunk : HasSlot g.bricks own words
-  pub start : from ≡ start_in_chunk own
+  pub index : at ≡ word_index c
+  pub stands : word ≡ word_at g c
 
 -- the word of the voxel was written, by one touch
 pub record HasWritten (old new : Grid) (c : Coord) (word before after : ℕ) : Type 0 where

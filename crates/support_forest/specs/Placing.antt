@@ -40,9 +40,11 @@ pub record IsIndexToward (c : Coord) (d index : ℕ) : Type 0 where
   pub same_brick : brick there ≡ brick c
   pub at_index : word_index there ≡ index
 
--- the voxel of these components
-abbrev pub voxel_of : ℕ → ℕ → ℕ → Coord
-voxel_of x y z = record { x = x; y = y; z = z }
+-- the same where the voxel's own index stands at another place, and so does the neighbour's
+pub record IsPlaceToward (c : Coord) (d own at place : ℕ) : Type 0 where
+  pub index : ℕ
+  pub toward : IsIndexToward c d index
+  pub moved : place + own ≡ at + index
 
 -- the voxel is the last of its brick in the direction
 pub record EndsBrick (c : Coord) (d : ℕ) : Type 0 where

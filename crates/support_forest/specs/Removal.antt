@@ -2,7 +2,7 @@
 use Rattle.std.specs.Prelude.{◌≡◌, ℕ, ◌+◌, ◌*◌, ◌<◌, ◌≤◌, List, length}
 use Rattle.std.specs.List.{Contains}
 use Rattle.vox_geom.specs.declared.coordinate.Coord.{Coord}
-use Rattle.support_forest.specs.declared.orphan.Orphan.{Orphan}
+use Rattle.support_forest.specs.Candidates.{Orphan}
 use Rattle.support_forest.specs.Grid.{Grid, word_at}
 use Rattle.support_forest.specs.Losing.{AreLosing}
 use Rattle.support_forest.specs.Words.{changed}

@@ -1,14 +1,18 @@
 //! The words of all six neighbours of a voxel, and its own.
-ghost use Rattle.std.specs.Prelude.{◌≡◌, ◌+◌, ◌≤◌};
-ghost use Rattle.support_forest.specs.Access.{IsReadIn, LieInBrick, LieInSpace};
+ghost use Rattle.std.specs.Prelude.{◌≡◌, ◌+◌, ◌%◌, ◌<◌, ◌≤◌, ℕ};
+ghost use Rattle.brick_arena.specs.Slots.{start_in_chunk as start_in_chunk_of};
+ghost use Rattle.vox_geom.specs.Space.{IsInSpace};
+ghost use Rattle.vox_geom.specs.declared.coordinate.Coord.{Coord};
+ghost use Rattle.support_forest.specs.Access.{LieInSpace};
 ghost use Rattle.support_forest.specs.Grid.{word_at};
 ghost use Rattle.support_forest.specs.Placing.{AreBesideWords};
+ghost use Rattle.support_forest.specs.Spots.{IsReadAt, voxel_in};
 
-use crate::cells::{Cells, word_index};
+use crate::cells::{BRICK_WORDS, Cells};
 use crate::toward::{word_beyond, word_toward};
 use brick_arena::{Chunk, start_in_chunk};
 use std::sync::ledger::Ledger;
-use vox_geom::{Coord, Steps};
+use vox_geom::Steps;
 
 /// The words of a voxel's six neighbours, in the order of the directions, 0 where there is none.
 #[derive(Clone, Copy)]
@@ -21,73 +25,94 @@ pub struct Beside {
     pub far: u32,
 }
 
-/// The word of a voxel. `chunk` has the words of the slot of its brick, from `start` on: where those beside it are read too, it
-/// is looked for once.
+/// The place of a spot's word in the chunk that has those of the slot of its brick.
+#[inline(always)]
+pub fn place_in_chunk(slot: u32, spot: u32) -> usize
+    ensures { result ≡ start_in_chunk_of slot + spot % 512 }
+{
+    start_in_chunk(slot) + (spot % BRICK_WORDS) as usize
+}
+
+/// The word of the voxel at a spot. `chunk` has the words of the slot of its brick, its own `at` that place: where those beside it are
+/// read too, it is looked for once.
 #[inline(always)]
 pub fn word_here<L: Ledger>(
     cells: &Cells,
-    c: Coord,
+    spot: u32,
     slot: u32,
     chunk: &Chunk,
-    start: usize,
+    at: usize,
     steps: &mut Steps<L>,
 ) -> u32
-    requires { IsReadIn cells.now c slot chunk.now start }
-    ensures value { result ≡ word_at cells.now c }
+    requires { IsReadAt cells.now spot slot chunk.now at }
+    ensures value { result ≡ word_at cells.now (voxel_in cells.now spot) }
     ensures touch { steps.new ≤ steps.old + 1 }
 {
     cells.recall();
-    chunk.word(start + usize::from(word_index(c)), steps)
+    chunk.word(at, steps)
 }
 
-/// The words of the neighbours of a voxel whose brick has no slot.
+/// The words of the neighbours of the voxel at a spot, whose brick has no slot.
 #[inline(never)]
-pub fn words_beyond<L: Ledger>(cells: &Cells, c: Coord, steps: &mut Steps<L>) -> Beside
-    requires { LieInSpace cells.now c }
-    ensures words { AreBesideWords (word_at cells.now) c result }
+pub fn words_beyond<L: Ledger>(cells: &Cells, spot: u32, steps: &mut Steps<L>) -> Beside
+    requires { LieInSpace cells.now (voxel_in cells.now spot) }
+    ensures words { AreBesideWords (word_at cells.now) (voxel_in cells.now spot) result }
     ensures touches { steps.new ≤ steps.old + 6 }
 {
     Beside {
-        left: word_beyond(cells, c, 1, steps),
-        right: word_beyond(cells, c, 2, steps),
-        under: word_beyond(cells, c, 3, steps),
-        over: word_beyond(cells, c, 4, steps),
-        near: word_beyond(cells, c, 5, steps),
-        far: word_beyond(cells, c, 6, steps),
+        left: word_beyond::<1, L>(cells, spot, steps),
+        right: word_beyond::<2, L>(cells, spot, steps),
+        under: word_beyond::<3, L>(cells, spot, steps),
+        over: word_beyond::<4, L>(cells, spot, steps),
+        near: word_beyond::<5, L>(cells, spot, steps),
+        far: word_beyond::<6, L>(cells, spot, steps),
     }
 }
 
-/// The words of the neighbours of a voxel whose brick has this slot. All six are read before any is looked at: one call for
-/// each is quicker than a loop.
+/// The words of the neighbours of the voxel at a spot, whose brick has this slot and this chunk. All six are read before any is looked
+/// at: one call for each is quicker than a loop.
 #[inline(always)]
-pub fn words_in<L: Ledger>(cells: &Cells, c: Coord, slot: u32, steps: &mut Steps<L>) -> Beside
-    requires { LieInBrick cells.now c slot }
-    ensures words { AreBesideWords (word_at cells.now) c result }
+pub fn words_in<L: Ledger>(
+    cells: &Cells,
+    spot: u32,
+    slot: u32,
+    chunk: &Chunk,
+    at: usize,
+    steps: &mut Steps<L>,
+) -> Beside
+    requires read { IsReadAt cells.now spot slot chunk.now at }
+    requires space { (q : Coord) → 0 < word_at cells.now q → IsInSpace cells.now.resolution q }
+    ensures words { AreBesideWords (word_at cells.now) (voxel_in cells.now spot) result }
     ensures touches { steps.new ≤ steps.old + 6 }
 {
-    cells.recall();
-    let chunk = cells.chunk(slot);
-    let start = start_in_chunk(slot);
     Beside {
-        left: word_toward::<1, false, L>(cells, c, slot, chunk, start, steps),
-        right: word_toward::<2, false, L>(cells, c, slot, chunk, start, steps),
-        under: word_toward::<3, false, L>(cells, c, slot, chunk, start, steps),
-        over: word_toward::<4, false, L>(cells, c, slot, chunk, start, steps),
-        near: word_toward::<5, false, L>(cells, c, slot, chunk, start, steps),
-        far: word_toward::<6, false, L>(cells, c, slot, chunk, start, steps),
+        left: word_toward::<1, false, L>(cells, spot, slot, chunk, at, steps),
+        right: word_toward::<2, false, L>(cells, spot, slot, chunk, at, steps),
+        under: word_toward::<3, false, L>(cells, spot, slot, chunk, at, steps),
+        over: word_toward::<4, false, L>(cells, spot, slot, chunk, at, steps),
+        near: word_toward::<5, false, L>(cells, spot, slot, chunk, at, steps),
+        far: word_toward::<6, false, L>(cells, spot, slot, chunk, at, steps),
     }
 }
 
-/// The words of a voxel's neighbours.
+/// The words of the neighbours of the voxel at a spot.
 #[inline(always)]
-pub fn words_beside<L: Ledger>(cells: &Cells, c: Coord, steps: &mut Steps<L>) -> Beside
-    requires { LieInSpace cells.now c }
-    ensures words { AreBesideWords (word_at cells.now) c result }
+pub fn words_beside<L: Ledger>(cells: &Cells, spot: u32, steps: &mut Steps<L>) -> Beside
+    requires { LieInSpace cells.now (voxel_in cells.now spot) }
+    ensures words { AreBesideWords (word_at cells.now) (voxel_in cells.now spot) result }
     ensures few { cells.now.resolution ≤ 400 }
     ensures touches { steps.new ≤ steps.old + 6 }
 {
-    match cells.slot(c) {
-        Some(slot) => words_in(cells, c, slot, steps),
-        None => words_beyond(cells, c, steps),
+    cells.recall();
+    match cells.slot_at(spot) {
+        Some(slot) => words_in(
+            cells,
+            spot,
+            slot,
+            cells.chunk(slot),
+            place_in_chunk(slot, spot),
+            steps,
+        ),
+        None => words_beyond(cells, spot, steps),
     }
 }

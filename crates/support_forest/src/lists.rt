@@ -1,6 +1,6 @@
 //! The lists that calls fill and empty.
-use crate::candidate::Candidate;
-use crate::orphan::Orphan;
+use crate::offer::Offer;
+use crate::orphan::OrphanSpot;
 use crate::queues::Queue;
 use std::alloc::Global;
 use std::mem;
@@ -9,10 +9,10 @@ use vox_geom::Coord;
 /// What calls fill and empty, kept between them, so that a call takes no memory where earlier ones took enough.
 #[derive(Drop)]
 pub struct Lists {
-    pub orphans: Vec<Orphan>,
-    pub fresh: Vec<Coord>,
+    pub orphans: Vec<OrphanSpot>,
+    pub fresh: Vec<u32>,
     pub rest: Vec<Coord>,
-    pub seeds: Vec<Candidate>,
+    pub seeds: Vec<Offer>,
     pub found: Queue,
 }
 
@@ -31,7 +31,7 @@ impl Lists {
     }
 
     /// Takes the list of orphans out, emptied.
-    pub fn take_orphans(&mut self, alloc: Global) -> Vec<Orphan>
+    pub fn take_orphans(&mut self, alloc: Global) -> Vec<OrphanSpot>
         ensures { result.items ≡ [] }
     {
         let mut orphans = mem::replace(&mut self.orphans, Vec::new(alloc));
@@ -39,8 +39,8 @@ impl Lists {
         orphans
     }
 
-    /// Takes the list of voxels that lost their heights out, emptied.
-    pub fn take_fresh(&mut self, alloc: Global) -> Vec<Coord>
+    /// Takes the list of the spots of voxels that are to be looked at out, emptied.
+    pub fn take_fresh(&mut self, alloc: Global) -> Vec<u32>
         ensures { result.items ≡ [] }
     {
         let mut fresh = mem::replace(&mut self.fresh, Vec::new(alloc));
@@ -58,7 +58,7 @@ impl Lists {
     }
 
     /// Takes the list of seeds out, emptied.
-    pub fn take_seeds(&mut self, alloc: Global) -> Vec<Candidate>
+    pub fn take_seeds(&mut self, alloc: Global) -> Vec<Offer>
         ensures { result.items ≡ [] }
     {
         let mut seeds = mem::replace(&mut self.seeds, Vec::new(alloc));
@@ -66,7 +66,7 @@ impl Lists {
         seeds
     }
 
-    /// Takes the queue of candidates out, emptied.
+    /// Takes the queue of offers out, emptied.
     pub fn take_found(&mut self, alloc: Global) -> Queue
         ensures { result ≡ [] }
     {

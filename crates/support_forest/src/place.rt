@@ -1,13 +1,13 @@
 //! Puts a voxel beside others whose levels stay as they are.
-ghost use Rattle.std.specs.Prelude.{◌≡◌, ℕ, ◌+◌, ◌<◌, ◌≤◌, IfOk, true};
+ghost use Rattle.std.specs.Prelude.{◌≡◌, ◌==◌, ℕ, ◌+◌, ◌<◌, ◌≤◌, IfOk, true};
 ghost use Rattle.vox_geom.specs.declared.coordinate.Coord.{Coord};
 ghost use Rattle.support_forest.specs.Grid.{word_at};
 ghost use Rattle.support_forest.specs.Placing.{AreBesideWords, CanPlace, CanPlaceIn, IsAround, IsWordToward, LeavesRoom, MayLieUnder, MayStand, PlacesOrStays, StandsOrStays};
+ghost use Rattle.support_forest.specs.Spots.{voxel_in};
 
-use crate::beside::{Beside, words_beyond, words_in};
-use crate::cells::{BRICK_SIDE, Cells};
+use crate::beside::{Beside, place_in_chunk, words_beside, words_beyond};
+use crate::cells::Cells;
 use crate::toward::{word_over_floor, word_toward};
-use brick_arena::start_in_chunk;
 use std::alloc::AllocError;
 use std::sync::ledger::Ledger;
 use vox_geom::{Coord, Steps};
@@ -49,12 +49,12 @@ fn with_neighbor(around: Around, d: u8, word: u32) -> Around
     }
 }
 
-/// What lies around a voxel before any neighbour is looked at: the floor.
-pub fn nothing_around(c: Coord) -> Around
-    ensures { (w : Coord → ℕ) → IsAround w c result 1 }
+/// What lies around a voxel before any neighbour is looked at: the floor, where it is one of the floor.
+pub fn nothing_around(is_on_floor: bool) -> Around
+    ensures { (w : Coord → ℕ) (c : Coord) → is_on_floor ≡ (c.y == 0) → IsAround w c result 1 }
 {
     Around {
-        height: if c.y == 0 { 1 } else { 0 },
+        height: if is_on_floor { 1 } else { 0 },
         toward: 0,
         highest: 0,
         is_loose: false,
@@ -62,10 +62,11 @@ pub fn nothing_around(c: Coord) -> Around
 }
 
 /// What lies around a voxel, by the words beside it.
-pub fn look_around(c: Coord, beside: Beside) -> Around
-    ensures { (w : Coord → ℕ) → AreBesideWords w c beside → IsAround w c result 7 }
+pub fn look_around(is_on_floor: bool, beside: Beside) -> Around
+    ensures { (w : Coord → ℕ) (c : Coord) → is_on_floor ≡ (c.y == 0) → AreBesideWords w c beside
+        → IsAround w c result 7 }
 {
-    let mut around = nothing_around(c);
+    let mut around = nothing_around(is_on_floor);
     around = with_neighbor(around, 1, beside.left);
     around = with_neighbor(around, 2, beside.right);
     around = with_neighbor(around, 3, beside.under);
@@ -119,7 +120,7 @@ fn place_beside<L: Ledger>(
         (λ done. (before : ℕ) → steps.old ≤ before + 6 → PlacesOrStays done cells.old cells.new c before steps.new) }
 {
     cells.recall();
-    let around = look_around(c, beside);
+    let around = look_around(c.y == 0, beside);
     if around.height == 0 {
         cells.fill(c, 1, steps)?;
         return Ok(true);
@@ -141,7 +142,7 @@ fn place_first<L: Ledger>(
     requires { CanPlace cells.old c }
     ensures { IfOk result (λ done. PlacesOrStays done cells.old cells.new c steps.old steps.new) }
 {
-    let beside = words_beyond(cells, c, steps);
+    let beside = words_beyond(cells, cells.spot(c), steps);
     place_beside(cells, c, beside, steps)
 }
 
@@ -171,8 +172,7 @@ fn place_in<L: Ledger>(
     requires { CanPlaceIn cells.old c slot }
     ensures { IfOk result (λ done. PlacesOrStays done cells.old cells.new c steps.old steps.new) }
 {
-    cells.recall();
-    let beside = words_in(cells, c, slot, steps);
+    let beside = words_beside(cells, cells.spot(c), steps);
     if may_stand(beside) {
         cells.write(slot, c, 0, 8 * (beside.under / 8) + 11, steps);
         return Ok(true);
@@ -203,62 +203,62 @@ pub fn place<L: Ledger>(
 /// [`stand`] above the floor, where the voxel's brick has this slot. Each word beside the voxel is judged as it is read, so that none is
 /// kept.
 #[inline(always)]
-fn stand_by<L: Ledger>(cells: &mut Cells, c: Coord, slot: u32, steps: &mut Steps<L>) -> bool
-    requires { CanPlaceIn cells.old c slot }
-    ensures { StandsOrStays result cells.old cells.new c steps.old steps.new }
+fn stand_by<L: Ledger>(cells: &mut Cells, spot: u32, slot: u32, steps: &mut Steps<L>) -> bool
+    requires { CanPlaceIn cells.old (voxel_in cells.old spot) slot }
+    ensures { StandsOrStays result cells.old cells.new (voxel_in cells.old spot) steps.old steps.new }
 {
     cells.recall();
     let chunk = cells.chunk(slot);
-    let start = start_in_chunk(slot);
-    let under = word_toward::<3, true, L>(cells, c, slot, chunk, start, steps);
+    let at = place_in_chunk(slot, spot);
+    let under = word_toward::<3, true, L>(cells, spot, slot, chunk, at, steps);
     let height = under / 8;
     if height == 0 {
         return false;
     }
-    let left = word_toward::<1, true, L>(cells, c, slot, chunk, start, steps);
+    let left = word_toward::<1, true, L>(cells, spot, slot, chunk, at, steps);
     if !leaves_room(left, height) {
         return false;
     }
-    let right = word_toward::<2, true, L>(cells, c, slot, chunk, start, steps);
+    let right = word_toward::<2, true, L>(cells, spot, slot, chunk, at, steps);
     if !leaves_room(right, height) {
         return false;
     }
-    let over = word_toward::<4, true, L>(cells, c, slot, chunk, start, steps);
+    let over = word_toward::<4, true, L>(cells, spot, slot, chunk, at, steps);
     if !leaves_room(over, height) {
         return false;
     }
-    let near = word_toward::<5, true, L>(cells, c, slot, chunk, start, steps);
+    let near = word_toward::<5, true, L>(cells, spot, slot, chunk, at, steps);
     if !leaves_room(near, height) {
         return false;
     }
-    let far = word_toward::<6, true, L>(cells, c, slot, chunk, start, steps);
+    let far = word_toward::<6, true, L>(cells, spot, slot, chunk, at, steps);
     if !leaves_room(far, height) {
         return false;
     }
-    cells.write(slot, c, 0, 8 * height + 11, steps);
+    cells.write_at(slot, spot, 0, 8 * height + 11, steps);
     true
 }
 
 /// [`stand_in`] of a voxel that is the lowest of its brick.
 #[inline(never)]
-fn stand_lowest<L: Ledger>(cells: &mut Cells, c: Coord, slot: u32, steps: &mut Steps<L>) -> bool
-    requires { CanPlaceIn cells.old c slot }
-    ensures { StandsOrStays result cells.old cells.new c steps.old steps.new }
+fn stand_lowest<L: Ledger>(cells: &mut Cells, spot: u32, slot: u32, steps: &mut Steps<L>) -> bool
+    requires { CanPlaceIn cells.old (voxel_in cells.old spot) slot }
+    ensures { StandsOrStays result cells.old cells.new (voxel_in cells.old spot) steps.old steps.new }
 {
-    stand_by(cells, c, slot, steps)
+    stand_by(cells, spot, slot, steps)
 }
 
 /// [`stand_by`], in two ways: where the first word that is read lies in the voxel's own brick, the compiler keeps the place of its
 /// chunk for those that follow.
 #[inline(always)]
-fn stand_in<L: Ledger>(cells: &mut Cells, c: Coord, slot: u32, steps: &mut Steps<L>) -> bool
-    requires { CanPlaceIn cells.old c slot }
-    ensures { StandsOrStays result cells.old cells.new c steps.old steps.new }
+fn stand_in<L: Ledger>(cells: &mut Cells, spot: u32, slot: u32, steps: &mut Steps<L>) -> bool
+    requires { CanPlaceIn cells.old (voxel_in cells.old spot) slot }
+    ensures { StandsOrStays result cells.old cells.new (voxel_in cells.old spot) steps.old steps.new }
 {
-    if c.y % BRICK_SIDE == 0 {
-        return stand_lowest(cells, c, slot, steps);
+    if spot % 64 < 8 {
+        return stand_lowest(cells, spot, slot, steps);
     }
-    stand_by(cells, c, slot, steps)
+    stand_by(cells, spot, slot, steps)
 }
 
 /// Makes a void voxel full that stands on the floor or on the one under it, where no other level changes by it, and tells whether it
@@ -268,11 +268,12 @@ pub fn stand<L: Ledger>(cells: &mut Cells, c: Coord, steps: &mut Steps<L>) -> bo
     requires { CanPlace cells.old c }
     ensures { StandsOrStays result cells.old cells.new c steps.old steps.new }
 {
-    let Some(slot) = cells.slot(c) else {
+    let spot = cells.spot(c);
+    let Some(slot) = cells.slot_at(spot) else {
         return false;
     };
     if c.y == 0 {
         return place_on_floor(cells, c, slot, steps);
     }
-    stand_in(cells, c, slot, steps)
+    stand_in(cells, spot, slot, steps)
 }

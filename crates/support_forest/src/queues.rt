@@ -1,23 +1,23 @@
-//! Candidates that are taken in the order in which they came.
+//! Offers that are taken in the order in which they came.
 ghost use Rattle.std.specs.Prelude.{◌≡◌, ◌<◌, [], length};
 
-use crate::candidate::Candidate;
+use crate::offer::Offer;
 use std::alloc::{AllocError, Global};
 use std::marker::Model;
 use std::mem;
 
-/// A list whose candidates are taken from the first on. What was taken stays in memory until the list is filled anew.
+/// A list whose offers are taken from the first on. What was taken stays in memory until the list is filled anew.
 #[derive(Drop)]
 pub struct Line {
-    items: Vec<Candidate>,
+    items: Vec<Offer>,
     at: usize,
 }
 
 impl Model for Line {
     ghost use Rattle.std.specs.Prelude.{List, ◌≤◌, drop, length};
-    ghost use Rattle.support_forest.specs.declared.candidate.Candidate.{Candidate};
+    ghost use Rattle.support_forest.specs.declared.offer.Offer.{Offer};
 
-    ghost Value = { List Candidate };
+    ghost Value = { List Offer };
 
     ghost view = { λ l. drop l.at l.items.items };
 
@@ -27,15 +27,15 @@ impl Model for Line {
 impl Line {
     ghost use Rattle.std.specs.Prelude.{◌≡◌, ◌==◌, ◌<◌, ◌∷◌, [], MatchOption, length, slice_index_or};
 
-    /// The candidates of a list.
-    pub fn new(items: Vec<Candidate>) -> Line
+    /// The offers of a list.
+    pub fn new(items: Vec<Offer>) -> Line
         ensures { result ≡ items.items }
     {
         Line { items, at: 0 }
     }
 
     /// The list, to be used again.
-    pub fn into_list(self) -> Vec<Candidate> {
+    pub fn into_list(self) -> Vec<Offer> {
         self.items
     }
 
@@ -49,7 +49,7 @@ impl Line {
 
     /// The first.
     #[inline(always)]
-    pub fn first(&self) -> &Candidate
+    pub fn first(&self) -> &Offer
         requires { 0 < length self.now }
         ensures { result.now ≡ slice_index_or self.now 0 result.now }
     {
@@ -58,7 +58,7 @@ impl Line {
 
     /// Takes the first.
     #[inline(always)]
-    pub fn pop_front(&mut self) -> Option<Candidate>
+    pub fn pop_front(&mut self) -> Option<Offer>
         ensures { MatchOption result ((length self.old ≡ 0) × (length self.new ≡ 0)) (λ c. self.old ≡ c ∷ self.new) }
     {
         if self.at == self.items.len() {
@@ -69,8 +69,8 @@ impl Line {
         Some(c)
     }
 
-    /// Fills it with the candidates of another list. Its own list is given back, emptied.
-    pub fn refill(&mut self, items: Vec<Candidate>) -> Vec<Candidate>
+    /// Fills it with the offers of another list. Its own list is given back, emptied.
+    pub fn refill(&mut self, items: Vec<Offer>) -> Vec<Offer>
         ensures filled { self.new ≡ items.items }
         ensures emptied { result.items ≡ [] }
     {
@@ -89,27 +89,27 @@ impl Line {
     }
 }
 
-/// Candidates that are taken in the order in which they came: those of `front`, then those of `back`. Where `front` is used up
+/// Offers that are taken in the order in which they came: those of `front`, then those of `back`. Where `front` is used up
 /// the two lists change places. A ring would reckon each place modulo its room, which costs more than the rest of a call.
 #[derive(Drop)]
 pub struct Queue {
     alloc: Global,
     front: Line,
-    back: Vec<Candidate>,
+    back: Vec<Offer>,
 }
 
 impl Model for Queue {
     ghost use Rattle.std.specs.Prelude.{List, ◌++◌};
-    ghost use Rattle.support_forest.specs.declared.candidate.Candidate.{Candidate};
+    ghost use Rattle.support_forest.specs.declared.offer.Offer.{Offer};
 
-    ghost Value = { List Candidate };
+    ghost Value = { List Offer };
 
     ghost view = { λ q. q.front ++ q.back.items };
 }
 
-/// The candidates that came last are those to be taken.
+/// The offers that came last are those to be taken.
 #[inline(never)]
-fn turn(alloc: Global, front: &mut Line, back: &mut Vec<Candidate>)
+fn turn(alloc: Global, front: &mut Line, back: &mut Vec<Offer>)
     ensures front { front.new ≡ back.old.items }
     ensures back { back.new.items ≡ [] }
 {
@@ -141,7 +141,7 @@ impl Queue {
 
     /// The first.
     #[inline(always)]
-    pub fn first(&self) -> &Candidate
+    pub fn first(&self) -> &Offer
         requires { 0 < length self.now }
         ensures { result.now ≡ slice_index_or self.now 0 result.now }
     {
@@ -151,9 +151,9 @@ impl Queue {
         self.front.first()
     }
 
-    /// Adds a candidate behind the others.
+    /// Adds an offer behind the others.
     #[inline(always)]
-    pub fn push_back(&mut self, c: Candidate) -> Result<(), AllocError>
+    pub fn push_back(&mut self, c: Offer) -> Result<(), AllocError>
         ensures items { IfOk result (λ _. self.new ≡ self.old ++ c ∷ []) }
         ensures err { OnErr result (self.new ≡ self.old) }
     {
@@ -163,7 +163,7 @@ impl Queue {
 
     /// Takes the first.
     #[inline(always)]
-    pub fn pop_front(&mut self) -> Option<Candidate>
+    pub fn pop_front(&mut self) -> Option<Offer>
         ensures { MatchOption result ((length self.old ≡ 0) × (length self.new ≡ 0)) (λ c. self.old ≡ c ∷ self.new) }
     {
         if self.front.is_empty() {

@@ -5,14 +5,16 @@ ghost use Rattle.std.specs.Prelude.{◌≡◌, ℕ, ◌+◌, ◌-◌, ◌*◌, �
 ghost use Rattle.vox_geom.specs.Space.{IsInSpace};
 ghost use Rattle.vox_geom.specs.declared.coordinate.Coord.{Coord};
 ghost use Rattle.brick_arena.specs.Slots.{HasSlot};
+ghost use Rattle.support_forest.specs.Access.{LieInBrick};
 ghost use Rattle.support_forest.specs.Grid.{Grid, word_at};
+ghost use Rattle.support_forest.specs.Placing.{IsWordToward};
 ghost use Rattle.support_forest.specs.Stretches.{AreCleared, CanClear, EndsAreFree, IsBrickRow, IsStretch, LieInRow, RowHangsNot, RowIsFree, SideHangsNot, SidesAreFree, TakesMore, WordsHangNot, whole_row_start};
 ghost use Rattle.support_forest.specs.Words.{AreExact};
 
 use crate::cells::{BRICK_SIDE, Cells, word_index};
 use crate::directions::neighbor;
 use crate::take::{hangs, take};
-use crate::toward::{index_toward, word_toward};
+use crate::toward::index_toward;
 use brick_arena::{Chunk, start_in_chunk};
 use std::alloc::AllocError;
 use std::sync::ledger::Ledger;
@@ -149,6 +151,31 @@ fn sides_are_free<L: Ledger>(
     words_hang_not(chunk, from, count, 6, steps)
 }
 
+/// The word of the neighbour of a voxel in a direction, 0 where there is none: its brick has this slot, with this chunk.
+#[inline(always)]
+fn word_next<const D: u8, L: Ledger>(
+    cells: &Cells,
+    c: Coord,
+    own: u32,
+    chunk: &Chunk,
+    steps: &mut Steps<L>,
+) -> u32
+    requires direction { (0 < D) × (D ≤ 6) }
+    requires brick { LieInBrick cells.now c own }
+    requires chunk { HasSlot cells.now.bricks own chunk.now }
+    ensures word { IsWordToward (word_at cells.now) c D result }
+    ensures touch { steps.new ≤ steps.old + 1 }
+{
+    cells.recall();
+    if let Some(i) = index_toward(c, usize::from(word_index(c)), D) {
+        return chunk.word(start_in_chunk(own) + i, steps);
+    }
+    match neighbor(c, D, cells.resolution()) {
+        Some(q) => cells.word(q, steps),
+        None => 0,
+    }
+}
+
 /// Whether neither the voxel before the row has its parent in the first of the row, nor that behind it in the last.
 #[inline(always)]
 fn ends_are_free<L: Ledger>(
@@ -168,17 +195,10 @@ fn ends_are_free<L: Ledger>(
     };
     cells.recall();
     let chunk = cells.chunk(own);
-    let start = start_in_chunk(own);
-    if hangs(
-        word_toward::<5, false, L>(cells, first, own, chunk, start, steps),
-        6,
-    ) {
+    if hangs(word_next::<5, L>(cells, first, own, chunk, steps), 6) {
         return false;
     }
-    !hangs(
-        word_toward::<6, false, L>(cells, last, own, chunk, start, steps),
-        5,
-    )
+    !hangs(word_next::<6, L>(cells, last, own, chunk, steps), 5)
 }
 
 /// Whether no neighbour has its parent in a voxel of the row, but for the next voxel of the row.

@@ -2,12 +2,12 @@
 ghost use Rattle.std.specs.Prelude.{◌≡◌, Some, false};
 ghost use Rattle.support_forest.specs.Access.{LieInBrick};
 ghost use Rattle.support_forest.specs.Grid.{slot_of};
-ghost use Rattle.support_forest.specs.Placing.{voxel_of};
+ghost use Rattle.support_forest.specs.Spots.{voxel_in};
 ghost use Rattle.support_forest.specs.Taking.{CanTake, HangsNot, TakesOrStays, TellsParent};
 
-use crate::cells::{BRICK_SIDE, Cells};
+use crate::beside::place_in_chunk;
+use crate::cells::Cells;
 use crate::toward::{word_over_floor, word_toward};
-use brick_arena::start_in_chunk;
 use std::sync::ledger::Ledger;
 use vox_geom::{Coord, Steps};
 
@@ -22,64 +22,57 @@ pub fn hangs(word: u32, toward: u32) -> bool
 /// Whether a neighbour has its parent in a voxel whose brick has this slot. Each word beside the voxel is judged as it is read, so
 /// that none is kept.
 #[inline(always)]
-fn is_parent_in<L: Ledger>(cells: &Cells, c: Coord, slot: u32, steps: &mut Steps<L>) -> bool
-    requires { LieInBrick cells.now c slot }
-    ensures { TellsParent result cells.now c steps.old steps.new }
+fn is_parent_in<L: Ledger>(cells: &Cells, spot: u32, slot: u32, steps: &mut Steps<L>) -> bool
+    requires { LieInBrick cells.now (voxel_in cells.now spot) slot }
+    ensures { TellsParent result cells.now (voxel_in cells.now spot) steps.old steps.new }
 {
     cells.recall();
     let chunk = cells.chunk(slot);
-    let start = start_in_chunk(slot);
-    let over = word_toward::<4, true, L>(cells, c, slot, chunk, start, steps);
+    let at = place_in_chunk(slot, spot);
+    let over = word_toward::<4, true, L>(cells, spot, slot, chunk, at, steps);
     if hangs(over, 3) {
         return true;
     }
-    let left = word_toward::<1, true, L>(cells, c, slot, chunk, start, steps);
+    let left = word_toward::<1, true, L>(cells, spot, slot, chunk, at, steps);
     if hangs(left, 2) {
         return true;
     }
-    let right = word_toward::<2, true, L>(cells, c, slot, chunk, start, steps);
+    let right = word_toward::<2, true, L>(cells, spot, slot, chunk, at, steps);
     if hangs(right, 1) {
         return true;
     }
-    let under = word_toward::<3, true, L>(cells, c, slot, chunk, start, steps);
+    let under = word_toward::<3, true, L>(cells, spot, slot, chunk, at, steps);
     if hangs(under, 4) {
         return true;
     }
-    let near = word_toward::<5, true, L>(cells, c, slot, chunk, start, steps);
+    let near = word_toward::<5, true, L>(cells, spot, slot, chunk, at, steps);
     if hangs(near, 6) {
         return true;
     }
-    let far = word_toward::<6, true, L>(cells, c, slot, chunk, start, steps);
+    let far = word_toward::<6, true, L>(cells, spot, slot, chunk, at, steps);
     hangs(far, 5)
 }
 
-/// [`is_parent`] of a voxel that is the highest of its brick. It comes by its components: a coordinate is handed on through memory.
+/// [`is_parent_in`] of a voxel that is the highest of its brick.
 #[inline(never)]
-fn is_parent_highest<L: Ledger>(
-    cells: &Cells,
-    x: u16,
-    y: u16,
-    z: u16,
-    slot: u32,
-    steps: &mut Steps<L>,
-) -> bool
-    requires { LieInBrick cells.now (voxel_of x y z) slot }
-    ensures { TellsParent result cells.now (voxel_of x y z) steps.old steps.new }
+fn is_parent_highest<L: Ledger>(cells: &Cells, spot: u32, slot: u32, steps: &mut Steps<L>) -> bool
+    requires { LieInBrick cells.now (voxel_in cells.now spot) slot }
+    ensures { TellsParent result cells.now (voxel_in cells.now spot) steps.old steps.new }
 {
-    is_parent_in(cells, Coord { x, y, z }, slot, steps)
+    is_parent_in(cells, spot, slot, steps)
 }
 
 /// [`is_parent_in`], in two ways: where the first word that is read lies in the voxel's own brick, the compiler keeps the place of
 /// its chunk for those that follow.
 #[inline(always)]
-fn is_parent<L: Ledger>(cells: &Cells, c: Coord, slot: u32, steps: &mut Steps<L>) -> bool
-    requires { LieInBrick cells.now c slot }
-    ensures { TellsParent result cells.now c steps.old steps.new }
+fn is_parent<L: Ledger>(cells: &Cells, spot: u32, slot: u32, steps: &mut Steps<L>) -> bool
+    requires { LieInBrick cells.now (voxel_in cells.now spot) slot }
+    ensures { TellsParent result cells.now (voxel_in cells.now spot) steps.old steps.new }
 {
-    if c.y % BRICK_SIDE == BRICK_SIDE - 1 {
-        return is_parent_highest(cells, c.x, c.y, c.z, slot, steps);
+    if spot % 64 >= 56 {
+        return is_parent_highest(cells, spot, slot, steps);
     }
-    is_parent_in(cells, c, slot, steps)
+    is_parent_in(cells, spot, slot, steps)
 }
 
 /// [`take`] on the floor, where each full voxel stands on the floor: that over it is the only one that can hang on it.
@@ -98,22 +91,33 @@ fn take_from_floor<L: Ledger>(cells: &mut Cells, c: Coord, slot: u32, steps: &mu
     true
 }
 
+/// [`take`] above the floor, where the voxel's brick has this slot.
+#[inline(always)]
+fn take_from_air<L: Ledger>(cells: &mut Cells, spot: u32, slot: u32, steps: &mut Steps<L>) -> bool
+    requires can { CanTake cells.old (voxel_in cells.old spot) }
+    requires slot { slot_of cells.old (voxel_in cells.old spot) ≡ Some slot }
+    ensures { TakesOrStays result cells.old cells.new (voxel_in cells.old spot) steps.old steps.new }
+{
+    if is_parent(cells, spot, slot, steps) {
+        return false;
+    }
+    let word = cells.word_at(Some(slot), spot, steps);
+    cells.write_at(slot, spot, word, 0, steps);
+    true
+}
+
 /// Makes a full voxel void, where it is no other's parent, and tells whether it did: otherwise all stays.
 #[inline(always)]
 pub fn take<L: Ledger>(cells: &mut Cells, c: Coord, steps: &mut Steps<L>) -> bool
     requires { CanTake cells.old c }
     ensures { TakesOrStays result cells.old cells.new c steps.old steps.new }
 {
-    let Some(slot) = cells.slot(c) else {
+    let spot = cells.spot(c);
+    let Some(slot) = cells.slot_at(spot) else {
         return false;
     };
     if c.y == 0 {
         return take_from_floor(cells, c, slot, steps);
     }
-    if is_parent(cells, c, slot, steps) {
-        return false;
-    }
-    let word = cells.word_in(Some(slot), c, steps);
-    cells.write(slot, c, word, 0, steps);
-    true
+    take_from_air(cells, spot, slot, steps)
 }

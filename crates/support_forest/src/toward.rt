@@ -1,13 +1,13 @@
 //! The word of a voxel's neighbour in one direction.
-ghost use Rattle.std.specs.Prelude.{◌≡◌, ◌+◌, ◌%◌, ◌<◌, ◌≤◌, ℕ, MatchOption, Some};
+ghost use Rattle.std.specs.Prelude.{◌≡◌, ◌+◌, ◌-◌, ◌*◌, ◌/◌, ◌%◌, ◌^◌, ◌<◌, ◌≤◌, ℕ, MatchOption, Some, length};
 ghost use Rattle.vox_geom.specs.Space.{IsInSpace};
 ghost use Rattle.vox_geom.specs.declared.coordinate.Coord.{Coord};
-ghost use Rattle.support_forest.specs.Access.{IsReadIn, LieInSpace};
-ghost use Rattle.support_forest.specs.Grid.{side as side_of, slot_of, word_at, word_index as word_index_of};
-ghost use Rattle.support_forest.specs.Placing.{EndsBrick, IsIndexToward, IsOwnSpot, IsSpotToward, IsWordToward, NoneToward, voxel_of};
+ghost use Rattle.support_forest.specs.Access.{LieInSpace};
+ghost use Rattle.support_forest.specs.Grid.{StandsIn, slot_of, word_at, word_index as word_index_of};
+ghost use Rattle.support_forest.specs.Placing.{EndsBrick, IsIndexToward, IsPlaceToward, IsWordToward};
+ghost use Rattle.support_forest.specs.Spots.{IsReadAt, voxel_at, voxel_in};
 
-use crate::cells::{BRICK_SIDE, Cells, word_index};
-use crate::directions::neighbor;
+use crate::cells::{BRICK_SIDE, BRICK_WORDS, Cells, word_index};
 use brick_arena::Chunk;
 use std::sync::ledger::Ledger;
 use vox_geom::{Coord, Steps};
@@ -55,145 +55,141 @@ pub fn index_toward(c: Coord, index: usize, d: u8) -> Option<usize>
     }
 }
 
-/// Where a word stands: the number of its brick, and its index there.
-#[derive(Clone, Copy)]
-struct BrickSpot {
-    number: usize,
-    index: usize,
-}
-
-/// The spot so many bricks before one and so many words behind it, but for a voxel at the border of space.
+/// The place that is a step lower, where `part` is not within the first step: the part of a spot in eight steps.
 #[inline(always)]
-fn spot_before(at: u16, own: BrickSpot, bricks: usize, words: usize) -> Option<BrickSpot>
-    requires before { 0 < at → bricks ≤ own.number }
-    requires fits { own.index + words < 512 }
-    ensures { MatchOption result (at ≡ 0)
-        (λ s. (0 < at) × (s.number + bricks ≡ own.number) × (s.index ≡ own.index + words)) }
+fn place_below(part: usize, at: usize, step: usize) -> Option<usize>
+    requires { step ≤ part → step ≤ at }
+    ensures { MatchOption result (part < step) (λ i. (step ≤ part) × (i + step ≡ at)) }
 {
-    if at == 0 {
+    if part < step {
         return None;
     }
-    Some(BrickSpot {
-        number: own.number - bricks,
-        index: own.index + words,
-    })
+    Some(at - step)
 }
 
-/// The spot so many bricks behind one and so many words before it, but for a voxel at the border of space.
+/// The place that is a step higher, where `part` is not within the last step.
 #[inline(always)]
-fn spot_behind(at: u16, r: u16, own: BrickSpot, bricks: usize, words: usize) -> Option<BrickSpot>
-    requires within { at < r }
-    requires fits { own.number + bricks < 1000000 }
-    requires behind { words ≤ own.index }
-    ensures { MatchOption result (r ≡ at + 1)
-        (λ s. (at + 1 < r) × (s.number ≡ own.number + bricks) × (s.index + words ≡ own.index)) }
+fn place_above(part: usize, at: usize, step: usize) -> Option<usize>
+    requires { (at < 2 ^ 31) × (step ≤ 64) }
+    ensures { MatchOption result (7 * step ≤ part) (λ i. (part < 7 * step) × (i ≡ at + step)) }
 {
-    if at + 1 == r {
+    if part >= 7 * step {
         return None;
     }
-    Some(BrickSpot {
-        number: own.number + bricks,
-        index: own.index - words,
-    })
+    Some(at + step)
 }
 
-/// Where the word of the neighbour in a direction stands, which lies in another brick.
+/// The place of the word of the neighbour in a direction, where it lies in the same brick: `at` is that of the spot's own.
 #[inline(always)]
-fn spot_toward(r: u16, side: u16, c: Coord, own: BrickSpot, d: u8) -> Option<BrickSpot>
-    requires direction { (0 < d) × (d ≤ 6) }
-    requires own { IsOwnSpot r c own.number own.index }
-    requires side { side ≡ side_of r }
-    requires few { side ≤ 50 }
-    requires last { EndsBrick c d }
-    ensures { MatchOption result (NoneToward r c d) (λ s. IsSpotToward r c d s.number s.index) }
-{
-    let row = usize::from(side);
-    let wall = row * row;
-    match d {
-        1 => spot_before(c.x, own, wall, 448),
-        2 => spot_behind(c.x, r, own, wall, 448),
-        3 => spot_before(c.y, own, row, 56),
-        4 => spot_behind(c.y, r, own, row, 56),
-        5 => spot_before(c.z, own, 1, 7),
-        _ => spot_behind(c.z, r, own, 1, 7),
-    }
-}
-
-/// The word of the neighbour in a direction, which lies in another brick, 0 where there is none. In a call of its own for each
-/// direction the way within a brick stays small. The voxel comes by its components: a coordinate is handed on through memory.
-#[inline(never)]
-fn word_across<const D: u8, L: Ledger>(
-    cells: &Cells,
-    x: u16,
-    y: u16,
-    z: u16,
-    number: usize,
-    index: usize,
-    steps: &mut Steps<L>,
-) -> u32
+fn place_toward<const D: u8>(spot: u32, at: usize) -> Option<usize>
     requires direction { (0 < D) × (D ≤ 6) }
-    requires own { IsOwnSpot cells.now.resolution (voxel_of x y z) number index }
-    requires last { EndsBrick (voxel_of x y z) D }
-    requires space { (q : Coord) → 0 < word_at cells.now q → IsInSpace cells.now.resolution q }
-    ensures word { IsWordToward (word_at cells.now) (voxel_of x y z) D result }
+    requires own { spot % 512 ≤ at }
+    requires fits { at < 2 ^ 31 }
+    ensures { (side : ℕ) → MatchOption result (EndsBrick (voxel_at side spot) D)
+        (IsPlaceToward (voxel_at side spot) D (spot % 512) at) }
+{
+    match D {
+        1 => place_below((spot % 512) as usize, at, 64),
+        2 => place_above((spot % 512) as usize, at, 64),
+        3 => place_below((spot % 64) as usize, at, 8),
+        4 => place_above((spot % 64) as usize, at, 8),
+        5 => place_below((spot % 8) as usize, at, 1),
+        _ => place_above((spot % 8) as usize, at, 1),
+    }
+}
+
+/// The word at the spot that is so many bricks before one, 0 where there are not so many.
+#[inline(always)]
+fn word_before<L: Ledger>(cells: &Cells, spot: u32, bricks: u32, steps: &mut Steps<L>) -> u32
+    requires number { spot / 512 < length cells.now.table }
+    requires fits { bricks < 4096 }
+    ensures value { (q : Coord) → bricks ≤ spot / 512
+        → StandsIn cells.now.resolution (spot / 512 - bricks) (spot % 512) q → word_at cells.now q ≡ result }
+    ensures none { spot / 512 < bricks → result ≡ 0 }
+    ensures touch { steps.new ≤ steps.old + 1 }
+{
+    if spot < BRICK_WORDS * bricks {
+        return 0;
+    }
+    cells.word_at_spot(spot - BRICK_WORDS * bricks, steps)
+}
+
+/// The word of the neighbour in a direction, which lies in another brick, 0 where there is none. No bound of space is looked at: what
+/// lies over the border is a brick beyond space, or none.
+#[inline(always)]
+fn word_across<const D: u8, L: Ledger>(cells: &Cells, spot: u32, steps: &mut Steps<L>) -> u32
+    requires direction { (0 < D) × (D ≤ 6) }
+    requires inside { LieInSpace cells.now (voxel_in cells.now spot) }
+    requires last { EndsBrick (voxel_in cells.now spot) D }
+    ensures word { IsWordToward (word_at cells.now) (voxel_in cells.now spot) D result }
     ensures touch { steps.new ≤ steps.old + 1 }
 {
     cells.recall();
-    let c = Coord { x, y, z };
-    match spot_toward(
-        cells.resolution(),
-        cells.side(),
-        c,
-        BrickSpot { number, index },
-        D,
-    ) {
-        Some(spot) => cells.word_in_brick(spot.number, spot.index as u16, steps),
-        None => 0,
+    let row = u32::from(cells.side());
+    let wall = row * row;
+    match D {
+        1 => word_before(cells, spot + 448, wall, steps),
+        2 => cells.word_at_spot(spot - 448 + BRICK_WORDS * wall, steps),
+        3 => word_before(cells, spot + 56, row, steps),
+        4 => cells.word_at_spot(spot - 56 + BRICK_WORDS * row, steps),
+        5 => word_before(cells, spot + 7, 1, steps),
+        _ => cells.word_at_spot(spot - 7 + BRICK_WORDS, steps),
     }
 }
 
-/// The word of the neighbour in a direction, 0 where there is none.
-#[inline(always)]
-pub fn word_beyond<L: Ledger>(cells: &Cells, c: Coord, d: u8, steps: &mut Steps<L>) -> u32
-    requires direction { (0 < d) × (d ≤ 6) }
-    requires inside { LieInSpace cells.now c }
-    ensures word { IsWordToward (word_at cells.now) c d result }
+/// [`word_across`] as a call of its own for each direction, so that the way within a brick stays small.
+#[inline(never)]
+fn word_apart<const D: u8, L: Ledger>(cells: &Cells, spot: u32, steps: &mut Steps<L>) -> u32
+    requires direction { (0 < D) × (D ≤ 6) }
+    requires inside { LieInSpace cells.now (voxel_in cells.now spot) }
+    requires last { EndsBrick (voxel_in cells.now spot) D }
+    ensures word { IsWordToward (word_at cells.now) (voxel_in cells.now spot) D result }
     ensures touch { steps.new ≤ steps.old + 1 }
 {
-    match neighbor(c, d, cells.resolution()) {
-        Some(q) => cells.word(q, steps),
-        None => 0,
-    }
+    word_across::<D, L>(cells, spot, steps)
 }
 
-/// The word of the neighbour in a direction, 0 where there is none. `chunk` has the words of the slot of the voxel's brick, from
-/// `start` on: where several words are read it is looked for once. Where `APART` the way to another brick is a call of its own, so
-/// that the way within a brick stays small; else it stands here too. The number of the brick is asked for where it is needed:
-/// handed in it would take a register of the other way.
+/// The word of the neighbour in a direction, 0 where there is none, of a voxel whose brick may have no slot.
+#[inline(always)]
+pub fn word_beyond<const D: u8, L: Ledger>(cells: &Cells, spot: u32, steps: &mut Steps<L>) -> u32
+    requires direction { (0 < D) × (D ≤ 6) }
+    requires inside { LieInSpace cells.now (voxel_in cells.now spot) }
+    ensures word { IsWordToward (word_at cells.now) (voxel_in cells.now spot) D result }
+    ensures touch { steps.new ≤ steps.old + 1 }
+{
+    cells.recall();
+    if let Some(next) = place_toward::<D>(spot, spot as usize) {
+        return cells.word_at_spot(next as u32, steps);
+    }
+    word_across::<D, L>(cells, spot, steps)
+}
+
+/// The word of the neighbour in a direction, 0 where there is none. `chunk` has the words of the slot of the voxel's brick, its own
+/// `at` that place: where several words are read it is looked for once. Where `APART` the way to another brick is a call of its own,
+/// so that the way within a brick stays small; else it stands here too.
 #[inline(always)]
 pub fn word_toward<const D: u8, const APART: bool, L: Ledger>(
     cells: &Cells,
-    c: Coord,
+    spot: u32,
     slot: u32,
     chunk: &Chunk,
-    start: usize,
+    at: usize,
     steps: &mut Steps<L>,
 ) -> u32
     requires direction { (0 < D) × (D ≤ 6) }
-    requires read { IsReadIn cells.now c slot chunk.now start }
+    requires read { IsReadAt cells.now spot slot chunk.now at }
     requires space { (q : Coord) → 0 < word_at cells.now q → IsInSpace cells.now.resolution q }
-    ensures word { IsWordToward (word_at cells.now) c D result }
+    ensures word { IsWordToward (word_at cells.now) (voxel_in cells.now spot) D result }
     ensures touch { steps.new ≤ steps.old + 1 }
 {
     cells.recall();
-    let index = usize::from(word_index(c));
-    if let Some(i) = index_toward(c, index, D) {
-        return chunk.word(start + i, steps);
+    if let Some(i) = place_toward::<D>(spot, at) {
+        return chunk.word(i, steps);
     }
     if APART {
-        return word_across::<D, L>(cells, c.x, c.y, c.z, cells.brick_number(c), index, steps);
+        return word_apart::<D, L>(cells, spot, steps);
     }
-    word_beyond(cells, c, D, steps)
+    word_across::<D, L>(cells, spot, steps)
 }
 
 /// The word of the voxel over one of the floor, whose brick has this slot: it lies in the same brick, or beyond space, where words

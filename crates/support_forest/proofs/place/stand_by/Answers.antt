@@ -3,6 +3,7 @@ use Rattle.vox_geom.proofs.Sums.{most_cube}
 use Rattle.support_forest.specs.declared.beside.Beside.{Beside}
 use Rattle.support_forest.specs.Grid.{word_at}
 use Rattle.support_forest.specs.Placing.{AreBesideWords, MayStand}
+use Rattle.support_forest.specs.Spots.{voxel_in}
 use Rattle.support_forest.proofs.Placing.{placed_over, under_small}
 use Rattle.support_forest.proofs.place.stand_by.Goals as goal
 
@@ -12,13 +13,13 @@ chunk-chunk-requires g c = c.recall.ensures.store.live _ c.args.slot c.requires.
 pub overflow_add-height : goal.overflow_add-height
 overflow_add-height g c =
     let cube = most_cube c.args.cells.now.resolution c.recall.ensures.few in
-    let low = under_small c.args.cells.now.resolution (word_at c.args.cells.now) c.args.c c.word_toward-under.result c.requires.can.exact cube c.word_toward-under.ensures.word (omega (arith, c.if-height-eq0.false)) in
+    let low = under_small c.args.cells.now.resolution (word_at c.args.cells.now) (voxel_in c.args.cells.now c.args.spot) c.word_toward-under.result c.requires.can.exact cube c.word_toward-under.ensures.word (omega (arith, c.if-height-eq0.false)) in
     omega arith
 
 pub returns : goal.returns
 returns g c =
     let beside : Beside = record { left = c.word_toward-left.result; right = c.word_toward-right.result; under = c.word_toward-under.result; over = c.word_toward-over.result; near = c.word_toward-near.result; far = c.word_toward-far.result } in
-    let words : AreBesideWords (word_at c.args.cells.now) c.args.c beside = record {
+    let words : AreBesideWords (word_at c.args.cells.now) (voxel_in c.args.cells.now c.args.spot) beside = record {
       left = c.word_toward-left.ensures.word;
       right = c.word_toward-right.ensures.word;
       under = c.word_toward-under.ensures.word;
@@ -36,7 +37,7 @@ returns g c =
     } in
     let touches : c.word_toward-far.new.steps ≤ c.args.steps.now + 6 = omega (arith, c.word_toward-under.ensures.touch, c.word_toward-left.ensures.touch, c.word_toward-right.ensures.touch, c.word_toward-over.ensures.touch, c.word_toward-near.ensures.touch, c.word_toward-far.ensures.touch) in
     record {
-      placed = placed_over c.args.cells.now c.write.new.self c.args.c beside c.args.steps.now c.word_toward-far.new.steps c.write.new.steps
-          c.requires.can.exact c.requires.can.within c.requires.can.void words stands c.write.ensures.written c.write.ensures.resolution touches c.write.ensures.touch;
-      held = λ _. omega (arith, c.write.ensures.written.here);
+      placed = placed_over c.args.cells.now c.write_at.new.self (voxel_in c.args.cells.now c.args.spot) beside c.args.steps.now c.word_toward-far.new.steps c.write_at.new.steps
+          c.requires.can.exact c.requires.can.within c.requires.can.void words stands c.write_at.ensures.written c.write_at.ensures.resolution touches c.write_at.ensures.touch;
+      held = λ _. omega (arith, c.write_at.ensures.written.here);
     }

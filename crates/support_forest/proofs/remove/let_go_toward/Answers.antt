@@ -1,17 +1,21 @@
-use Rattle.std.proofs.Common.{ℕ, ◌<◌, arith, subst, sym}
-use Rattle.vox_geom.specs.Space.{IsInSpace}
-use Rattle.support_forest.specs.Grid.{word_at}
-use Rattle.support_forest.proofs.Removing.{lists_one}
+use Rattle.std.proofs.Common.{◌<◌, arith}
+use Rattle.support_forest.proofs.Orphans.{few_sides, lists_spot, neighbour, spot_below}
 use Rattle.support_forest.proofs.remove.let_go_toward.Goals as goal
 
-pub returns-in_ok-push : goal.returns-in_ok-push
-returns-in_ok-push c =
-    let some : 0 < c.args.word = let hangs_over_ensured = c.if-not-hangs_over.ensures.0 in let height = c.requires.height in omega arith in
-    lists_one (word_at c.args.cells.now) c.args.x c.in-Some.at c.args.height c.args.d c.args.toward c.args.word c.args.queue.now.items c.push.new.self.items c.requires.word some c.in-Some.ensures.0 c.in_ok-push.ensures.items
+pub spot_toward-next-requires-clause-few : goal.spot_toward-next-requires-clause-few
+spot_toward-next-requires-clause-few g c = few_sides c.args.cells.now.resolution c.args.side c.requires.side c.recall.ensures.few
 
-pub returns-in_default : goal.returns-in_default
-returns-in_default c =
+pub spot_toward-next-requires-clause-within : goal.spot_toward-next-requires-clause-within
+spot_toward-next-requires-clause-within g c = spot_below c.args.cells.now.resolution c.args.side c.args.spot c.requires.side c.requires.inside.within
+
+pub spot_toward-next-requires-clause-some : goal.spot_toward-next-requires-clause-some
+spot_toward-next-requires-clause-some g c =
     let some : 0 < c.args.word = let hangs_over_ensured = c.if-not-hangs_over.ensures.0 in let height = c.requires.height in omega arith in
-    let there = c.requires.word.some some in
-    let full : 0 < word_at c.args.cells.now there.0 = let same = c.requires.word.each there.0 there.1 in omega arith in
-    absurd (c.in_default.ensures there.0 there.1 (subst (λ (r : ℕ). IsInSpace r there.0) (sym c.resolution.ensures.value) (c.requires.inside.space there.0 full)))
+    neighbour c.args.cells.now c.args.side c.args.spot g.row.D c.args.word c.requires.side c.requires.inside c.requires.word some
+
+pub returns : goal.returns
+returns g c =
+    let some : 0 < c.args.word = let hangs_over_ensured = c.if-not-hangs_over.ensures.0 in let height = c.requires.height in omega arith in
+    lists_spot _ _ _ _ _ _ _ _ _ _ c.requires.word some
+    (neighbour c.args.cells.now c.args.side c.args.spot g.row.D c.args.word c.requires.side c.requires.inside c.requires.word some)
+    c.spot_toward-next.ensures c.in_ok-push.ensures.items

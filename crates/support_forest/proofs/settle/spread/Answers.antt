@@ -1,14 +1,6 @@
-use Rattle.std.proofs.Common.{ℕ, arith, rules, sym, subst}
-use Rattle.vox_geom.specs.Space.{IsInSpace}
+use Rattle.std.proofs.Common.{arith}
 use Rattle.support_forest.proofs.SettlingSteps.{can_spread_fewer, spreading_fewer}
 use Rattle.support_forest.proofs.settle.spread.Goals as goal
-
-pub words_in-beside-requires : goal.words_in-beside-requires
-words_in-beside-requires g c = let can_required = c.requires.can.is in record {
-  within = c.requires.within;
-  slot = search rules;
-  space = λ q f. subst (λ (r : ℕ). IsInSpace r q) (sym can_required.same.resolution) (can_required.settling.space q f);
-}
 
 pub spread_by-requires-clause-can : goal.spread_by-requires-clause-can
 spread_by-requires-clause-can g c = let touches = c.words_in-beside.ensures.touches in can_spread_fewer _ _ _ _ _ _ c.requires.can (omega arith)

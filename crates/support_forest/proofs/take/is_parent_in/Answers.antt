@@ -1,4 +1,5 @@
 use Rattle.support_forest.specs.Grid.{word_at}
+use Rattle.support_forest.specs.Spots.{voxel_in}
 use Rattle.support_forest.proofs.Taking.{none_hangs}
 use Rattle.std.proofs.Common.{arith, refl}
 use Rattle.support_forest.proofs.take.is_parent_in.Goals as goal
@@ -8,7 +9,7 @@ chunk-chunk-requires g c = c.recall.ensures.store.live _ c.args.slot c.requires.
 
 pub returns : goal.returns
 returns g c = record {
-  parent = λ e. none_hangs (word_at c.args.cells.now) c.args.c
+  parent = λ e. none_hangs (word_at c.args.cells.now) (voxel_in c.args.cells.now c.args.spot)
       (record { left = c.word_toward-left.result; right = c.word_toward-right.result; under = c.word_toward-under.result; over = c.word_toward-over.result; near = c.word_toward-near.result; far = c.word_toward-far.result })
       (record { left = c.word_toward-left.ensures.word; right = c.word_toward-right.ensures.word; under = c.word_toward-under.ensures.word; over = c.word_toward-over.ensures.word; near = c.word_toward-near.ensures.word; far = c.word_toward-far.ensures.word })
       (record { over = c.if-hangs.ensures refl; left = c.if-hangs-2.ensures refl; right = c.if-hangs-3.ensures refl; under = c.if-hangs-4.ensures refl; near = c.if-hangs-5.ensures refl; far = c.hangs-6.ensures e });

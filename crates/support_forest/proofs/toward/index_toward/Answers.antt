@@ -1,6 +1,6 @@
 use Rattle.std.proofs.Common.{◌≡◌, arith}
 use Rattle.support_forest.proofs.Nearby.{index_left, index_right, index_under, index_over, index_near, index_far}
-use Rattle.support_forest.proofs.Spots.{ends_far, ends_left, ends_near, ends_over, ends_right, ends_under, match_so}
+use Rattle.support_forest.proofs.Across.{ends_far, ends_left, ends_near, ends_over, ends_right, ends_under, match_so}
 use Rattle.support_forest.proofs.toward.index_toward.Goals as goal
 
 pub returns-in-1 : goal.returns-in-1

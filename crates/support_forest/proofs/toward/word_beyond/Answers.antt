@@ -1,21 +1,27 @@
-use Rattle.std.proofs.Common.{ℕ, ◌∙◌, ap, arith, inl, inr, subst, sym}
-use Rattle.std.proofs.lemmas.Bool.{cases_lt}
-use Rattle.vox_geom.specs.Space.{IsInSpace}
-use Rattle.support_forest.specs.Grid.{word_at}
-use Rattle.support_forest.proofs.Sides.{one_toward}
+use Rattle.std.proofs.Common.{arith}
+use Rattle.support_forest.specs.Grid.{side}
+use Rattle.support_forest.proofs.Store.{index_below}
+use Rattle.support_forest.proofs.Voxels.{number_below, spot_small}
+use Rattle.support_forest.proofs.Within.{word_within}
 use Rattle.support_forest.proofs.toward.word_beyond.Goals as goal
 
-pub returns-in-Some-clause-word : goal.returns-in-Some-clause-word
-returns-in-Some-clause-word g c = record {
-  each = λ q t. ap (word_at c.args.cells.now) (one_toward c.args.d c.args.c q c.in-Some.q t c.in-Some.ensures.0) ∙ sym c.word.ensures.value;
-  some = λ f. (c.in-Some.q, c.in-Some.ensures.0);
-}
+pub place_toward-requires-clause-fits : goal.place_toward-requires-clause-fits
+place_toward-requires-clause-fits g c = let small = spot_small c.args.cells.now.resolution c.args.spot c.recall.ensures.few c.requires.inside.within in omega arith
 
-pub returns-in-None-clause-word : goal.returns-in-None-clause-word
-returns-in-None-clause-word g c = record {
-  each = λ q t. elim (cases_lt 0 (word_at c.args.cells.now q)) [
-    | inl f ↦ absurd (c.in-None.ensures q t (subst (λ (r : ℕ). IsInSpace r q) (sym c.resolution.ensures.value) (c.requires.inside.space q f)))
-    | inr f ↦ omega arith
-  ];
-  some = λ f. absurd (omega arith);
-}
+pub overflow_cast-next : goal.overflow_cast-next
+overflow_cast-next g c =
+    let place = c.in-Some.ensures (side c.args.cells.now.resolution) in
+    let small = spot_small c.args.cells.now.resolution c.args.spot c.recall.ensures.few c.requires.inside.within in
+    let below = index_below place.toward.there in
+    omega (arith, place.moved, place.toward.at_index)
+
+pub word_at_spot-requires : goal.word_at_spot-requires
+word_at_spot-requires g c =
+    let place = c.in-Some.ensures (side c.args.cells.now.resolution) in
+    let number = number_below c.args.cells.now.resolution c.args.spot c.requires.inside.within in
+    let below = index_below place.toward.there in
+    let bricks = c.recall.ensures.store.bricks in
+    omega (arith, place.moved, place.toward.at_index)
+
+pub returns-in-Some-clause-word : goal.returns-in-Some-clause-word
+returns-in-Some-clause-word g c = word_within c.args.cells.now c.args.spot g.row.D c.in-Some.next c.word_at_spot.result c.requires.inside.within (c.in-Some.ensures (side c.args.cells.now.resolution)) c.word_at_spot.ensures.value

@@ -10,7 +10,7 @@ pub take-requires : goal.take-requires
 take-requires c =
     let inside = c.self.inside in
     let live_few = few_live (record { resolution = inside.resolution; table = inside.table.items; bricks = inside.bricks }) c.self.invariant.1.0 in
-    let len_small : len inside.bricks ≤ 125000 = live_few in
+    let len_small : len inside.bricks ≤ 132651 = live_few in
     omega arith
 
 pub invariant_of-self-2 : goal.invariant_of-self-2

@@ -1,0 +1,517 @@
+-- Neighbours that lie in another brick.
+use Rattle.std.proofs.Common.{◌≡◌, ℕ, zero, suc, ◌+◌, ◌-◌, ◌*◌, ◌/◌, ◌%◌, ◌<◌, ◌≤◌, inl, inr, refl, sym, ◌∙◌, ap, subst, arith, Option, None, Some}
+use Rattle.std.specs.Prelude.{MatchOption}
+use Rattle.std.proofs.Math.Nat.{add-mul, mul-le-mul_right, suc-mul}
+use Rattle.std.proofs.lemmas.Bool.{cases_lt}
+use Rattle.vox_geom.specs.declared.coordinate.Coord.{Coord}
+use Rattle.vox_geom.specs.Space.{IsInSpace, place}
+use Rattle.vox_geom.proofs.Firsts.{place_below}
+use Rattle.support_forest.specs.Directions.{lies_left, lies_right, lies_under, lies_over, lies_near, lies_far}
+use Rattle.support_forest.specs.Grid.{Grid, IsStore, StandsIn, brick, brick_number, side, slot_at, word_at, word_in, word_index}
+use Rattle.support_forest.specs.Placing.{EndsBrick, IsOwnSpot, IsSpotToward, IsWordToward, NoneToward}
+use Rattle.support_forest.specs.Spots.{voxel_in}
+use Rattle.support_forest.proofs.Sides.{goes, one_toward}
+use Rattle.support_forest.proofs.Voxels.{digit_x, digit_y, digit_z, own_spot}
+use Rattle.support_forest.proofs.Store.{brick_inside, cube_of_bricks}
+
+-- ---- the number of the next brick
+
+pub wall_before : (s x y z number own : ℕ) → 0 < x → number + s * s ≡ own → own ≡ x * s * s + y * s + z
+    → (x - 1) * s * s + y * s + z ≡ number
+wall_before s zero y z number own l e h = absurd (omega arith)
+wall_before s (suc x) y z number own l e h =
+    let less : suc x - 1 ≡ x = omega arith in
+    let product : suc x * s * s ≡ x * s * s + s * s = ap (λ (k : ℕ). k * s) (suc-mul x s) ∙ add-mul (x * s) s s in
+    ap (λ (k : ℕ). k * s * s + y * s + z) less ∙ omega arith
+
+pub wall_behind : (s x y z number own : ℕ) → number ≡ own + s * s → own ≡ x * s * s + y * s + z
+    → (x + 1) * s * s + y * s + z ≡ number
+wall_behind s x y z number own e h =
+    let more : x + 1 ≡ suc x = omega arith in
+    let product : suc x * s * s ≡ x * s * s + s * s = ap (λ (k : ℕ). k * s) (suc-mul x s) ∙ add-mul (x * s) s s in
+    ap (λ (k : ℕ). k * s * s + y * s + z) more ∙ omega arith
+
+pub row_before : (s x y z number own : ℕ) → 0 < y → number + s ≡ own → own ≡ x * s * s + y * s + z
+    → x * s * s + (y - 1) * s + z ≡ number
+row_before s x zero z number own l e h = absurd (omega arith)
+row_before s x (suc y) z number own l e h =
+    let less : suc y - 1 ≡ y = omega arith in
+    let product : suc y * s ≡ y * s + s = suc-mul y s in
+    ap (λ (k : ℕ). x * s * s + k * s + z) less ∙ omega arith
+
+pub row_behind : (s x y z number own : ℕ) → number ≡ own + s → own ≡ x * s * s + y * s + z
+    → x * s * s + (y + 1) * s + z ≡ number
+row_behind s x y z number own e h =
+    let more : y + 1 ≡ suc y = omega arith in
+    let product : suc y * s ≡ y * s + s = suc-mul y s in
+    ap (λ (k : ℕ). x * s * s + k * s + z) more ∙ omega arith
+
+pub wall_fits : (s x y z own : ℕ) → 0 < x → own ≡ x * s * s + y * s + z → s * s ≤ own
+wall_fits s zero y z own l e = absurd (omega arith)
+wall_fits s (suc x) y z own l e =
+    let product : suc x * s * s ≡ x * s * s + s * s = ap (λ (k : ℕ). k * s) (suc-mul x s) ∙ add-mul (x * s) s s in
+    omega arith
+
+pub row_fits : (s x y z own : ℕ) → 0 < y → own ≡ x * s * s + y * s + z → s ≤ own
+row_fits s x zero z own l e = absurd (omega arith)
+row_fits s x (suc y) z own l e = let product : suc y * s ≡ y * s + s = suc-mul y s in omega arith
+
+pub square_of_bricks : (n : ℕ) → n ≤ 51 → n * n ≤ 2601
+square_of_bricks n h =
+    let at_most_n : n * n ≤ 51 * n = grind arith in
+    omega arith
+
+pub stands_below : (r number index : ℕ) (c : Coord) → StandsIn r number index c → number < side r * side r * side r
+unfolding brick_number
+stands_below r number index c s = let below = place_below (side r) (brick c) s.within in let in_brick = s.in_brick in omega arith
+
+-- ---- where the neighbour stands
+
+-- so many bricks are before it where it is not in the first of them
+pub own_below : (r : ℕ) (c : Coord) (number index : ℕ) → IsOwnSpot r c number index → side r ≤ 51 → number < 132651
+unfolding brick_number
+own_below r c number index own few =
+    let below = place_below (side r) (brick c) (brick_inside r c own.within) in
+    let cube = cube_of_bricks (side r) few in
+    let in_brick = own.in_brick in
+    omega arith
+
+pub wall_before_own : (r : ℕ) (c : Coord) (number index : ℕ) → IsOwnSpot r c number index → c.x % 8 ≡ 0 → 0 < c.x
+    → side r * side r ≤ number
+unfolding brick_number
+wall_before_own r c number index own last some = wall_fits (side r) (c.x / 8) (c.y / 8) (c.z / 8) number (omega arith) own.in_brick
+
+pub row_before_own : (r : ℕ) (c : Coord) (number index : ℕ) → IsOwnSpot r c number index → c.y % 8 ≡ 0 → 0 < c.y
+    → side r ≤ number
+unfolding brick_number
+row_before_own r c number index own last some = row_fits (side r) (c.x / 8) (c.y / 8) (c.z / 8) number (omega arith) own.in_brick
+
+pub one_before_own : (r : ℕ) (c : Coord) (number index : ℕ) → IsOwnSpot r c number index → c.z % 8 ≡ 0 → 0 < c.z
+    → 1 ≤ number
+unfolding brick_number
+one_before_own r c number index own last some = let in_brick = own.in_brick in omega arith
+
+pub spot_left : (r : ℕ) (c : Coord) (d own place number index : ℕ) → IsOwnSpot r c own place → d ≡ 1 → c.x % 8 ≡ 0
+    → 0 < c.x → number + side r * side r ≡ own → index ≡ place + 448 → IsSpotToward r c d number index
+unfolding brick_number word_index
+spot_left r c d own place number index own_spot e last some n i =
+    let bricks = brick_inside r c own_spot.within in
+    let in_x = bricks.x in
+    let at = own_spot.at_index in
+    let before : (c.x - 1) / 8 ≡ c.x / 8 - 1 = omega arith in
+    record {
+      there = record { x = c.x - 1; y = c.y; z = c.z };
+      toward = lies_left (e, omega arith, refl, refl);
+      stands = record {
+        within = record { x = omega arith; y = bricks.y; z = bricks.z };
+        in_brick = ap (λ (k : ℕ). k * side r * side r + c.y / 8 * side r + c.z / 8) before ∙ wall_before (side r) (c.x / 8) (c.y / 8) (c.z / 8) number own (omega arith) n own_spot.in_brick;
+        at_index = omega arith;
+      };
+    }
+
+pub spot_right : (r : ℕ) (c : Coord) (d own place number index : ℕ) → IsOwnSpot r c own place → d ≡ 2 → c.x % 8 ≡ 7
+    → number ≡ own + side r * side r → index + 448 ≡ place → IsSpotToward r c d number index
+unfolding brick_number word_index side
+spot_right r c d own place number index own_spot e last n i =
+    let bricks = brick_inside r c own_spot.within in
+    let along = own_spot.within.x in
+    let at = own_spot.at_index in
+    let behind : (c.x + 1) / 8 ≡ c.x / 8 + 1 = omega arith in
+    record {
+      there = record { x = c.x + 1; y = c.y; z = c.z };
+      toward = lies_right (e, omega arith, refl, refl);
+      stands = record {
+        within = record { x = omega arith; y = bricks.y; z = bricks.z };
+        in_brick = ap (λ (k : ℕ). k * side r * side r + c.y / 8 * side r + c.z / 8) behind ∙ wall_behind (side r) (c.x / 8) (c.y / 8) (c.z / 8) number own n own_spot.in_brick;
+        at_index = omega arith;
+      };
+    }
+
+pub spot_under : (r : ℕ) (c : Coord) (d own place number index : ℕ) → IsOwnSpot r c own place → d ≡ 3 → c.y % 8 ≡ 0
+    → 0 < c.y → number + side r ≡ own → index ≡ place + 56 → IsSpotToward r c d number index
+unfolding brick_number word_index
+spot_under r c d own place number index own_spot e last some n i =
+    let bricks = brick_inside r c own_spot.within in
+    let in_y = bricks.y in
+    let at = own_spot.at_index in
+    let before : (c.y - 1) / 8 ≡ c.y / 8 - 1 = omega arith in
+    record {
+      there = record { x = c.x; y = c.y - 1; z = c.z };
+      toward = lies_under (e, refl, omega arith, refl);
+      stands = record {
+        within = record { x = bricks.x; y = omega arith; z = bricks.z };
+        in_brick = ap (λ (k : ℕ). c.x / 8 * side r * side r + k * side r + c.z / 8) before ∙ row_before (side r) (c.x / 8) (c.y / 8) (c.z / 8) number own (omega arith) n own_spot.in_brick;
+        at_index = omega arith;
+      };
+    }
+
+pub spot_over : (r : ℕ) (c : Coord) (d own place number index : ℕ) → IsOwnSpot r c own place → d ≡ 4 → c.y % 8 ≡ 7
+    → number ≡ own + side r → index + 56 ≡ place → IsSpotToward r c d number index
+unfolding brick_number word_index side
+spot_over r c d own place number index own_spot e last n i =
+    let bricks = brick_inside r c own_spot.within in
+    let along = own_spot.within.y in
+    let at = own_spot.at_index in
+    let behind : (c.y + 1) / 8 ≡ c.y / 8 + 1 = omega arith in
+    record {
+      there = record { x = c.x; y = c.y + 1; z = c.z };
+      toward = lies_over (e, refl, omega arith, refl);
+      stands = record {
+        within = record { x = bricks.x; y = omega arith; z = bricks.z };
+        in_brick = ap (λ (k : ℕ). c.x / 8 * side r * side r + k * side r + c.z / 8) behind ∙ row_behind (side r) (c.x / 8) (c.y / 8) (c.z / 8) number own n own_spot.in_brick;
+        at_index = omega arith;
+      };
+    }
+
+pub spot_near : (r : ℕ) (c : Coord) (d own place number index : ℕ) → IsOwnSpot r c own place → d ≡ 5 → c.z % 8 ≡ 0
+    → 0 < c.z → number + 1 ≡ own → index ≡ place + 7 → IsSpotToward r c d number index
+unfolding brick_number word_index
+spot_near r c d own place number index own_spot e last some n i =
+    let bricks = brick_inside r c own_spot.within in
+    let in_z = bricks.z in
+    let at = own_spot.at_index in
+    let in_brick = own_spot.in_brick in
+    record {
+      there = record { x = c.x; y = c.y; z = c.z - 1 };
+      toward = lies_near (e, refl, refl, omega arith);
+      stands = record { within = record { x = bricks.x; y = bricks.y; z = omega arith }; in_brick = omega arith; at_index = omega arith };
+    }
+
+pub spot_far : (r : ℕ) (c : Coord) (d own place number index : ℕ) → IsOwnSpot r c own place → d ≡ 6 → c.z % 8 ≡ 7
+    → number ≡ own + 1 → index + 7 ≡ place → IsSpotToward r c d number index
+unfolding brick_number word_index side
+spot_far r c d own place number index own_spot e last n i =
+    let bricks = brick_inside r c own_spot.within in
+    let along = own_spot.within.z in
+    let at = own_spot.at_index in
+    let in_brick = own_spot.in_brick in
+    record {
+      there = record { x = c.x; y = c.y; z = c.z + 1 };
+      toward = lies_far (e, refl, refl, omega arith);
+      stands = record { within = record { x = bricks.x; y = bricks.y; z = omega arith }; in_brick = omega arith; at_index = omega arith };
+    }
+
+-- ---- no neighbour at the border of space
+
+pub none_left : (r : ℕ) (c : Coord) (d : ℕ) → d ≡ 1 → c.x ≡ 0 → NoneToward r c d
+none_left r c d e h = λ q t s. let some = (goes d r c q t s).one e in absurd (omega arith)
+
+pub none_right : (r : ℕ) (c : Coord) (d : ℕ) → d ≡ 2 → r ≡ c.x + 1 → NoneToward r c d
+none_right r c d e h = λ q t s. let some = (goes d r c q t s).two e in absurd (omega arith)
+
+pub none_under : (r : ℕ) (c : Coord) (d : ℕ) → d ≡ 3 → c.y ≡ 0 → NoneToward r c d
+none_under r c d e h = λ q t s. let some = (goes d r c q t s).three e in absurd (omega arith)
+
+pub none_over : (r : ℕ) (c : Coord) (d : ℕ) → d ≡ 4 → r ≡ c.y + 1 → NoneToward r c d
+none_over r c d e h = λ q t s. let some = (goes d r c q t s).four e in absurd (omega arith)
+
+pub none_near : (r : ℕ) (c : Coord) (d : ℕ) → d ≡ 5 → c.z ≡ 0 → NoneToward r c d
+none_near r c d e h = λ q t s. let some = (goes d r c q t s).five e in absurd (omega arith)
+
+pub none_far : (r : ℕ) (c : Coord) (d : ℕ) → d ≡ 6 → r ≡ c.z + 1 → NoneToward r c d
+none_far r c d e h = λ q t s. let some = (goes d r c q t s).six e in absurd (omega arith)
+
+-- ---- the last voxel of a brick
+
+pub ends_left : (c : Coord) (d : ℕ) → d ≡ 1 → c.x % 8 ≡ 0 → EndsBrick c d
+ends_left c d e h = record { left = λ k. h; right = λ k. absurd (omega arith); under = λ k. absurd (omega arith); over = λ k. absurd (omega arith); near = λ k. absurd (omega arith); far = λ k. absurd (omega arith) }
+
+pub ends_right : (c : Coord) (d : ℕ) → d ≡ 2 → c.x % 8 ≡ 7 → EndsBrick c d
+ends_right c d e h = record { left = λ k. absurd (omega arith); right = λ k. h; under = λ k. absurd (omega arith); over = λ k. absurd (omega arith); near = λ k. absurd (omega arith); far = λ k. absurd (omega arith) }
+
+pub ends_under : (c : Coord) (d : ℕ) → d ≡ 3 → c.y % 8 ≡ 0 → EndsBrick c d
+ends_under c d e h = record { left = λ k. absurd (omega arith); right = λ k. absurd (omega arith); under = λ k. h; over = λ k. absurd (omega arith); near = λ k. absurd (omega arith); far = λ k. absurd (omega arith) }
+
+pub ends_over : (c : Coord) (d : ℕ) → d ≡ 4 → c.y % 8 ≡ 7 → EndsBrick c d
+ends_over c d e h = record { left = λ k. absurd (omega arith); right = λ k. absurd (omega arith); under = λ k. absurd (omega arith); over = λ k. h; near = λ k. absurd (omega arith); far = λ k. absurd (omega arith) }
+
+pub ends_near : (c : Coord) (d : ℕ) → d ≡ 5 → c.z % 8 ≡ 0 → EndsBrick c d
+ends_near c d e h = record { left = λ k. absurd (omega arith); right = λ k. absurd (omega arith); under = λ k. absurd (omega arith); over = λ k. absurd (omega arith); near = λ k. h; far = λ k. absurd (omega arith) }
+
+pub ends_far : (c : Coord) (d : ℕ) → d ≡ 6 → c.z % 8 ≡ 7 → EndsBrick c d
+ends_far c d e h = record { left = λ k. absurd (omega arith); right = λ k. absurd (omega arith); under = λ k. absurd (omega arith); over = λ k. absurd (omega arith); near = λ k. absurd (omega arith); far = λ k. h }
+
+-- ---- the bricks beyond space
+
+first_wall : (s x y z own : ℕ) → x ≡ 0 → y < s → z < s → own ≡ x * s * s + y * s + z → own < s * s
+first_wall s (suc x) y z own e l k h = absurd (omega arith)
+first_wall s zero y z own e l k h =
+    let less : suc y * s ≤ s * s = mul-le-mul_right s (omega arith) in
+    let product : suc y * s ≡ y * s + s = suc-mul y s in
+    omega arith
+
+first_row : (s x y z own : ℕ) → x ≡ 0 → y ≡ 0 → z < s → own ≡ x * s * s + y * s + z → own < s
+first_row s (suc x) y z own e f k h = absurd (omega arith)
+first_row s zero (suc y) z own e f k h = absurd (omega arith)
+first_row s zero zero z own e f k h = omega arith
+
+-- what lies before the first brick of a row, in the wall before: the last of its rows
+row_around : (s x z number own : ℕ) → 0 < x → 0 < s → number + s ≡ own → own ≡ x * s * s + 0 * s + z
+    → (x - 1) * s * s + (s - 1) * s + z ≡ number
+row_around s zero z number own l k n h = absurd (omega arith)
+row_around zero (suc x) z number own l k n h = absurd (omega arith)
+row_around (suc s) (suc x) z number own l k n h =
+    let less : suc x - 1 ≡ x = omega arith in
+    let last : suc s - 1 ≡ s = omega arith in
+    let product : suc x * suc s * suc s ≡ x * suc s * suc s + suc s * suc s = ap (λ (k : ℕ). k * suc s) (suc-mul x (suc s)) ∙ add-mul (x * suc s) (suc s) (suc s) in
+    let square : suc s * suc s ≡ s * suc s + suc s = suc-mul s (suc s) in
+    ap (λ (k : ℕ). k * suc s * suc s + (suc s - 1) * suc s + z) less ∙ (ap (λ (k : ℕ). x * suc s * suc s + k * suc s + z) last ∙ omega arith)
+
+-- what lies before the first brick of a line: the last of the line before
+line_around : (s x y number own : ℕ) → 0 < y → 0 < s → number + 1 ≡ own → own ≡ x * s * s + y * s + 0
+    → x * s * s + (y - 1) * s + (s - 1) ≡ number
+line_around s x zero number own l k n h = absurd (omega arith)
+line_around zero x (suc y) number own l k n h = absurd (omega arith)
+line_around (suc s) x (suc y) number own l k n h =
+    let less : suc y - 1 ≡ y = omega arith in
+    let product : suc y * suc s ≡ y * suc s + suc s = suc-mul y (suc s) in
+    ap (λ (k : ℕ). x * suc s * suc s + k * suc s + (suc s - 1)) less ∙ omega arith
+
+wall_around : (s x number own : ℕ) → 0 < x → 0 < s → number + 1 ≡ own → own ≡ x * s * s + 0 * s + 0
+    → (x - 1) * s * s + (s - 1) * s + (s - 1) ≡ number
+wall_around s zero number own l k n h = absurd (omega arith)
+wall_around zero (suc x) number own l k n h = absurd (omega arith)
+wall_around (suc s) (suc x) number own l k n h =
+    let less : suc x - 1 ≡ x = omega arith in
+    let last : suc s - 1 ≡ s = omega arith in
+    let product : suc x * suc s * suc s ≡ x * suc s * suc s + suc s * suc s = ap (λ (k : ℕ). k * suc s) (suc-mul x (suc s)) ∙ add-mul (x * suc s) (suc s) (suc s) in
+    let square : suc s * suc s ≡ s * suc s + suc s = suc-mul s (suc s) in
+    ap (λ (k : ℕ). k * suc s * suc s + (suc s - 1) * suc s + (suc s - 1)) less ∙ (ap (λ (k : ℕ). x * suc s * suc s + k * suc s + k) last ∙ omega arith)
+
+-- ---- the word there
+
+-- what holds of an option's value or of its lack
+pub match_so : {A : Type 0} (o : Option A) (N M : Type 0) (P Q : A → Type 0) → (N → M) → ((a : A) → P a → Q a)
+    → MatchOption o N P → MatchOption o M Q
+match_so None N M P Q n k h = n h
+match_so (Some a) N M P Q n k h = k a h
+
+-- the word at an index of a brick is that of each voxel that stands there
+pub reads_in_brick : (g : Grid) (number index word : ℕ) (slot : Option ℕ) → IsStore g → slot ≡ slot_at g.table number
+    → word ≡ word_in g.bricks slot index → (q : Coord) → StandsIn g.resolution number index q → word_at g q ≡ word
+reads_in_brick g number index word slot h e k q s =
+    sym (h.words q s.within) ∙ (ap (λ (n : ℕ). word_in g.bricks (slot_at g.table n) (word_index q)) s.in_brick ∙ (ap (λ (j : ℕ). word_in g.bricks (slot_at g.table number) j) s.at_index ∙ (ap (λ (x : Option ℕ). word_in g.bricks x index) (sym e) ∙ sym k)))
+
+-- where no voxel lies in the direction the word is 0
+pub no_word : (g : Grid) (c : Coord) (d word : ℕ) → ((q : Coord) → 0 < word_at g q → IsInSpace g.resolution q)
+    → NoneToward g.resolution c d → word ≡ 0 → IsWordToward (word_at g) c d word
+no_word g c d word space none e = record {
+  each = λ q t. elim (cases_lt 0 (word_at g q)) [ inl f ↦ absurd (none q t (space q f)) | inr f ↦ omega arith ];
+  some = λ f. absurd (omega arith);
+}
+
+pub that_word : (g : Grid) (c : Coord) (d number index word : ℕ) → IsSpotToward g.resolution c d number index
+    → ((q : Coord) → StandsIn g.resolution number index q → word_at g q ≡ word) → IsWordToward (word_at g) c d word
+that_word g c d number index word s value = record {
+  each = λ q k. ap (word_at g) (one_toward d c q s.there k s.toward) ∙ value s.there s.stands;
+  some = λ f. (s.there, s.toward);
+}
+
+-- a word beyond space is 0
+void_word : (g : Grid) (q : Coord) (word : ℕ) → ((p : Coord) → 0 < word_at g p → IsInSpace g.resolution p)
+    → (IsInSpace g.resolution q → ⊥) → word_at g q ≡ word → word ≡ 0
+void_word g q word space out e = elim (cases_lt 0 (word_at g q)) [ inl f ↦ absurd (out (space q f)) | inr f ↦ omega arith ]
+
+pub stands_same : (r n m i j : ℕ) (q : Coord) → n ≡ m → i ≡ j → StandsIn r n i q → StandsIn r m j q
+stands_same r n m i j q e f s = record { within = s.within; in_brick = s.in_brick ∙ e; at_index = s.at_index ∙ f }
+
+-- all full voxels lie in space
+abbrev pub Space : Grid → Type 0
+Space g = (q : Coord) → 0 < word_at g q → IsInSpace g.resolution q
+
+-- what is read at a spot
+abbrev pub ReadsAt : Grid → ℕ → ℕ → Type 0
+ReadsAt g spot word = (q : Coord) → StandsIn g.resolution (spot / 512) (spot % 512) q → word_at g q ≡ word
+
+-- what is read so many bricks before one
+pub record ReadsBefore (g : Grid) (spot bricks word : ℕ) : Type 0 where
+  pub value : (q : Coord) → bricks ≤ spot / 512 → StandsIn g.resolution (spot / 512 - bricks) (spot % 512) q
+      → word_at g q ≡ word
+  pub none : spot / 512 < bricks → word ≡ 0
+
+pub word_left : (g : Grid) (p t word : ℕ) → t ≡ side g.resolution * side g.resolution
+    → IsInSpace g.resolution (voxel_in g p) → (voxel_in g p).x % 8 ≡ 0 → Space g → ReadsBefore g (p + 448) t word
+    → IsWordToward (word_at g) (voxel_in g p) 1 word
+unfolding brick_number
+word_left g p t word e within last space read =
+    let c = voxel_in g p in
+    let own = own_spot g.resolution p within in
+    let digit : p % 512 / 64 ≡ 0 = sym (digit_x (side g.resolution) p) ∙ last in
+    let bricks = brick_inside g.resolution c within in
+    elim (cases_lt 0 c.x) [
+      | inl some ↦
+          let before = wall_before_own g.resolution c (p / 512) (p % 512) own last some in
+          that_word g c 1 ((p + 448) / 512 - t) ((p + 448) % 512) word
+          (spot_left g.resolution c 1 (p / 512) (p % 512) ((p + 448) / 512 - t) ((p + 448) % 512) own refl last some (omega arith) (omega arith)) (λ q s. read.value q (omega arith) s)
+      | inr none ↦
+          let below = first_wall (side g.resolution) (c.x / 8) (c.y / 8) (c.z / 8) (p / 512) (omega arith) bricks.y bricks.z own.in_brick in
+          no_word g c 1 word space (none_left g.resolution c 1 refl (omega arith)) (read.none (omega arith))
+    ]
+
+pub word_right : (g : Grid) (p t word : ℕ) → t ≡ side g.resolution * side g.resolution
+    → IsInSpace g.resolution (voxel_in g p) → (voxel_in g p).x % 8 ≡ 7 → ReadsAt g (p - 448 + 512 * t) word
+    → IsWordToward (word_at g) (voxel_in g p) 2 word
+word_right g p t word e within last read =
+    let own = own_spot g.resolution p within in
+    let digit : p % 512 / 64 ≡ 7 = sym (digit_x (side g.resolution) p) ∙ last in
+    that_word g (voxel_in g p) 2 ((p - 448 + 512 * t) / 512) ((p - 448 + 512 * t) % 512) word
+    (spot_right g.resolution (voxel_in g p) 2 (p / 512) (p % 512) ((p - 448 + 512 * t) / 512) ((p - 448 + 512 * t) % 512) own refl last (omega arith) (omega arith)) read
+
+pub word_over : (g : Grid) (p t word : ℕ) → t ≡ side g.resolution → IsInSpace g.resolution (voxel_in g p)
+    → (voxel_in g p).y % 8 ≡ 7 → ReadsAt g (p - 56 + 512 * t) word
+    → IsWordToward (word_at g) (voxel_in g p) 4 word
+word_over g p t word e within last read =
+    let own = own_spot g.resolution p within in
+    let digit : p % 512 / 8 % 8 ≡ 7 = sym (digit_y (side g.resolution) p) ∙ last in
+    that_word g (voxel_in g p) 4 ((p - 56 + 512 * t) / 512) ((p - 56 + 512 * t) % 512) word
+    (spot_over g.resolution (voxel_in g p) 4 (p / 512) (p % 512) ((p - 56 + 512 * t) / 512) ((p - 56 + 512 * t) % 512) own refl last (omega arith) (omega arith)) read
+
+pub word_far : (g : Grid) (p word : ℕ) → IsInSpace g.resolution (voxel_in g p) → (voxel_in g p).z % 8 ≡ 7
+    → ReadsAt g (p - 7 + 512) word → IsWordToward (word_at g) (voxel_in g p) 6 word
+word_far g p word within last read =
+    let own = own_spot g.resolution p within in
+    let digit : p % 512 % 8 ≡ 7 = sym (digit_z (side g.resolution) p) ∙ last in
+    that_word g (voxel_in g p) 6 ((p - 7 + 512) / 512) ((p - 7 + 512) % 512) word
+    (spot_far g.resolution (voxel_in g p) 6 (p / 512) (p % 512) ((p - 7 + 512) / 512) ((p - 7 + 512) % 512) own refl last (omega arith) (omega arith)) read
+
+-- the brick before the first of its row lies beyond space
+beyond_row : (g : Grid) (p : ℕ) → IsInSpace g.resolution (voxel_in g p) → (voxel_in g p).y ≡ 0
+    → side g.resolution ≤ p / 512 → (q : Coord) × (IsInSpace g.resolution q → ⊥) × StandsIn g.resolution ((p + 56) / 512 - side g.resolution) ((p + 56) % 512) q
+unfolding brick_number word_index side
+beyond_row g p within floor some =
+    let r = g.resolution in
+    let c = voxel_in g p in
+    let own = own_spot r p within in
+    let bricks = brick_inside r c within in
+    let digit : p % 512 / 8 % 8 ≡ 0 = sym (digit_y (side r) p) ∙ omega arith in
+    let there : Coord = record { x = c.x - 8; y = 8 * (side r - 1) + 7; z = c.z } in
+    let in_x = bricks.x in
+    let in_z = bricks.z in
+    let wall : 0 < c.x / 8 = elim (cases_lt 0 (c.x / 8)) [
+      | inl k ↦ k
+      | inr k ↦ let below = first_row (side r) (c.x / 8) (c.y / 8) (c.z / 8) (p / 512) (omega arith) (omega arith) in_z own.in_brick in absurd (omega arith)
+    ] in
+    let x_is : (c.x - 8) / 8 ≡ c.x / 8 - 1 = omega arith in
+    let y_is : (8 * (side r - 1) + 7) / 8 ≡ side r - 1 = omega arith in
+    let at = own.at_index in
+    let row : p / 512 ≡ c.x / 8 * side r * side r + 0 * side r + c.z / 8 = own.in_brick ∙ ap (λ (k : ℕ). c.x / 8 * side r * side r + k * side r + c.z / 8) (omega arith) in
+    let number : (p + 56) / 512 - side r + side r ≡ p / 512 = omega arith in (
+      there,
+      (λ s. let in_y = s.y in omega arith),
+      record {
+        within = record { x = omega arith; y = omega arith; z = in_z };
+        in_brick = ap (λ (k : ℕ). k * side r * side r + (8 * (side r - 1) + 7) / 8 * side r + c.z / 8) x_is ∙ (ap (λ (k : ℕ). (c.x / 8 - 1) * side r * side r + k * side r + c.z / 8) y_is ∙ row_around (side r) (c.x / 8) (c.z / 8) ((p + 56) / 512 - side r) (p / 512) wall (omega arith) number row);
+        at_index = omega arith;
+      },
+    )
+
+pub word_under : (g : Grid) (p t word : ℕ) → t ≡ side g.resolution → IsInSpace g.resolution (voxel_in g p)
+    → (voxel_in g p).y % 8 ≡ 0 → Space g → ReadsBefore g (p + 56) t word
+    → IsWordToward (word_at g) (voxel_in g p) 3 word
+word_under g p t word e within last space read =
+    let c = voxel_in g p in
+    let own = own_spot g.resolution p within in
+    let digit : p % 512 / 8 % 8 ≡ 0 = sym (digit_y (side g.resolution) p) ∙ last in
+    elim (cases_lt 0 c.y) [
+      | inl some ↦
+          let before = row_before_own g.resolution c (p / 512) (p % 512) own last some in
+          that_word g c 3 ((p + 56) / 512 - t) ((p + 56) % 512) word
+          (spot_under g.resolution c 3 (p / 512) (p % 512) ((p + 56) / 512 - t) ((p + 56) % 512) own refl last some (omega arith) (omega arith)) (λ q s. read.value q (omega arith) s)
+      | inr none ↦ no_word g c 3 word space (none_under g.resolution c 3 refl (omega arith)) (elim (cases_lt (p / 512) t) [
+        | inl k ↦ read.none (omega arith)
+        | inr k ↦
+            let around = beyond_row g p within (omega arith) (omega arith) in
+            void_word g around.0 word space around.1 (read.value around.0 (omega arith) (subst (λ (n : ℕ). StandsIn g.resolution ((p + 56) / 512 - n) ((p + 56) % 512) around.0) (sym e) around.2))
+      ])
+    ]
+
+-- the brick before the first of its line lies beyond space
+beyond_line : (g : Grid) (p : ℕ) → IsInSpace g.resolution (voxel_in g p) → (voxel_in g p).z ≡ 0 → 1 ≤ p / 512
+    → (q : Coord) × (IsInSpace g.resolution q → ⊥) × StandsIn g.resolution ((p + 7) / 512 - 1) ((p + 7) % 512) q
+unfolding brick_number word_index side
+beyond_line g p within first some =
+    let r = g.resolution in
+    let c = voxel_in g p in
+    let own = own_spot r p within in
+    let bricks = brick_inside r c within in
+    let in_x = bricks.x in
+    let in_y = bricks.y in
+    let digit : p % 512 % 8 ≡ 0 = sym (digit_z (side r) p) ∙ omega arith in
+    let at = own.at_index in
+    let z_is : (8 * (side r - 1) + 7) / 8 ≡ side r - 1 = omega arith in
+    let number : (p + 7) / 512 - 1 + 1 ≡ p / 512 = omega arith in
+    let line : p / 512 ≡ c.x / 8 * side r * side r + c.y / 8 * side r + 0 = own.in_brick ∙ ap (λ (k : ℕ). c.x / 8 * side r * side r + c.y / 8 * side r + k) (omega arith) in
+    elim (cases_lt 0 (c.y / 8)) [
+      | inl k ↦
+          let y_is : (c.y - 8) / 8 ≡ c.y / 8 - 1 = omega arith in (
+            record { x = c.x; y = c.y - 8; z = 8 * (side r - 1) + 7 },
+            (λ s. let in_z = s.z in omega arith),
+            record {
+              within = record { x = in_x; y = omega arith; z = omega arith };
+              in_brick = ap (λ (j : ℕ). c.x / 8 * side r * side r + j * side r + (8 * (side r - 1) + 7) / 8) y_is ∙ (ap (λ (j : ℕ). c.x / 8 * side r * side r + (c.y / 8 - 1) * side r + j) z_is ∙ line_around (side r) (c.x / 8) (c.y / 8) ((p + 7) / 512 - 1) (p / 512) k (omega arith) number line);
+              at_index = omega arith;
+            },
+          )
+      | inr k ↦
+          let none : c.y / 8 ≡ 0 = omega arith in
+          let wall_line : p / 512 ≡ c.x / 8 * side r * side r + 0 * side r + 0 = line ∙ ap (λ (j : ℕ). c.x / 8 * side r * side r + j * side r + 0) none in
+          let wall : 0 < c.x / 8 = elim (cases_lt 0 (c.x / 8)) [
+            | inl m ↦ m
+            | inr m ↦ let first_is : c.x / 8 * side r * side r ≡ 0 * side r * side r = ap (λ (j : ℕ). j * side r * side r) (omega arith) in absurd (omega arith)
+          ] in
+          let x_is : (c.x - 8) / 8 ≡ c.x / 8 - 1 = omega arith in
+          let y_is : (8 * (side r - 1) + c.y % 8) / 8 ≡ side r - 1 = omega arith in (
+            record { x = c.x - 8; y = 8 * (side r - 1) + c.y % 8; z = 8 * (side r - 1) + 7 },
+            (λ s. let in_z = s.z in omega arith),
+            record {
+              within = record { x = omega arith; y = omega arith; z = omega arith };
+              in_brick = ap (λ (j : ℕ). j * side r * side r + (8 * (side r - 1) + c.y % 8) / 8 * side r + (8 * (side r - 1) + 7) / 8) x_is ∙ (ap (λ (j : ℕ). (c.x / 8 - 1) * side r * side r + j * side r + (8 * (side r - 1) + 7) / 8) y_is ∙ (ap (λ (j : ℕ). (c.x / 8 - 1) * side r * side r + (side r - 1) * side r + j) z_is ∙ wall_around (side r) (c.x / 8) ((p + 7) / 512 - 1) (p / 512) wall (omega arith) number wall_line));
+              at_index = omega arith;
+            },
+          )
+    ]
+
+pub word_near : (g : Grid) (p word : ℕ) → IsInSpace g.resolution (voxel_in g p) → (voxel_in g p).z % 8 ≡ 0 → Space g
+    → ReadsBefore g (p + 7) 1 word → IsWordToward (word_at g) (voxel_in g p) 5 word
+word_near g p word within last space read =
+    let c = voxel_in g p in
+    let own = own_spot g.resolution p within in
+    let digit : p % 512 % 8 ≡ 0 = sym (digit_z (side g.resolution) p) ∙ last in
+    elim (cases_lt 0 c.z) [
+      | inl some ↦
+          let before = one_before_own g.resolution c (p / 512) (p % 512) own last some in
+          that_word g c 5 ((p + 7) / 512 - 1) ((p + 7) % 512) word
+          (spot_near g.resolution c 5 (p / 512) (p % 512) ((p + 7) / 512 - 1) ((p + 7) % 512) own refl last some (omega arith) (omega arith)) (λ q s. read.value q (omega arith) s)
+      | inr none ↦ no_word g c 5 word space (none_near g.resolution c 5 refl (omega arith)) (elim (cases_lt (p / 512) 1) [
+        | inl k ↦ read.none (omega arith)
+        | inr k ↦ let around = beyond_line g p within (omega arith) (omega arith) in void_word g around.0 word space around.1 (read.value around.0 (omega arith) around.2)
+      ])
+    ]
+
+-- ---- the next brick is in the table
+
+pub right_below : (g : Grid) (p t : ℕ) → t ≡ side g.resolution * side g.resolution
+    → IsInSpace g.resolution (voxel_in g p) → (voxel_in g p).x % 8 ≡ 7
+    → (p - 448 + 512 * t) / 512 < side g.resolution * side g.resolution * side g.resolution
+right_below g p t e within last =
+    let own = own_spot g.resolution p within in
+    let digit : p % 512 / 64 ≡ 7 = sym (digit_x (side g.resolution) p) ∙ last in
+    let spot = spot_right g.resolution (voxel_in g p) 2 (p / 512) (p % 512) ((p - 448 + 512 * t) / 512) ((p - 448 + 512 * t) % 512) own refl last (omega arith) (omega arith) in
+    stands_below g.resolution ((p - 448 + 512 * t) / 512) ((p - 448 + 512 * t) % 512) spot.there spot.stands
+
+pub over_below : (g : Grid) (p t : ℕ) → t ≡ side g.resolution → IsInSpace g.resolution (voxel_in g p)
+    → (voxel_in g p).y % 8 ≡ 7
+    → (p - 56 + 512 * t) / 512 < side g.resolution * side g.resolution * side g.resolution
+over_below g p t e within last =
+    let own = own_spot g.resolution p within in
+    let digit : p % 512 / 8 % 8 ≡ 7 = sym (digit_y (side g.resolution) p) ∙ last in
+    let spot = spot_over g.resolution (voxel_in g p) 4 (p / 512) (p % 512) ((p - 56 + 512 * t) / 512) ((p - 56 + 512 * t) % 512) own refl last (omega arith) (omega arith) in
+    stands_below g.resolution ((p - 56 + 512 * t) / 512) ((p - 56 + 512 * t) % 512) spot.there spot.stands
+
+pub far_below : (g : Grid) (p : ℕ) → IsInSpace g.resolution (voxel_in g p) → (voxel_in g p).z % 8 ≡ 7
+    → (p - 7 + 512) / 512 < side g.resolution * side g.resolution * side g.resolution
+far_below g p within last =
+    let own = own_spot g.resolution p within in
+    let digit : p % 512 % 8 ≡ 7 = sym (digit_z (side g.resolution) p) ∙ last in
+    let spot = spot_far g.resolution (voxel_in g p) 6 (p / 512) (p % 512) ((p - 7 + 512) / 512) ((p - 7 + 512) % 512) own refl last (omega arith) (omega arith) in
+    stands_below g.resolution ((p - 7 + 512) / 512) ((p - 7 + 512) % 512) spot.there spot.stands

@@ -1,0 +1,52 @@
+-- The spot of a neighbour that is offered a height, and what lists of offers say of candidates.
+use Rattle.std.proofs.Common.{◌≡◌, ℕ, ◌<◌, ◌≤◌, sym, ◌∙◌, ap, subst, arith, List}
+use Rattle.std.specs.List.{Contains}
+use Rattle.std.proofs.lemmas.List.{get_or-map, length-map}
+use Rattle.vox_geom.specs.declared.coordinate.Coord.{Coord}
+use Rattle.vox_geom.specs.Space.{IsInSpace}
+use Rattle.support_forest.specs.declared.offer.Offer.{Offer}
+use Rattle.support_forest.specs.Access.{LieInSpace}
+use Rattle.support_forest.specs.Candidates.{Candidate}
+use Rattle.support_forest.specs.Directions.{Toward}
+use Rattle.support_forest.specs.Grid.{Grid, word_at}
+use Rattle.support_forest.specs.Offers.{candidate_at, candidates_at}
+use Rattle.support_forest.specs.Placing.{IsWordToward}
+use Rattle.support_forest.specs.Spots.{IsBrickBeside, IsSpotNext, voxel_at}
+use Rattle.support_forest.specs.Spreading.{CanSpread}
+use Rattle.support_forest.specs.Waiting.{Waiting}
+
+-- what is listed is listed as a candidate
+pub listed_offer : (s : ℕ) (offers : List Offer) (y : Offer) → Contains offers y
+    → Contains (candidates_at s offers) (candidate_at s y)
+listed_offer s offers y h =
+    (h.0, omega (arith, h.1, length-map offers (λ (o : Offer). candidate_at s o)), get_or-map (λ (o : Offer). candidate_at s o) offers h.0 y (candidate_at s y) h.1 ∙ ap (λ (o : Offer). candidate_at s o) h.2)
+
+-- no offer of the list is higher
+pub no_higher : (s most : ℕ) (offers : List Offer)
+    → ((f : Candidate) → Contains (candidates_at s offers) f → f.height ≤ most) → (y : Offer) → Contains offers y
+    → y.height ≤ most
+no_higher s most offers h y k = h (candidate_at s y) (listed_offer s offers y k)
+
+-- a voxel in hand lies in space, and so do all full ones
+pub lies_in_hand : (now : Grid) (q : Waiting) (x : Candidate) (d steps : ℕ) → CanSpread now q x d steps
+    → LieInSpace now x.at
+lies_in_hand now q x d steps can = record {
+  within = subst (λ (r : ℕ). IsInSpace r x.at) (sym can.is.same.resolution) can.is.here.1;
+  space = λ c f. subst (λ (r : ℕ). IsInSpace r c) (sym can.is.same.resolution) (can.is.settling.space c f);
+}
+
+-- ---- the neighbour at the next spot: it is full
+
+pub next_toward : (s p d next : ℕ) → (b : IsBrickBeside s p d) → IsSpotNext s p d next
+    → Toward d (voxel_at s p) (voxel_at s next)
+next_toward s p d next b n = subst (λ (q : Coord). Toward d (voxel_at s p) q) (sym (n b.there b.toward b.within)) b.toward
+
+pub next_word : (w : Coord → ℕ) (s p d word next : ℕ) → IsWordToward w (voxel_at s p) d word → IsBrickBeside s p d
+    → IsSpotNext s p d next → w (voxel_at s next) ≡ word
+next_word w s p d word next k b n = k.each (voxel_at s next) (next_toward s p d next b n)
+
+pub next_inside : (g : Grid) (s p d word next : ℕ) → LieInSpace g (voxel_at s p)
+    → IsWordToward (word_at g) (voxel_at s p) d word → IsBrickBeside s p d → IsSpotNext s p d next → 0 < word
+    → IsInSpace g.resolution (voxel_at s next)
+next_inside g s p d word next inside k b n some =
+    inside.space (voxel_at s next) (let same = next_word (word_at g) s p d word next k b n in omega arith)

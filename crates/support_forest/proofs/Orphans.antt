@@ -1,0 +1,77 @@
+-- What the lists of spots that a removal keeps say of the voxels there.
+use Rattle.std.proofs.Common.{◌≡◌, ℕ, ◌*◌, ◌/◌, ◌<◌, ◌≤◌, sym, ◌∙◌, ap, subst, arith, List, [], ◌∷◌, ◌++◌, length}
+use Rattle.std.specs.Prelude.{slice_index_or}
+use Rattle.std.proofs.lemmas.List.{get_or-map, length-map, map-append}
+use Rattle.vox_geom.specs.declared.coordinate.Coord.{Coord}
+use Rattle.vox_geom.specs.Space.{IsInSpace}
+use Rattle.support_forest.specs.declared.orphan.OrphanSpot.{OrphanSpot}
+use Rattle.support_forest.specs.Access.{LieInSpace}
+use Rattle.support_forest.specs.Directions.{Toward}
+use Rattle.support_forest.specs.Grid.{Grid, brick, side, word_at}
+use Rattle.support_forest.specs.Losing.{ListsToward}
+use Rattle.support_forest.specs.Offers.{orphan_at, orphans_at, voxels_at}
+use Rattle.support_forest.specs.Placing.{IsWordToward}
+use Rattle.support_forest.specs.Spots.{IsBrickBeside, IsSpotNext, voxel_at}
+use Rattle.support_forest.proofs.Removing.{lists_one}
+use Rattle.support_forest.proofs.Store.{brick_inside, few_bricks}
+use Rattle.support_forest.proofs.Voxels.{number_below}
+
+-- ---- the lists
+
+-- the list with one more behind
+pub orphans_more : (s : ℕ) (queue new : List OrphanSpot) (x : OrphanSpot) → new ≡ queue ++ x ∷ []
+    → orphans_at s new ≡ orphans_at s queue ++ orphan_at s x ∷ []
+orphans_more s queue new x e = ap (λ (l : List OrphanSpot). orphans_at s l) e ∙ map-append (λ (o : OrphanSpot). orphan_at s o) queue (x ∷ [])
+
+pub orphans_length : (s : ℕ) (queue : List OrphanSpot) → length (orphans_at s queue) ≡ length queue
+orphans_length s queue = length-map queue (λ (o : OrphanSpot). orphan_at s o)
+
+-- the one at a place
+pub orphan_below : (s : ℕ) (queue : List OrphanSpot) (i : ℕ) → i < length queue → i < length (orphans_at s queue)
+orphan_below s queue i l = omega (arith, orphans_length s queue)
+
+pub orphan_here : (s : ℕ) (queue : List OrphanSpot) (i : ℕ) (x : OrphanSpot) → i < length queue
+    → x ≡ slice_index_or queue i x → orphan_at s x ≡ slice_index_or (orphans_at s queue) i (orphan_at s x)
+orphan_here s queue i x l e =
+    ap (λ (o : OrphanSpot). orphan_at s o) e ∙ sym (get_or-map (λ (o : OrphanSpot). orphan_at s o) queue i x (orphan_at s x) l)
+
+pub no_voxels : (s : ℕ) (spots : List ℕ) → spots ≡ [] → voxels_at s spots ≡ []
+no_voxels s spots e = ap (λ (l : List ℕ). voxels_at s l) e
+
+-- ---- the neighbour that is listed
+
+pub few_sides : (r s : ℕ) → s ≡ side r → r ≤ 400 → s ≤ 51
+few_sides r s e h = let few = few_bricks r h in omega arith
+
+pub spot_below : (r s p : ℕ) → s ≡ side r → IsInSpace r (voxel_at s p) → p / 512 < s * s * s
+spot_below r s p e h =
+    subst (λ (k : ℕ). p / 512 < k * k * k) (sym e) (number_below r p (subst (λ (k : ℕ). IsInSpace r (voxel_at k p)) e h))
+
+-- a neighbour that is full lies in a brick of the table
+pub neighbour : (g : Grid) (s p d word : ℕ) → s ≡ side g.resolution → LieInSpace g (voxel_at s p)
+    → IsWordToward (word_at g) (voxel_at s p) d word → 0 < word → IsBrickBeside s p d
+neighbour g s p d word e h k some =
+    let there = k.some some in
+    let full : 0 < word_at g there.0 = let same_word = k.each there.0 there.1 in omega arith in
+    record {
+      there = there.0;
+      toward = there.1;
+      within = subst (λ (n : ℕ). IsInSpace n (brick there.0)) (sym e) (brick_inside g.resolution there.0 (h.space there.0 full));
+    }
+
+pub lists_spot : (w : Coord → ℕ) (s p above d toward word next : ℕ) (queue new : List OrphanSpot)
+    → IsWordToward w (voxel_at s p) d word → 0 < word → IsBrickBeside s p d → IsSpotNext s p d next
+    → new ≡ queue ++ record { spot = next; height = above } ∷ []
+    → ListsToward w (voxel_at s p) above d toward (orphans_at s queue) (orphans_at s new)
+lists_spot w s p above d toward word next queue new k some b n e =
+    let next_is : voxel_at s next ≡ b.there = n b.there b.toward b.within in
+    lists_one w (voxel_at s p) (voxel_at s next) above d toward word (orphans_at s queue) (orphans_at s new) k some
+    (subst (λ (q : Coord). Toward d (voxel_at s p) q) (sym next_is) b.toward)
+    (orphans_more s queue new (record { spot = next; height = above }) e)
+
+-- ---- where the side is that of a store
+
+pub voxels_same : (s r : ℕ) (spots list : List ℕ) → s ≡ side r → list ≡ spots
+    → voxels_at s spots ≡ voxels_at (side r) list
+voxels_same s r spots list e f =
+    ap (λ (k : ℕ). voxels_at k spots) e ∙ ap (λ (l : List ℕ). voxels_at (side r) l) (sym f)

@@ -1,0 +1,23 @@
+use Rattle.std.proofs.Common.{◌∙◌, ap, arith}
+use Rattle.support_forest.specs.Grid.{side}
+use Rattle.support_forest.specs.Spots.{spot_of, voxel_at}
+use Rattle.support_forest.proofs.Store.{brick_inside}
+use Rattle.support_forest.proofs.Voxels.{few_numbers, voxel_at_spot}
+use Rattle.support_forest.proofs.cells.Cells.spot.Goals as goal
+
+pub overflow_cast-result : goal.overflow_cast-result
+overflow_cast-result c = let few = few_numbers c.args.self.now.resolution c.args.at c.recall.ensures.few c.requires in let number = c.brick_number.ensures.value in omega arith
+
+pub overflow_mul-result : goal.overflow_mul-result
+overflow_mul-result c = let few = few_numbers c.args.self.now.resolution c.args.at c.recall.ensures.few c.requires in let number = c.brick_number.ensures.value in omega arith
+
+pub overflow_add-result : goal.overflow_add-result
+overflow_add-result c = let few = few_numbers c.args.self.now.resolution c.args.at c.recall.ensures.few c.requires in let number = c.brick_number.ensures.value in let below = c.word_index.ensures.below in omega (arith, c.from.ensures)
+
+pub returns-clause-value : goal.returns-clause-value
+unfolding spot_of
+returns-clause-value c = omega (arith, c.brick_number.ensures.value, c.from.ensures, c.word_index.ensures.value)
+
+pub returns-clause-voxel : goal.returns-clause-voxel
+unfolding spot_of
+returns-clause-voxel c = ap (voxel_at (side c.args.self.now.resolution)) (omega (arith, c.brick_number.ensures.value, c.from.ensures, c.word_index.ensures.value)) ∙ voxel_at_spot c.args.self.now.resolution c.args.at (brick_inside c.args.self.now.resolution c.args.at c.requires)

@@ -1,0 +1,46 @@
+-- Spots: where the words of voxels stand. In a store a spot is the number of a brick times 512, and an index in the brick.
+use Rattle.std.specs.Prelude.{◌≡◌, ℕ, ◌+◌, ◌*◌, ◌/◌, ◌%◌, List, Some}
+use Rattle.brick_arena.specs.Slots.{HasSlot, start_in_chunk}
+use Rattle.vox_geom.specs.declared.coordinate.Coord.{Coord}
+use Rattle.vox_geom.specs.Space.{IsInSpace, coordinate_at}
+use Rattle.support_forest.specs.Directions.{Toward}
+use Rattle.support_forest.specs.Grid.{Grid, brick, brick_number, side, slot_of, word_index}
+
+-- the spot of a voxel
+unfoldable pub spot_of : ℕ → Coord → ℕ
+spot_of r c = 512 * brick_number r c + word_index c
+
+-- the voxel of a brick whose word has the index
+abbrev pub voxel_of_brick : Coord → ℕ → Coord
+voxel_of_brick brick index =
+    record { x = 8 * brick.x + index / 64; y = 8 * brick.y + index / 8 % 8; z = 8 * brick.z + index % 8 }
+
+-- the voxel at a spot, where so many bricks lie along an axis
+unfoldable pub voxel_at : ℕ → ℕ → Coord
+voxel_at side spot = voxel_of_brick (coordinate_at side (spot / 512)) (spot % 512)
+
+-- the voxel at a spot of the store
+abbrev pub voxel_in : Grid → ℕ → Coord
+voxel_in g spot = voxel_at (side g.resolution) spot
+
+-- the spot's voxel lies in space, and the chunk has the words of the slot of its brick: its own at that place
+pub record IsReadAt (g : Grid) (spot own : ℕ) (words : List ℕ) (place : ℕ) : Type 0 where
+  pub within : IsInSpace g.resolution (voxel_in g spot)
+  pub slot : slot_of g (voxel_in g spot) ≡ Some own
+  pub chunk : HasSlot g.bricks own words
+  pub at : place ≡ start_in_chunk own + spot % 512
+
+-- each neighbour of the spot's voxel in the direction that lies in a brick of the table is at that spot
+abbrev pub IsSpotNext : ℕ → ℕ → ℕ → ℕ → Type 0
+IsSpotNext bricks spot d next =
+    (q : Coord) → Toward d (voxel_at bricks spot) q → IsInSpace bricks (brick q) → voxel_at bricks next ≡ q
+
+-- a neighbour of the spot's voxel in the direction lies in a brick of the table
+pub record IsBrickBeside (bricks spot d : ℕ) : Type 0 where
+  pub there : Coord
+  pub toward : Toward d (voxel_at bricks spot) there
+  pub within : IsInSpace bricks (brick there)
+
+-- the neighbours of the voxel in the direction lie in its brick
+abbrev pub StaysInBrick : Coord → ℕ → Type 0
+StaysInBrick c d = (q : Coord) → Toward d c q → brick q ≡ brick c
