@@ -7,7 +7,7 @@ use Rattle.vox_geom.proofs.Tests.{less_by_test, not_less_by_test}
 use Rattle.support_forest.specs.Directions.{Toward}
 use Rattle.support_forest.specs.Grid.{brick, word_index}
 use Rattle.support_forest.specs.Placing.{EndsBrick}
-use Rattle.support_forest.specs.Spots.{IsBrickBeside, StaysInBrick, voxel_at}
+use Rattle.support_forest.specs.Spots.{IsBrickBeside, StaysInBrick, voxel_of}
 use Rattle.support_forest.proofs.Across.{ends_far, ends_left, ends_near, ends_over, ends_right, ends_under, row_before, row_behind, row_fits, wall_before, wall_behind, wall_fits}
 use Rattle.support_forest.proofs.Sides.{sums}
 use Rattle.support_forest.proofs.Voxels.{digit_x, digit_y, digit_z, index_at, place_at, voxel_is}
@@ -29,9 +29,9 @@ same_place s a b c x y z n e f g h =
 -- ---- the last voxel of a brick
 
 pub ends_or_stays_left : (s p d : ℕ) → d ≡ 1
-    → MatchBool (nat_lt (p % 512) 64) (EndsBrick (voxel_at s p) d) (StaysInBrick (voxel_at s p) d)
+    → MatchBool (nat_lt (p % 512) 64) (EndsBrick (voxel_of s p) d) (StaysInBrick (voxel_of s p) d)
 ends_or_stays_left s p d e =
-    let c = voxel_at s p in
+    let c = voxel_of s p in
     let digit = digit_x s p in
     by_test (nat_lt (p % 512) 64)
     (λ h. let last = less_by_test (p % 512) 64 h in ends_left c d e (omega arith))
@@ -41,9 +41,9 @@ ends_or_stays_left s p d e =
     one_brick q c (omega arith) (omega arith) (omega arith))
 
 pub ends_or_stays_right : (s p d : ℕ) → d ≡ 2
-    → MatchBool (leb 448 (p % 512)) (EndsBrick (voxel_at s p) d) (StaysInBrick (voxel_at s p) d)
+    → MatchBool (leb 448 (p % 512)) (EndsBrick (voxel_of s p) d) (StaysInBrick (voxel_of s p) d)
 ends_or_stays_right s p d e =
-    let c = voxel_at s p in
+    let c = voxel_of s p in
     let digit = digit_x s p in
     by_test (leb 448 (p % 512))
     (λ h. let last = leb-true 448 (p % 512) h in ends_right c d e (omega arith))
@@ -53,9 +53,9 @@ ends_or_stays_right s p d e =
     one_brick q c (omega arith) (omega arith) (omega arith))
 
 pub ends_or_stays_under : (s p d : ℕ) → d ≡ 3
-    → MatchBool (nat_lt (p % 64) 8) (EndsBrick (voxel_at s p) d) (StaysInBrick (voxel_at s p) d)
+    → MatchBool (nat_lt (p % 64) 8) (EndsBrick (voxel_of s p) d) (StaysInBrick (voxel_of s p) d)
 ends_or_stays_under s p d e =
-    let c = voxel_at s p in
+    let c = voxel_of s p in
     let digit = digit_y s p in
     by_test (nat_lt (p % 64) 8)
     (λ h. let last = less_by_test (p % 64) 8 h in ends_under c d e (omega arith))
@@ -65,9 +65,9 @@ ends_or_stays_under s p d e =
     one_brick q c (omega arith) (omega arith) (omega arith))
 
 pub ends_or_stays_over : (s p d : ℕ) → d ≡ 4
-    → MatchBool (leb 56 (p % 64)) (EndsBrick (voxel_at s p) d) (StaysInBrick (voxel_at s p) d)
+    → MatchBool (leb 56 (p % 64)) (EndsBrick (voxel_of s p) d) (StaysInBrick (voxel_of s p) d)
 ends_or_stays_over s p d e =
-    let c = voxel_at s p in
+    let c = voxel_of s p in
     let digit = digit_y s p in
     by_test (leb 56 (p % 64))
     (λ h. let last = leb-true 56 (p % 64) h in ends_over c d e (omega arith))
@@ -77,9 +77,9 @@ ends_or_stays_over s p d e =
     one_brick q c (omega arith) (omega arith) (omega arith))
 
 pub ends_or_stays_near : (s p d : ℕ) → d ≡ 5
-    → MatchBool (nat_lt (p % 8) 1) (EndsBrick (voxel_at s p) d) (StaysInBrick (voxel_at s p) d)
+    → MatchBool (nat_lt (p % 8) 1) (EndsBrick (voxel_of s p) d) (StaysInBrick (voxel_of s p) d)
 ends_or_stays_near s p d e =
-    let c = voxel_at s p in
+    let c = voxel_of s p in
     let digit = digit_z s p in
     by_test (nat_lt (p % 8) 1)
     (λ h. let last = less_by_test (p % 8) 1 h in ends_near c d e (omega arith))
@@ -89,9 +89,9 @@ ends_or_stays_near s p d e =
     one_brick q c (omega arith) (omega arith) (omega arith))
 
 pub ends_or_stays_far : (s p d : ℕ) → d ≡ 6
-    → MatchBool (leb 7 (p % 8)) (EndsBrick (voxel_at s p) d) (StaysInBrick (voxel_at s p) d)
+    → MatchBool (leb 7 (p % 8)) (EndsBrick (voxel_of s p) d) (StaysInBrick (voxel_of s p) d)
 ends_or_stays_far s p d e =
-    let c = voxel_at s p in
+    let c = voxel_of s p in
     let digit = digit_z s p in
     by_test (leb 7 (p % 8))
     (λ h. let last = leb-true 7 (p % 8) h in ends_far c d e (omega arith))
@@ -104,7 +104,7 @@ ends_or_stays_far s p d e =
 
 pub fits_left : (s p d wall : ℕ) → d ≡ 1 → wall ≡ s * s → IsBrickBeside s p d → p % 512 < 64 → 512 * wall ≤ p
 fits_left s p d wall e f b h =
-    let c = voxel_at s p in
+    let c = voxel_of s p in
     let digit = digit_x s p in
     let moved = sums 1 c b.there (subst (λ (k : ℕ). Toward k c b.there) e b.toward) in
     let fits = wall_fits s (c.x / 8) (c.y / 8) (c.z / 8) (p / 512) (omega arith) (sym (place_at s p)) in
@@ -112,7 +112,7 @@ fits_left s p d wall e f b h =
 
 pub fits_under : (s p d : ℕ) → d ≡ 3 → IsBrickBeside s p d → p % 64 < 8 → 512 * s ≤ p
 fits_under s p d e b h =
-    let c = voxel_at s p in
+    let c = voxel_of s p in
     let digit = digit_y s p in
     let moved = sums 3 c b.there (subst (λ (k : ℕ). Toward k c b.there) e b.toward) in
     let fits = row_fits s (c.x / 8) (c.y / 8) (c.z / 8) (p / 512) (omega arith) (sym (place_at s p)) in
@@ -120,7 +120,7 @@ fits_under s p d e b h =
 
 pub fits_near : (s p d : ℕ) → d ≡ 5 → IsBrickBeside s p d → p % 8 < 1 → 512 ≤ p
 fits_near s p d e b h =
-    let c = voxel_at s p in
+    let c = voxel_of s p in
     let digit = digit_z s p in
     let moved = sums 5 c b.there (subst (λ (k : ℕ). Toward k c b.there) e b.toward) in
     let number = place_at s p in
@@ -129,11 +129,11 @@ fits_near s p d e b h =
 -- ---- the spot of the neighbour
 
 pub next_left : (s p d wall next : ℕ) → d ≡ 1 → wall ≡ s * s → (64 ≤ p % 512 → next + 64 ≡ p)
-    → (p % 512 < 64 → next + 512 * wall ≡ p + 448) → (q : Coord) → Toward d (voxel_at s p) q
-    → IsInSpace s (brick q) → voxel_at s next ≡ q
+    → (p % 512 < 64 → next + 512 * wall ≡ p + 448) → (q : Coord) → Toward d (voxel_of s p) q
+    → IsInSpace s (brick q) → voxel_of s next ≡ q
 unfolding word_index
 next_left s p d wall next e f within over q t inside =
-    let c = voxel_at s p in
+    let c = voxel_of s p in
     let moved = sums 1 c q (subst (λ (k : ℕ). Toward k c q) e t) in
     let number = place_at s p in
     let index = index_at s p in
@@ -148,11 +148,11 @@ next_left s p d wall next e f within over q t inside =
     ]
 
 pub next_right : (s p d wall next : ℕ) → d ≡ 2 → wall ≡ s * s → (p % 512 < 448 → next ≡ p + 64)
-    → (448 ≤ p % 512 → next + 448 ≡ p + 512 * wall) → (q : Coord) → Toward d (voxel_at s p) q
-    → IsInSpace s (brick q) → voxel_at s next ≡ q
+    → (448 ≤ p % 512 → next + 448 ≡ p + 512 * wall) → (q : Coord) → Toward d (voxel_of s p) q
+    → IsInSpace s (brick q) → voxel_of s next ≡ q
 unfolding word_index
 next_right s p d wall next e f within over q t inside =
-    let c = voxel_at s p in
+    let c = voxel_of s p in
     let moved = sums 2 c q (subst (λ (k : ℕ). Toward k c q) e t) in
     let number = place_at s p in
     let index = index_at s p in
@@ -167,11 +167,11 @@ next_right s p d wall next e f within over q t inside =
     ]
 
 pub next_under : (s p d next : ℕ) → d ≡ 3 → (8 ≤ p % 64 → next + 8 ≡ p)
-    → (p % 64 < 8 → next + 512 * s ≡ p + 56) → (q : Coord) → Toward d (voxel_at s p) q
-    → IsInSpace s (brick q) → voxel_at s next ≡ q
+    → (p % 64 < 8 → next + 512 * s ≡ p + 56) → (q : Coord) → Toward d (voxel_of s p) q
+    → IsInSpace s (brick q) → voxel_of s next ≡ q
 unfolding word_index
 next_under s p d next e within over q t inside =
-    let c = voxel_at s p in
+    let c = voxel_of s p in
     let moved = sums 3 c q (subst (λ (k : ℕ). Toward k c q) e t) in
     let number = place_at s p in
     let index = index_at s p in
@@ -186,11 +186,11 @@ next_under s p d next e within over q t inside =
     ]
 
 pub next_over : (s p d next : ℕ) → d ≡ 4 → (p % 64 < 56 → next ≡ p + 8)
-    → (56 ≤ p % 64 → next + 56 ≡ p + 512 * s) → (q : Coord) → Toward d (voxel_at s p) q
-    → IsInSpace s (brick q) → voxel_at s next ≡ q
+    → (56 ≤ p % 64 → next + 56 ≡ p + 512 * s) → (q : Coord) → Toward d (voxel_of s p) q
+    → IsInSpace s (brick q) → voxel_of s next ≡ q
 unfolding word_index
 next_over s p d next e within over q t inside =
-    let c = voxel_at s p in
+    let c = voxel_of s p in
     let moved = sums 4 c q (subst (λ (k : ℕ). Toward k c q) e t) in
     let number = place_at s p in
     let index = index_at s p in
@@ -205,11 +205,11 @@ next_over s p d next e within over q t inside =
     ]
 
 pub next_near : (s p d next : ℕ) → d ≡ 5 → (1 ≤ p % 8 → next + 1 ≡ p)
-    → (p % 8 < 1 → next + 512 ≡ p + 7) → (q : Coord) → Toward d (voxel_at s p) q
-    → IsInSpace s (brick q) → voxel_at s next ≡ q
+    → (p % 8 < 1 → next + 512 ≡ p + 7) → (q : Coord) → Toward d (voxel_of s p) q
+    → IsInSpace s (brick q) → voxel_of s next ≡ q
 unfolding word_index
 next_near s p d next e within over q t inside =
-    let c = voxel_at s p in
+    let c = voxel_of s p in
     let moved = sums 5 c q (subst (λ (k : ℕ). Toward k c q) e t) in
     let number = place_at s p in
     let index = index_at s p in
@@ -224,11 +224,11 @@ next_near s p d next e within over q t inside =
     ]
 
 pub next_far : (s p d next : ℕ) → d ≡ 6 → (p % 8 < 7 → next ≡ p + 1)
-    → (7 ≤ p % 8 → next + 7 ≡ p + 512) → (q : Coord) → Toward d (voxel_at s p) q
-    → IsInSpace s (brick q) → voxel_at s next ≡ q
+    → (7 ≤ p % 8 → next + 7 ≡ p + 512) → (q : Coord) → Toward d (voxel_of s p) q
+    → IsInSpace s (brick q) → voxel_of s next ≡ q
 unfolding word_index
 next_far s p d next e within over q t inside =
-    let c = voxel_at s p in
+    let c = voxel_of s p in
     let moved = sums 6 c q (subst (λ (k : ℕ). Toward k c q) e t) in
     let number = place_at s p in
     let index = index_at s p in

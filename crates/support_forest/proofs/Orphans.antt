@@ -9,9 +9,9 @@ use Rattle.support_forest.specs.Access.{LieInSpace}
 use Rattle.support_forest.specs.Directions.{Toward}
 use Rattle.support_forest.specs.Grid.{Grid, brick, side, word_at}
 use Rattle.support_forest.specs.Losing.{ListsToward}
-use Rattle.support_forest.specs.Offers.{orphan_at, orphans_at, voxels_at}
+use Rattle.support_forest.specs.Offers.{orphan_at, orphans_at, listed_voxels}
 use Rattle.support_forest.specs.Placing.{IsWordToward}
-use Rattle.support_forest.specs.Spots.{IsBrickBeside, IsSpotNext, voxel_at}
+use Rattle.support_forest.specs.Spots.{IsBrickBeside, IsSpotNext, voxel_of}
 use Rattle.support_forest.proofs.Removing.{lists_one}
 use Rattle.support_forest.proofs.Store.{brick_inside, few_bricks}
 use Rattle.support_forest.proofs.Voxels.{number_below}
@@ -35,21 +35,21 @@ pub orphan_here : (s : ℕ) (queue : List OrphanSpot) (i : ℕ) (x : OrphanSpot)
 orphan_here s queue i x l e =
     ap (λ (o : OrphanSpot). orphan_at s o) e ∙ sym (get_or-map (λ (o : OrphanSpot). orphan_at s o) queue i x (orphan_at s x) l)
 
-pub no_voxels : (s : ℕ) (spots : List ℕ) → spots ≡ [] → voxels_at s spots ≡ []
-no_voxels s spots e = ap (λ (l : List ℕ). voxels_at s l) e
+pub no_voxels : (s : ℕ) (spots : List ℕ) → spots ≡ [] → listed_voxels s spots ≡ []
+no_voxels s spots e = ap (λ (l : List ℕ). listed_voxels s l) e
 
 -- ---- the neighbour that is listed
 
 pub few_sides : (r s : ℕ) → s ≡ side r → r ≤ 400 → s ≤ 51
 few_sides r s e h = let few = few_bricks r h in omega arith
 
-pub spot_below : (r s p : ℕ) → s ≡ side r → IsInSpace r (voxel_at s p) → p / 512 < s * s * s
+pub spot_below : (r s p : ℕ) → s ≡ side r → IsInSpace r (voxel_of s p) → p / 512 < s * s * s
 spot_below r s p e h =
-    subst (λ (k : ℕ). p / 512 < k * k * k) (sym e) (number_below r p (subst (λ (k : ℕ). IsInSpace r (voxel_at k p)) e h))
+    subst (λ (k : ℕ). p / 512 < k * k * k) (sym e) (number_below r p (subst (λ (k : ℕ). IsInSpace r (voxel_of k p)) e h))
 
 -- a neighbour that is full lies in a brick of the table
-pub neighbour : (g : Grid) (s p d word : ℕ) → s ≡ side g.resolution → LieInSpace g (voxel_at s p)
-    → IsWordToward (word_at g) (voxel_at s p) d word → 0 < word → IsBrickBeside s p d
+pub neighbour : (g : Grid) (s p d word : ℕ) → s ≡ side g.resolution → LieInSpace g (voxel_of s p)
+    → IsWordToward (word_at g) (voxel_of s p) d word → 0 < word → IsBrickBeside s p d
 neighbour g s p d word e h k some =
     let there = k.some some in
     let full : 0 < word_at g there.0 = let same_word = k.each there.0 there.1 in omega arith in
@@ -60,18 +60,18 @@ neighbour g s p d word e h k some =
     }
 
 pub lists_spot : (w : Coord → ℕ) (s p above d toward word next : ℕ) (queue new : List OrphanSpot)
-    → IsWordToward w (voxel_at s p) d word → 0 < word → IsBrickBeside s p d → IsSpotNext s p d next
+    → IsWordToward w (voxel_of s p) d word → 0 < word → IsBrickBeside s p d → IsSpotNext s p d next
     → new ≡ queue ++ record { spot = next; height = above } ∷ []
-    → ListsToward w (voxel_at s p) above d toward (orphans_at s queue) (orphans_at s new)
+    → ListsToward w (voxel_of s p) above d toward (orphans_at s queue) (orphans_at s new)
 lists_spot w s p above d toward word next queue new k some b n e =
-    let next_is : voxel_at s next ≡ b.there = n b.there b.toward b.within in
-    lists_one w (voxel_at s p) (voxel_at s next) above d toward word (orphans_at s queue) (orphans_at s new) k some
-    (subst (λ (q : Coord). Toward d (voxel_at s p) q) (sym next_is) b.toward)
+    let next_is : voxel_of s next ≡ b.there = n b.there b.toward b.within in
+    lists_one w (voxel_of s p) (voxel_of s next) above d toward word (orphans_at s queue) (orphans_at s new) k some
+    (subst (λ (q : Coord). Toward d (voxel_of s p) q) (sym next_is) b.toward)
     (orphans_more s queue new (record { spot = next; height = above }) e)
 
 -- ---- where the side is that of a store
 
 pub voxels_same : (s r : ℕ) (spots list : List ℕ) → s ≡ side r → list ≡ spots
-    → voxels_at s spots ≡ voxels_at (side r) list
+    → listed_voxels s spots ≡ listed_voxels (side r) list
 voxels_same s r spots list e f =
-    ap (λ (k : ℕ). voxels_at k spots) e ∙ ap (λ (l : List ℕ). voxels_at (side r) l) (sym f)
+    ap (λ (k : ℕ). listed_voxels k spots) e ∙ ap (λ (l : List ℕ). listed_voxels (side r) l) (sym f)

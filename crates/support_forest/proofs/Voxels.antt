@@ -10,7 +10,7 @@ use Rattle.vox_geom.proofs.Places.{coordinate_at-place, place-coordinate_at}
 use Rattle.vox_geom.proofs.Tests.{test_equal, test_unequal}
 use Rattle.support_forest.specs.Grid.{Grid, IsStore, StandsIn, brick, brick_number, side, slot_at, slot_of, word_index}
 use Rattle.support_forest.specs.Placing.{IsOwnSpot}
-use Rattle.support_forest.specs.Spots.{spot_of, voxel_at, voxel_in, voxel_of_brick}
+use Rattle.support_forest.specs.Spots.{spot_of, voxel_of, voxel_in, voxel_of_brick}
 use Rattle.support_forest.proofs.Store.{brick_inside, cube_of_bricks, few_bricks, index_below}
 
 high : (b i : ℕ) → i < 8 → (8 * b + i) / 8 ≡ b
@@ -20,8 +20,8 @@ low : (b i : ℕ) → i < 8 → (8 * b + i) % 8 ≡ i
 low b i h = omega arith
 
 -- the brick of the voxel at a spot
-pub brick_at : (s p : ℕ) → brick (voxel_at s p) ≡ coordinate_at s (p / 512)
-unfolding voxel_at
+pub brick_at : (s p : ℕ) → brick (voxel_of s p) ≡ coordinate_at s (p / 512)
+unfolding voxel_of
 brick_at s p =
     let x_is = high (p / 512 / (s * s)) (p % 512 / 64) (omega arith) in
     let y_is = high (p / 512 / s % s) (p % 512 / 8 % 8) (omega arith) in
@@ -29,27 +29,27 @@ brick_at s p =
     λ j. record { x = x_is j; y = y_is j; z = z_is j }
 
 -- its digits in the brick
-pub digit_x : (s p : ℕ) → (voxel_at s p).x % 8 ≡ p % 512 / 64
-unfolding voxel_at
+pub digit_x : (s p : ℕ) → (voxel_of s p).x % 8 ≡ p % 512 / 64
+unfolding voxel_of
 digit_x s p = low (p / 512 / (s * s)) (p % 512 / 64) (omega arith)
 
-pub digit_y : (s p : ℕ) → (voxel_at s p).y % 8 ≡ p % 512 / 8 % 8
-unfolding voxel_at
+pub digit_y : (s p : ℕ) → (voxel_of s p).y % 8 ≡ p % 512 / 8 % 8
+unfolding voxel_of
 digit_y s p = low (p / 512 / s % s) (p % 512 / 8 % 8) (omega arith)
 
-pub digit_z : (s p : ℕ) → (voxel_at s p).z % 8 ≡ p % 512 % 8
-unfolding voxel_at
+pub digit_z : (s p : ℕ) → (voxel_of s p).z % 8 ≡ p % 512 % 8
+unfolding voxel_of
 digit_z s p = low (p / 512 % s) (p % 512 % 8) (omega arith)
 
 -- a spot is a number of a brick and an index
-pub place_at : (s p : ℕ) → place s (brick (voxel_at s p)) ≡ p / 512
+pub place_at : (s p : ℕ) → place s (brick (voxel_of s p)) ≡ p / 512
 place_at s p = ap (place s) (brick_at s p) ∙ place-coordinate_at s (p / 512)
 
-pub number_at : (r p : ℕ) → brick_number r (voxel_at (side r) p) ≡ p / 512
+pub number_at : (r p : ℕ) → brick_number r (voxel_of (side r) p) ≡ p / 512
 unfolding brick_number
 number_at r p = place_at (side r) p
 
-pub index_at : (s p : ℕ) → word_index (voxel_at s p) ≡ p % 512
+pub index_at : (s p : ℕ) → word_index (voxel_of s p) ≡ p % 512
 unfolding word_index
 index_at s p =
     let x_is = digit_x s p in
@@ -67,37 +67,37 @@ of_brick c =
 
 -- the voxel at a voxel's spot, and at any that has its brick and its index
 pub voxel_is : (s p : ℕ) (c : Coord) → IsInSpace s (brick c) → place s (brick c) ≡ p / 512 → word_index c ≡ p % 512
-    → voxel_at s p ≡ c
-unfolding voxel_at
+    → voxel_of s p ≡ c
+unfolding voxel_of
 voxel_is s p c h n i =
     ap (λ (k : ℕ). voxel_of_brick (coordinate_at s k) (p % 512)) (sym n)
     ∙ (ap (λ (b : Coord). voxel_of_brick b (p % 512)) (coordinate_at-place s (brick c) h)
     ∙ (ap (voxel_of_brick (brick c)) (sym i) ∙ of_brick c))
 
 pub voxel_there : (r p : ℕ) (c : Coord) → IsInSpace (side r) (brick c) → brick_number r c ≡ p / 512
-    → word_index c ≡ p % 512 → voxel_at (side r) p ≡ c
+    → word_index c ≡ p % 512 → voxel_of (side r) p ≡ c
 unfolding brick_number
 voxel_there r p c h n i = voxel_is (side r) p c h n i
 
-pub voxel_at_spot : (r : ℕ) (c : Coord) → IsInSpace (side r) (brick c) → voxel_at (side r) (spot_of r c) ≡ c
+pub voxel_at_spot : (r : ℕ) (c : Coord) → IsInSpace (side r) (brick c) → voxel_of (side r) (spot_of r c) ≡ c
 unfolding spot_of
 voxel_at_spot r c h =
     let below = index_below c in
     voxel_there r (512 * brick_number r c + word_index c) c h (omega arith) (omega arith)
 
 -- the voxel at a spot stands there
-pub stands_there : (r p : ℕ) → IsInSpace (side r) (brick (voxel_at (side r) p))
-    → StandsIn r (p / 512) (p % 512) (voxel_at (side r) p)
+pub stands_there : (r p : ℕ) → IsInSpace (side r) (brick (voxel_of (side r) p))
+    → StandsIn r (p / 512) (p % 512) (voxel_of (side r) p)
 stands_there r p h = record { within = h; in_brick = number_at r p; at_index = index_at (side r) p }
 
-pub own_spot : (r p : ℕ) → IsInSpace r (voxel_at (side r) p) → IsOwnSpot r (voxel_at (side r) p) (p / 512) (p % 512)
+pub own_spot : (r p : ℕ) → IsInSpace r (voxel_of (side r) p) → IsOwnSpot r (voxel_of (side r) p) (p / 512) (p % 512)
 own_spot r p h = record { within = h; in_brick = sym (number_at r p); at_index = sym (index_at (side r) p) }
 
 -- the number of a brick in the table
-pub number_below : (r p : ℕ) → IsInSpace r (voxel_at (side r) p) → p / 512 < side r * side r * side r
+pub number_below : (r p : ℕ) → IsInSpace r (voxel_of (side r) p) → p / 512 < side r * side r * side r
 unfolding brick_number
 number_below r p h =
-    let below = place_below (side r) (brick (voxel_at (side r) p)) (brick_inside r (voxel_at (side r) p) h) in
+    let below = place_below (side r) (brick (voxel_of (side r) p)) (brick_inside r (voxel_of (side r) p) h) in
     let number_is = number_at r p in
     omega arith
 
@@ -109,7 +109,7 @@ few_numbers r c few h =
     let cube = cube_of_bricks (side r) (few_bricks r few) in
     omega arith
 
-pub spot_small : (r p : ℕ) → r ≤ 400 → IsInSpace r (voxel_at (side r) p) → p < 67917312
+pub spot_small : (r p : ℕ) → r ≤ 400 → IsInSpace r (voxel_of (side r) p) → p < 67917312
 spot_small r p few h =
     let below = number_below r p h in
     let cube = cube_of_bricks (side r) (few_bricks r few) in
@@ -131,13 +131,13 @@ pub some_side : (r : ℕ) → 0 < side r
 unfolding side
 some_side r = omega arith
 
-pub floor_there : (s p : ℕ) → p / 8 % 8 ≡ 0 → (p / 512 / s % s == 0) ≡ ((voxel_at s p).y == 0)
-unfolding voxel_at
+pub floor_there : (s p : ℕ) → p / 8 % 8 ≡ 0 → (p / 512 / s % s == 0) ≡ ((voxel_of s p).y == 0)
+unfolding voxel_of
 floor_there s p e = elim (cases_eq (p / 512 / s % s) 0) [
   | inl f ↦ test_equal (p / 512 / s % s) 0 f ∙ sym (test_equal (8 * (p / 512 / s % s) + p % 512 / 8 % 8) 0 (omega arith))
   | inr n ↦ test_unequal (p / 512 / s % s) 0 n ∙ sym (test_unequal (8 * (p / 512 / s % s) + p % 512 / 8 % 8) 0 (λ k. n (omega arith)))
 ]
 
-pub raised_there : (s p : ℕ) → (p / 8 % 8 ≡ 0 → ⊥) → (p / 8 % 8 == 0) ≡ ((voxel_at s p).y == 0)
-unfolding voxel_at
+pub raised_there : (s p : ℕ) → (p / 8 % 8 ≡ 0 → ⊥) → (p / 8 % 8 == 0) ≡ ((voxel_of s p).y == 0)
+unfolding voxel_of
 raised_there s p n = test_unequal (p / 8 % 8) 0 n ∙ sym (test_unequal (8 * (p / 512 / s % s) + p % 512 / 8 % 8) 0 (λ k. n (omega arith)))

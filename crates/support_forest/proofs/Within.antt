@@ -5,7 +5,7 @@ use Rattle.vox_geom.specs.Space.{IsInSpace}
 use Rattle.brick_arena.specs.Slots.{start_in_chunk}
 use Rattle.support_forest.specs.Grid.{Grid, IsStore, StandsIn, side, word_at}
 use Rattle.support_forest.specs.Placing.{EndsBrick, IsPlaceToward, IsWordToward}
-use Rattle.support_forest.specs.Spots.{IsReadAt, voxel_at, voxel_in}
+use Rattle.support_forest.specs.Spots.{IsReadAt, voxel_of, voxel_in}
 use Rattle.support_forest.proofs.Across.{ends_far, ends_left, ends_near, ends_over, ends_right, ends_under}
 use Rattle.support_forest.proofs.Nearby.{index_far, index_left, index_near, index_over, index_right, index_under, stands_beside}
 use Rattle.support_forest.proofs.Sides.{one_toward}
@@ -15,61 +15,61 @@ use Rattle.support_forest.proofs.Writes.{reads_index}
 
 -- ---- the last of its brick
 
-pub last_left : (s p d : ℕ) → d ≡ 1 → p % 512 < 64 → EndsBrick (voxel_at s p) d
-last_left s p d e h = let digit = digit_x s p in ends_left (voxel_at s p) d e (omega arith)
+pub last_left : (s p d : ℕ) → d ≡ 1 → p % 512 < 64 → EndsBrick (voxel_of s p) d
+last_left s p d e h = let digit = digit_x s p in ends_left (voxel_of s p) d e (omega arith)
 
-pub last_right : (s p d : ℕ) → d ≡ 2 → 448 ≤ p % 512 → EndsBrick (voxel_at s p) d
-last_right s p d e h = let digit = digit_x s p in ends_right (voxel_at s p) d e (omega arith)
+pub last_right : (s p d : ℕ) → d ≡ 2 → 448 ≤ p % 512 → EndsBrick (voxel_of s p) d
+last_right s p d e h = let digit = digit_x s p in ends_right (voxel_of s p) d e (omega arith)
 
-pub last_under : (s p d : ℕ) → d ≡ 3 → p % 64 < 8 → EndsBrick (voxel_at s p) d
-last_under s p d e h = let digit = digit_y s p in ends_under (voxel_at s p) d e (omega arith)
+pub last_under : (s p d : ℕ) → d ≡ 3 → p % 64 < 8 → EndsBrick (voxel_of s p) d
+last_under s p d e h = let digit = digit_y s p in ends_under (voxel_of s p) d e (omega arith)
 
-pub last_over : (s p d : ℕ) → d ≡ 4 → 56 ≤ p % 64 → EndsBrick (voxel_at s p) d
-last_over s p d e h = let digit = digit_y s p in ends_over (voxel_at s p) d e (omega arith)
+pub last_over : (s p d : ℕ) → d ≡ 4 → 56 ≤ p % 64 → EndsBrick (voxel_of s p) d
+last_over s p d e h = let digit = digit_y s p in ends_over (voxel_of s p) d e (omega arith)
 
-pub last_near : (s p d : ℕ) → d ≡ 5 → p % 8 < 1 → EndsBrick (voxel_at s p) d
-last_near s p d e h = let digit = digit_z s p in ends_near (voxel_at s p) d e (omega arith)
+pub last_near : (s p d : ℕ) → d ≡ 5 → p % 8 < 1 → EndsBrick (voxel_of s p) d
+last_near s p d e h = let digit = digit_z s p in ends_near (voxel_of s p) d e (omega arith)
 
-pub last_far : (s p d : ℕ) → d ≡ 6 → 7 ≤ p % 8 → EndsBrick (voxel_at s p) d
-last_far s p d e h = let digit = digit_z s p in ends_far (voxel_at s p) d e (omega arith)
+pub last_far : (s p d : ℕ) → d ≡ 6 → 7 ≤ p % 8 → EndsBrick (voxel_of s p) d
+last_far s p d e h = let digit = digit_z s p in ends_far (voxel_of s p) d e (omega arith)
 
 -- ---- the place of the neighbour's word
 
 pub place_left : (s p d at place : ℕ) → d ≡ 1 → p % 512 ≤ at → 64 ≤ p % 512 → place + 64 ≡ at
-    → IsPlaceToward (voxel_at s p) d (p % 512) at place
+    → IsPlaceToward (voxel_of s p) d (p % 512) at place
 place_left s p d at place e own inner is =
     let digit = digit_x s p in
-    record { index = p % 512 - 64; toward = index_left (voxel_at s p) d (p % 512) (p % 512 - 64) e (sym (index_at s p)) (omega arith) (omega arith); moved = omega arith }
+    record { index = p % 512 - 64; toward = index_left (voxel_of s p) d (p % 512) (p % 512 - 64) e (sym (index_at s p)) (omega arith) (omega arith); moved = omega arith }
 
 pub place_right : (s p d at place : ℕ) → d ≡ 2 → p % 512 < 448 → place ≡ at + 64
-    → IsPlaceToward (voxel_at s p) d (p % 512) at place
+    → IsPlaceToward (voxel_of s p) d (p % 512) at place
 place_right s p d at place e inner is =
     let digit = digit_x s p in
-    record { index = p % 512 + 64; toward = index_right (voxel_at s p) d (p % 512) (p % 512 + 64) e (sym (index_at s p)) (omega arith) (omega arith); moved = omega arith }
+    record { index = p % 512 + 64; toward = index_right (voxel_of s p) d (p % 512) (p % 512 + 64) e (sym (index_at s p)) (omega arith) (omega arith); moved = omega arith }
 
 pub place_under : (s p d at place : ℕ) → d ≡ 3 → p % 512 ≤ at → 8 ≤ p % 64 → place + 8 ≡ at
-    → IsPlaceToward (voxel_at s p) d (p % 512) at place
+    → IsPlaceToward (voxel_of s p) d (p % 512) at place
 place_under s p d at place e own inner is =
     let digit = digit_y s p in
-    record { index = p % 512 - 8; toward = index_under (voxel_at s p) d (p % 512) (p % 512 - 8) e (sym (index_at s p)) (omega arith) (omega arith); moved = omega arith }
+    record { index = p % 512 - 8; toward = index_under (voxel_of s p) d (p % 512) (p % 512 - 8) e (sym (index_at s p)) (omega arith) (omega arith); moved = omega arith }
 
 pub place_over : (s p d at place : ℕ) → d ≡ 4 → p % 64 < 56 → place ≡ at + 8
-    → IsPlaceToward (voxel_at s p) d (p % 512) at place
+    → IsPlaceToward (voxel_of s p) d (p % 512) at place
 place_over s p d at place e inner is =
     let digit = digit_y s p in
-    record { index = p % 512 + 8; toward = index_over (voxel_at s p) d (p % 512) (p % 512 + 8) e (sym (index_at s p)) (omega arith) (omega arith); moved = omega arith }
+    record { index = p % 512 + 8; toward = index_over (voxel_of s p) d (p % 512) (p % 512 + 8) e (sym (index_at s p)) (omega arith) (omega arith); moved = omega arith }
 
 pub place_near : (s p d at place : ℕ) → d ≡ 5 → p % 512 ≤ at → 1 ≤ p % 8 → place + 1 ≡ at
-    → IsPlaceToward (voxel_at s p) d (p % 512) at place
+    → IsPlaceToward (voxel_of s p) d (p % 512) at place
 place_near s p d at place e own inner is =
     let digit = digit_z s p in
-    record { index = p % 512 - 1; toward = index_near (voxel_at s p) d (p % 512) (p % 512 - 1) e (sym (index_at s p)) (omega arith) (omega arith); moved = omega arith }
+    record { index = p % 512 - 1; toward = index_near (voxel_of s p) d (p % 512) (p % 512 - 1) e (sym (index_at s p)) (omega arith) (omega arith); moved = omega arith }
 
 pub place_far : (s p d at place : ℕ) → d ≡ 6 → p % 8 < 7 → place ≡ at + 1
-    → IsPlaceToward (voxel_at s p) d (p % 512) at place
+    → IsPlaceToward (voxel_of s p) d (p % 512) at place
 place_far s p d at place e inner is =
     let digit = digit_z s p in
-    record { index = p % 512 + 1; toward = index_far (voxel_at s p) d (p % 512) (p % 512 + 1) e (sym (index_at s p)) (omega arith) (omega arith); moved = omega arith }
+    record { index = p % 512 + 1; toward = index_far (voxel_of s p) d (p % 512) (p % 512 + 1) e (sym (index_at s p)) (omega arith) (omega arith); moved = omega arith }
 
 -- ---- the word there
 

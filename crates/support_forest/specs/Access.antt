@@ -17,7 +17,7 @@ pub record LieInBrick (g : Grid) (c : Coord) (own : ℕ) : Type 0 where
   pub space : (q : Coord) → 0 < word_at g q → IsInSpace g.resolution q
 
 -- the voxel lies in space, and its word is that at an index of the slot of its brick
-pub record IsWordOf (g : Grid) (own at word : ℕ) (c : Coord) : Type 0 where
+pub record IsWordIn (g : Grid) (own at word : ℕ) (c : Coord) : Type 0 where
   pub within : IsInSpace g.resolution c
   pub slot : slot_of g c ≡ Some own
   pub index : at ≡ word_index c

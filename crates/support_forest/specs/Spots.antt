@@ -16,12 +16,12 @@ voxel_of_brick brick index =
     record { x = 8 * brick.x + index / 64; y = 8 * brick.y + index / 8 % 8; z = 8 * brick.z + index % 8 }
 
 -- the voxel at a spot, where so many bricks lie along an axis
-unfoldable pub voxel_at : ℕ → ℕ → Coord
-voxel_at side spot = voxel_of_brick (coordinate_at side (spot / 512)) (spot % 512)
+unfoldable pub voxel_of : ℕ → ℕ → Coord
+voxel_of side spot = voxel_of_brick (coordinate_at side (spot / 512)) (spot % 512)
 
 -- the voxel at a spot of the store
 abbrev pub voxel_in : Grid → ℕ → Coord
-voxel_in g spot = voxel_at (side g.resolution) spot
+voxel_in g spot = voxel_of (side g.resolution) spot
 
 -- the spot's voxel lies in space, and the chunk has the words of the slot of its brick: its own at that place
 pub record IsReadAt (g : Grid) (spot own : ℕ) (words : List ℕ) (place : ℕ) : Type 0 where
@@ -33,12 +33,12 @@ pub record IsReadAt (g : Grid) (spot own : ℕ) (words : List ℕ) (place : ℕ)
 -- each neighbour of the spot's voxel in the direction that lies in a brick of the table is at that spot
 abbrev pub IsSpotNext : ℕ → ℕ → ℕ → ℕ → Type 0
 IsSpotNext bricks spot d next =
-    (q : Coord) → Toward d (voxel_at bricks spot) q → IsInSpace bricks (brick q) → voxel_at bricks next ≡ q
+    (q : Coord) → Toward d (voxel_of bricks spot) q → IsInSpace bricks (brick q) → voxel_of bricks next ≡ q
 
 -- a neighbour of the spot's voxel in the direction lies in a brick of the table
 pub record IsBrickBeside (bricks spot d : ℕ) : Type 0 where
   pub there : Coord
-  pub toward : Toward d (voxel_at bricks spot) there
+  pub toward : Toward d (voxel_of bricks spot) there
   pub within : IsInSpace bricks (brick there)
 
 -- the neighbours of the voxel in the direction lie in its brick

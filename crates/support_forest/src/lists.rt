@@ -1,5 +1,5 @@
 //! The lists that calls fill and empty.
-use crate::offer::Offer;
+use crate::offer::SpotOffer;
 use crate::orphan::OrphanSpot;
 use crate::queues::Queue;
 use std::alloc::Global;
@@ -12,7 +12,7 @@ pub struct Lists {
     pub orphans: Vec<OrphanSpot>,
     pub fresh: Vec<u32>,
     pub rest: Vec<Coord>,
-    pub seeds: Vec<Offer>,
+    pub seeds: Vec<SpotOffer>,
     pub found: Queue,
 }
 
@@ -58,7 +58,7 @@ impl Lists {
     }
 
     /// Takes the list of seeds out, emptied.
-    pub fn take_seeds(&mut self, alloc: Global) -> Vec<Offer>
+    pub fn take_seeds(&mut self, alloc: Global) -> Vec<SpotOffer>
         ensures { result.items ≡ [] }
     {
         let mut seeds = mem::replace(&mut self.seeds, Vec::new(alloc));

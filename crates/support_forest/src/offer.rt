@@ -2,7 +2,7 @@
 
 /// A height that is offered to the voxel at a spot, and the direction of the parent that offers it.
 #[derive(Clone, Copy)]
-pub struct Offer {
+pub struct SpotOffer {
     pub spot: u32,
     pub height: u32,
     pub toward: u8,
@@ -12,7 +12,7 @@ pub struct Offer {
 #[derive(Clone, Copy)]
 pub enum NextOffer {
     /// An offer.
-    Seed(Offer),
+    Seed(SpotOffer),
     /// An offer whose voxel was written: its neighbours are to be offered the next height.
-    Found(Offer),
+    Found(SpotOffer),
 }

@@ -1,7 +1,7 @@
 //! Offers that are taken in the order in which they came.
 ghost use Rattle.std.specs.Prelude.{◌≡◌, ◌<◌, [], length};
 
-use crate::offer::Offer;
+use crate::offer::SpotOffer;
 use std::alloc::{AllocError, Global};
 use std::marker::Model;
 use std::mem;
@@ -9,15 +9,15 @@ use std::mem;
 /// A list whose offers are taken from the first on. What was taken stays in memory until the list is filled anew.
 #[derive(Drop)]
 pub struct Line {
-    items: Vec<Offer>,
+    items: Vec<SpotOffer>,
     at: usize,
 }
 
 impl Model for Line {
     ghost use Rattle.std.specs.Prelude.{List, ◌≤◌, drop, length};
-    ghost use Rattle.support_forest.specs.declared.offer.Offer.{Offer};
+    ghost use Rattle.support_forest.specs.declared.offer.SpotOffer.{SpotOffer};
 
-    ghost Value = { List Offer };
+    ghost Value = { List SpotOffer };
 
     ghost view = { λ l. drop l.at l.items.items };
 
@@ -28,14 +28,14 @@ impl Line {
     ghost use Rattle.std.specs.Prelude.{◌≡◌, ◌==◌, ◌<◌, ◌∷◌, [], MatchOption, length, slice_index_or};
 
     /// The offers of a list.
-    pub fn new(items: Vec<Offer>) -> Line
+    pub fn new(items: Vec<SpotOffer>) -> Line
         ensures { result ≡ items.items }
     {
         Line { items, at: 0 }
     }
 
     /// The list, to be used again.
-    pub fn into_list(self) -> Vec<Offer> {
+    pub fn into_list(self) -> Vec<SpotOffer> {
         self.items
     }
 
@@ -49,7 +49,7 @@ impl Line {
 
     /// The first.
     #[inline(always)]
-    pub fn first(&self) -> &Offer
+    pub fn first(&self) -> &SpotOffer
         requires { 0 < length self.now }
         ensures { result.now ≡ slice_index_or self.now 0 result.now }
     {
@@ -58,7 +58,7 @@ impl Line {
 
     /// Takes the first.
     #[inline(always)]
-    pub fn pop_front(&mut self) -> Option<Offer>
+    pub fn pop_front(&mut self) -> Option<SpotOffer>
         ensures { MatchOption result ((length self.old ≡ 0) × (length self.new ≡ 0)) (λ c. self.old ≡ c ∷ self.new) }
     {
         if self.at == self.items.len() {
@@ -70,7 +70,7 @@ impl Line {
     }
 
     /// Fills it with the offers of another list. Its own list is given back, emptied.
-    pub fn refill(&mut self, items: Vec<Offer>) -> Vec<Offer>
+    pub fn refill(&mut self, items: Vec<SpotOffer>) -> Vec<SpotOffer>
         ensures filled { self.new ≡ items.items }
         ensures emptied { result.items ≡ [] }
     {
@@ -95,21 +95,21 @@ impl Line {
 pub struct Queue {
     alloc: Global,
     front: Line,
-    back: Vec<Offer>,
+    back: Vec<SpotOffer>,
 }
 
 impl Model for Queue {
     ghost use Rattle.std.specs.Prelude.{List, ◌++◌};
-    ghost use Rattle.support_forest.specs.declared.offer.Offer.{Offer};
+    ghost use Rattle.support_forest.specs.declared.offer.SpotOffer.{SpotOffer};
 
-    ghost Value = { List Offer };
+    ghost Value = { List SpotOffer };
 
     ghost view = { λ q. q.front ++ q.back.items };
 }
 
 /// The offers that came last are those to be taken.
 #[inline(never)]
-fn turn(alloc: Global, front: &mut Line, back: &mut Vec<Offer>)
+fn turn(alloc: Global, front: &mut Line, back: &mut Vec<SpotOffer>)
     ensures front { front.new ≡ back.old.items }
     ensures back { back.new.items ≡ [] }
 {
@@ -141,7 +141,7 @@ impl Queue {
 
     /// The first.
     #[inline(always)]
-    pub fn first(&self) -> &Offer
+    pub fn first(&self) -> &SpotOffer
         requires { 0 < length self.now }
         ensures { result.now ≡ slice_index_or self.now 0 result.now }
     {
@@ -153,7 +153,7 @@ impl Queue {
 
     /// Adds an offer behind the others.
     #[inline(always)]
-    pub fn push_back(&mut self, c: Offer) -> Result<(), AllocError>
+    pub fn push_back(&mut self, c: SpotOffer) -> Result<(), AllocError>
         ensures items { IfOk result (λ _. self.new ≡ self.old ++ c ∷ []) }
         ensures err { OnErr result (self.new ≡ self.old) }
     {
@@ -163,7 +163,7 @@ impl Queue {
 
     /// Takes the first.
     #[inline(always)]
-    pub fn pop_front(&mut self) -> Option<Offer>
+    pub fn pop_front(&mut self) -> Option<SpotOffer>
         ensures { MatchOption result ((length self.old ≡ 0) × (length self.new ≡ 0)) (λ c. self.old ≡ c ∷ self.new) }
     {
         if self.front.is_empty() {

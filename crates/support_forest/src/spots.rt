@@ -1,7 +1,7 @@
 //! The spots of a voxel's neighbours.
 ghost use Rattle.std.specs.Prelude.{◌≡◌, ℕ, ◌+◌, ◌*◌, ◌/◌, ◌<◌, ◌≤◌, MatchBool};
 ghost use Rattle.support_forest.specs.Placing.{EndsBrick};
-ghost use Rattle.support_forest.specs.Spots.{IsBrickBeside, IsSpotNext, StaysInBrick, voxel_at};
+ghost use Rattle.support_forest.specs.Spots.{IsBrickBeside, IsSpotNext, StaysInBrick, voxel_of};
 
 use crate::cells::BRICK_WORDS;
 
@@ -9,7 +9,7 @@ use crate::cells::BRICK_WORDS;
 #[inline(always)]
 pub fn ends_brick<const D: u8>(spot: u32) -> bool
     requires { (0 < D) × (D ≤ 6) }
-    ensures { (side : ℕ) → MatchBool result (EndsBrick (voxel_at side spot) D) (StaysInBrick (voxel_at side spot) D) }
+    ensures { (side : ℕ) → MatchBool result (EndsBrick (voxel_of side spot) D) (StaysInBrick (voxel_of side spot) D) }
 {
     match D {
         1 => spot % 512 < 64,

@@ -5,7 +5,7 @@ ghost use Rattle.vox_geom.specs.declared.coordinate.Coord.{Coord};
 ghost use Rattle.support_forest.specs.Access.{LieInSpace};
 ghost use Rattle.support_forest.specs.Grid.{StandsIn, slot_of, word_at, word_index as word_index_of};
 ghost use Rattle.support_forest.specs.Placing.{EndsBrick, IsIndexToward, IsPlaceToward, IsWordToward};
-ghost use Rattle.support_forest.specs.Spots.{IsReadAt, voxel_at, voxel_in};
+ghost use Rattle.support_forest.specs.Spots.{IsReadAt, voxel_of, voxel_in};
 
 use crate::cells::{BRICK_SIDE, BRICK_WORDS, Cells, word_index};
 use brick_arena::Chunk;
@@ -85,8 +85,8 @@ fn place_toward<const D: u8>(spot: u32, at: usize) -> Option<usize>
     requires direction { (0 < D) × (D ≤ 6) }
     requires own { spot % 512 ≤ at }
     requires fits { at < 2 ^ 31 }
-    ensures { (side : ℕ) → MatchOption result (EndsBrick (voxel_at side spot) D)
-        (IsPlaceToward (voxel_at side spot) D (spot % 512) at) }
+    ensures { (side : ℕ) → MatchOption result (EndsBrick (voxel_of side spot) D)
+        (IsPlaceToward (voxel_of side spot) D (spot % 512) at) }
 {
     match D {
         1 => place_below((spot % 512) as usize, at, 64),

@@ -3,7 +3,7 @@ use Rattle.std.proofs.lemmas.List.{get_or_default}
 use Rattle.std.proofs.lemmas.List.Elements.{Contains-get_or}
 use Rattle.vox_geom.specs.declared.coordinate.Coord.{Coord}
 use Rattle.support_forest.specs.Grid.{side}
-use Rattle.support_forest.specs.Offers.{voxels_at}
+use Rattle.support_forest.specs.Offers.{listed_voxels}
 use Rattle.support_forest.specs.Waiting.{CanResettle, HaveResettled}
 use Rattle.support_forest.proofs.Marks.{in_space_by, marked_none, marked_more, marked_low, next_void, all_marked, can_resettle, have_added, spots_more, spots_of_all}
 use Rattle.support_forest.proofs.add.add_and_settle.Goals as goal
@@ -13,7 +13,7 @@ not_false true h = refl
 not_false false h = cc
 
 pub loop-c-init : goal.loop-c-init
-loop-c-init g c = (marked_none _ _ _, ap (λ (l : List ℕ). voxels_at (side c.args.cells.now.resolution) l) c.take_fresh-fresh.ensures)
+loop-c-init g c = (marked_none _ _ _, ap (λ (l : List ℕ). listed_voxels (side c.args.cells.now.resolution) l) c.take_fresh-fresh.ensures)
 
 pub fill-requires-clause-void : goal.fill-requires-clause-void
 fill-requires-clause-void g c = next_void _ _ _ _ _ _ _ c.requires c.loop-c.invariant.0 c.loop-c-test.true (get_or_default _ _ _ _ c.loop-c-test.true)

@@ -2,7 +2,7 @@ use Rattle.std.proofs.Common.{ℕ, ◌⊎◌, ◌+◌, ◌-◌, ◌<◌, ◌/◌
 use Rattle.vox_geom.specs.Space.{IsInSpace}
 use Rattle.vox_geom.proofs.Sums.{most_cube}
 use Rattle.support_forest.specs.Grid.{word_at}
-use Rattle.support_forest.specs.Spots.{voxel_at}
+use Rattle.support_forest.specs.Spots.{voxel_of}
 use Rattle.support_forest.proofs.Nearby.{stay_after}
 use Rattle.support_forest.proofs.Offered.{lies_in_hand, next_inside, next_toward, next_word, no_higher}
 use Rattle.support_forest.proofs.Orphans.{few_sides, neighbour, spot_below}
@@ -63,7 +63,7 @@ pub returns-clause-further : goal.returns-clause-further
 returns-clause-further g c =
     let beside = neighbour c.args.cells.now c.args.side c.args.offer.spot g.row.D c.args.word c.requires.side (lies_in_hand _ _ _ _ _ c.requires.can) c.requires.word c.if-not-improves_next.ensures.0 in
     let accepted = c.in_ok-accept.ensures.accepted 0 0 (omega arith) in
-    stay_after (word_at c.args.cells.now) (word_at c.accept.new.cells) (voxel_at c.args.side c.args.offer.spot) (voxel_at c.args.side c.spot_toward-next.result) g.row.D _
+    stay_after (word_at c.args.cells.now) (word_at c.accept.new.cells) (voxel_of c.args.side c.args.offer.spot) (voxel_of c.args.side c.spot_toward-next.result) g.row.D _
     (next_toward c.args.side c.args.offer.spot g.row.D c.spot_toward-next.result beside c.spot_toward-next.ensures) accepted.written
 
 pub returns-clause-spreads : goal.returns-clause-spreads
@@ -72,7 +72,7 @@ returns-clause-spreads g c = λ old start before limit s.
     let beside = neighbour c.args.cells.now c.args.side c.args.offer.spot g.row.D c.args.word c.requires.side inside c.requires.word c.if-not-improves_next.ensures.0 in
     let toward = next_toward c.args.side c.args.offer.spot g.row.D c.spot_toward-next.result beside c.spot_toward-next.ensures in
     let here = next_inside c.args.cells.now c.args.side c.args.offer.spot g.row.D c.args.word c.spot_toward-next.result inside c.requires.word beside c.spot_toward-next.ensures c.if-not-improves_next.ensures.0 in
-    let within : IsInSpace old.resolution (voxel_at c.args.side c.spot_toward-next.result) = subst (λ (r : ℕ). IsInSpace r (voxel_at c.args.side c.spot_toward-next.result)) s.same.resolution here in
+    let within : IsInSpace old.resolution (voxel_of c.args.side c.spot_toward-next.result) = subst (λ (r : ℕ). IsInSpace r (voxel_of c.args.side c.spot_toward-next.result)) s.same.resolution here in
     let accept_touch = c.in_ok-accept.ensures.touch in
     direction_offered _ _ _ _ _ _ _ _ _ _ _ _ _ s toward (record { toward = c.opposite.ensures _ _ toward; height = refl; within = within }) (inr (c.in_ok-accept.ensures.accepted (c.args.steps.now + g.row.D - 7) (c.accept.new.steps + (g.row.D + 1) - 7) (omega arith)))
 

@@ -1,6 +1,6 @@
 use Rattle.std.proofs.Common.{◌∙◌, ap, arith}
 use Rattle.support_forest.specs.Grid.{side}
-use Rattle.support_forest.specs.Spots.{spot_of, voxel_at}
+use Rattle.support_forest.specs.Spots.{spot_of, voxel_of}
 use Rattle.support_forest.proofs.Store.{brick_inside}
 use Rattle.support_forest.proofs.Voxels.{few_numbers, voxel_at_spot}
 use Rattle.support_forest.proofs.cells.Cells.spot.Goals as goal
@@ -20,4 +20,4 @@ returns-clause-value c = omega (arith, c.brick_number.ensures.value, c.from.ensu
 
 pub returns-clause-voxel : goal.returns-clause-voxel
 unfolding spot_of
-returns-clause-voxel c = ap (voxel_at (side c.args.self.now.resolution)) (omega (arith, c.brick_number.ensures.value, c.from.ensures, c.word_index.ensures.value)) ∙ voxel_at_spot c.args.self.now.resolution c.args.at (brick_inside c.args.self.now.resolution c.args.at c.requires)
+returns-clause-voxel c = ap (voxel_of (side c.args.self.now.resolution)) (omega (arith, c.brick_number.ensures.value, c.from.ensures, c.word_index.ensures.value)) ∙ voxel_at_spot c.args.self.now.resolution c.args.at (brick_inside c.args.self.now.resolution c.args.at c.requires)
