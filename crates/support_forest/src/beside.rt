@@ -86,12 +86,12 @@ pub fn words_in<L: Ledger>(
     ensures touches { steps.new ≤ steps.old + 6 }
 {
     Beside {
-        left: word_toward::<1, false, L>(cells, spot, slot, chunk, at, steps),
-        right: word_toward::<2, false, L>(cells, spot, slot, chunk, at, steps),
-        under: word_toward::<3, false, L>(cells, spot, slot, chunk, at, steps),
-        over: word_toward::<4, false, L>(cells, spot, slot, chunk, at, steps),
-        near: word_toward::<5, false, L>(cells, spot, slot, chunk, at, steps),
-        far: word_toward::<6, false, L>(cells, spot, slot, chunk, at, steps),
+        left: word_toward::<1, L>(cells, spot, slot, chunk, at, steps),
+        right: word_toward::<2, L>(cells, spot, slot, chunk, at, steps),
+        under: word_toward::<3, L>(cells, spot, slot, chunk, at, steps),
+        over: word_toward::<4, L>(cells, spot, slot, chunk, at, steps),
+        near: word_toward::<5, L>(cells, spot, slot, chunk, at, steps),
+        far: word_toward::<6, L>(cells, spot, slot, chunk, at, steps),
     }
 }
 

@@ -7,7 +7,7 @@ ghost use Rattle.support_forest.specs.Spots.{voxel_in};
 
 use crate::beside::{Beside, place_in_chunk, words_beside, words_beyond};
 use crate::cells::Cells;
-use crate::toward::{word_over_floor, word_toward};
+use crate::toward::{word_beside, word_over_floor};
 use std::alloc::AllocError;
 use std::sync::ledger::Ledger;
 use vox_geom::{Coord, Steps};
@@ -210,28 +210,28 @@ fn stand_by<L: Ledger>(cells: &mut Cells, spot: u32, slot: u32, steps: &mut Step
     cells.recall();
     let chunk = cells.chunk(slot);
     let at = place_in_chunk(slot, spot);
-    let under = word_toward::<3, true, L>(cells, spot, slot, chunk, at, steps);
+    let under = word_beside::<3, L>(cells, spot, slot, chunk, at, steps);
     let height = under / 8;
     if height == 0 {
         return false;
     }
-    let left = word_toward::<1, true, L>(cells, spot, slot, chunk, at, steps);
+    let left = word_beside::<1, L>(cells, spot, slot, chunk, at, steps);
     if !leaves_room(left, height) {
         return false;
     }
-    let right = word_toward::<2, true, L>(cells, spot, slot, chunk, at, steps);
+    let right = word_beside::<2, L>(cells, spot, slot, chunk, at, steps);
     if !leaves_room(right, height) {
         return false;
     }
-    let over = word_toward::<4, true, L>(cells, spot, slot, chunk, at, steps);
+    let over = word_beside::<4, L>(cells, spot, slot, chunk, at, steps);
     if !leaves_room(over, height) {
         return false;
     }
-    let near = word_toward::<5, true, L>(cells, spot, slot, chunk, at, steps);
+    let near = word_beside::<5, L>(cells, spot, slot, chunk, at, steps);
     if !leaves_room(near, height) {
         return false;
     }
-    let far = word_toward::<6, true, L>(cells, spot, slot, chunk, at, steps);
+    let far = word_beside::<6, L>(cells, spot, slot, chunk, at, steps);
     if !leaves_room(far, height) {
         return false;
     }

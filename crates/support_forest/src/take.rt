@@ -7,7 +7,7 @@ ghost use Rattle.support_forest.specs.Taking.{CanTake, HangsNot, TakesOrStays, T
 
 use crate::beside::place_in_chunk;
 use crate::cells::Cells;
-use crate::toward::{word_over_floor, word_toward};
+use crate::toward::{word_beside, word_over_floor};
 use std::sync::ledger::Ledger;
 use vox_geom::{Coord, Steps};
 
@@ -29,27 +29,27 @@ fn is_parent_in<L: Ledger>(cells: &Cells, spot: u32, slot: u32, steps: &mut Step
     cells.recall();
     let chunk = cells.chunk(slot);
     let at = place_in_chunk(slot, spot);
-    let over = word_toward::<4, true, L>(cells, spot, slot, chunk, at, steps);
+    let over = word_beside::<4, L>(cells, spot, slot, chunk, at, steps);
     if hangs(over, 3) {
         return true;
     }
-    let left = word_toward::<1, true, L>(cells, spot, slot, chunk, at, steps);
+    let left = word_beside::<1, L>(cells, spot, slot, chunk, at, steps);
     if hangs(left, 2) {
         return true;
     }
-    let right = word_toward::<2, true, L>(cells, spot, slot, chunk, at, steps);
+    let right = word_beside::<2, L>(cells, spot, slot, chunk, at, steps);
     if hangs(right, 1) {
         return true;
     }
-    let under = word_toward::<3, true, L>(cells, spot, slot, chunk, at, steps);
+    let under = word_beside::<3, L>(cells, spot, slot, chunk, at, steps);
     if hangs(under, 4) {
         return true;
     }
-    let near = word_toward::<5, true, L>(cells, spot, slot, chunk, at, steps);
+    let near = word_beside::<5, L>(cells, spot, slot, chunk, at, steps);
     if hangs(near, 6) {
         return true;
     }
-    let far = word_toward::<6, true, L>(cells, spot, slot, chunk, at, steps);
+    let far = word_beside::<6, L>(cells, spot, slot, chunk, at, steps);
     hangs(far, 5)
 }
 

@@ -165,10 +165,9 @@ pub fn word_beyond<const D: u8, L: Ledger>(cells: &Cells, spot: u32, steps: &mut
 }
 
 /// The word of the neighbour in a direction, 0 where there is none. `chunk` has the words of the slot of the voxel's brick, its own
-/// `at` that place: where several words are read it is looked for once. Where `APART` the way to another brick is a call of its own,
-/// so that the way within a brick stays small; else it stands here too.
+/// `at` that place: where several words are read it is looked for once. The way to another brick stands here too.
 #[inline(always)]
-pub fn word_toward<const D: u8, const APART: bool, L: Ledger>(
+pub fn word_toward<const D: u8, L: Ledger>(
     cells: &Cells,
     spot: u32,
     slot: u32,
@@ -186,10 +185,31 @@ pub fn word_toward<const D: u8, const APART: bool, L: Ledger>(
     if let Some(i) = place_toward::<D>(spot, at) {
         return chunk.word(i, steps);
     }
-    if APART {
-        return word_apart::<D, L>(cells, spot, steps);
-    }
     word_across::<D, L>(cells, spot, steps)
+}
+
+/// [`word_toward`] with a call to another brick, so that the way within a brick stays small. A test of a constant for which of the two
+/// is wanted would leave the other one in what the compiler measures before it writes a function out.
+#[inline(always)]
+pub fn word_beside<const D: u8, L: Ledger>(
+    cells: &Cells,
+    spot: u32,
+    slot: u32,
+    chunk: &Chunk,
+    at: usize,
+    steps: &mut Steps<L>,
+) -> u32
+    requires direction { (0 < D) × (D ≤ 6) }
+    requires read { IsReadAt cells.now spot slot chunk.now at }
+    requires space { (q : Coord) → 0 < word_at cells.now q → IsInSpace cells.now.resolution q }
+    ensures word { IsWordToward (word_at cells.now) (voxel_in cells.now spot) D result }
+    ensures touch { steps.new ≤ steps.old + 1 }
+{
+    cells.recall();
+    if let Some(i) = place_toward::<D>(spot, at) {
+        return chunk.word(i, steps);
+    }
+    word_apart::<D, L>(cells, spot, steps)
 }
 
 /// The word of the voxel over one of the floor, whose brick has this slot: it lies in the same brick, or beyond space, where words
