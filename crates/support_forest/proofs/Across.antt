@@ -8,8 +8,8 @@ use Rattle.vox_geom.specs.Space.{IsInSpace, place}
 use Rattle.vox_geom.proofs.Firsts.{place_below}
 use Rattle.support_forest.specs.Directions.{lies_left, lies_right, lies_under, lies_over, lies_near, lies_far}
 use Rattle.support_forest.specs.Grid.{Grid, IsStore, StandsIn, brick, brick_number, side, slot_at, word_at, word_in, word_index}
-use Rattle.support_forest.specs.Placing.{EndsBrick, IsOwnSpot, IsSpotToward, IsWordToward, NoneToward}
-use Rattle.support_forest.specs.Spots.{voxel_in}
+use Rattle.support_forest.specs.Placing.{EndsBrick, IsOwnSpot, IsSpotAcross, IsSpotToward, IsWordToward, NoneToward, StandsBeyond}
+use Rattle.support_forest.specs.Spots.{voxel_of}
 use Rattle.support_forest.proofs.Sides.{goes, one_toward}
 use Rattle.support_forest.proofs.Voxels.{digit_x, digit_y, digit_z, own_spot}
 use Rattle.support_forest.proofs.Store.{brick_inside, cube_of_bricks}
@@ -312,75 +312,74 @@ void_word : (g : Grid) (q : Coord) (word : ℕ) → ((p : Coord) → 0 < word_at
     → (IsInSpace g.resolution q → ⊥) → word_at g q ≡ word → word ≡ 0
 void_word g q word space out e = elim (cases_lt 0 (word_at g q)) [ inl f ↦ absurd (out (space q f)) | inr f ↦ omega arith ]
 
-pub stands_same : (r n m i j : ℕ) (q : Coord) → n ≡ m → i ≡ j → StandsIn r n i q → StandsIn r m j q
-stands_same r n m i j q e f s = record { within = s.within; in_brick = s.in_brick ∙ e; at_index = s.at_index ∙ f }
+-- ---- what stands over the border
 
--- all full voxels lie in space
-abbrev pub Space : Grid → Type 0
-Space g = (q : Coord) → 0 < word_at g q → IsInSpace g.resolution q
+-- the number of its brick is in the table
+pub across_below : (r : ℕ) (c : Coord) (d next : ℕ) → IsSpotAcross r c d next
+    → next / 512 < side r * side r * side r
+across_below r c d next (inl s) = stands_below r (next / 512) (next % 512) s.there s.stands
+across_below r c d next (inr s) = stands_below r (next / 512) (next % 512) s.1.there s.1.stands
 
--- what is read at a spot
-abbrev pub ReadsAt : Grid → ℕ → ℕ → Type 0
-ReadsAt g spot word = (q : Coord) → StandsIn g.resolution (spot / 512) (spot % 512) q → word_at g q ≡ word
+-- the word there is that of the neighbour, and 0 where none lies in space
+pub word_there : (g : Grid) (c : Coord) (d next word : ℕ) → ((q : Coord) → 0 < word_at g q → IsInSpace g.resolution q)
+    → IsSpotAcross g.resolution c d next
+    → ((q : Coord) → StandsIn g.resolution (next / 512) (next % 512) q → word_at g q ≡ word)
+    → IsWordToward (word_at g) c d word
+word_there g c d next word space (inl s) value = that_word g c d (next / 512) (next % 512) word s value
+word_there g c d next word space (inr s) value =
+    no_word g c d word space s.0 (void_word g s.1.there word space s.1.out (value s.1.there s.1.stands))
 
--- what is read so many bricks before one
-pub record ReadsBefore (g : Grid) (spot bricks word : ℕ) : Type 0 where
-  pub value : (q : Coord) → bricks ≤ spot / 512 → StandsIn g.resolution (spot / 512 - bricks) (spot % 512) q
-      → word_at g q ≡ word
-  pub none : spot / 512 < bricks → word ≡ 0
-
-pub word_left : (g : Grid) (p t word : ℕ) → t ≡ side g.resolution * side g.resolution
-    → IsInSpace g.resolution (voxel_in g p) → (voxel_in g p).x % 8 ≡ 0 → Space g → ReadsBefore g (p + 448) t word
-    → IsWordToward (word_at g) (voxel_in g p) 1 word
+pub across_left : (r p t next : ℕ) → t ≡ side r * side r → IsInSpace r (voxel_of (side r) p)
+    → (voxel_of (side r) p).x % 8 ≡ 0 → next + 512 * t ≡ p + 448 → IsSpotAcross r (voxel_of (side r) p) 1 next
 unfolding brick_number
-word_left g p t word e within last space read =
-    let c = voxel_in g p in
-    let own = own_spot g.resolution p within in
-    let digit : p % 512 / 64 ≡ 0 = sym (digit_x (side g.resolution) p) ∙ last in
-    let bricks = brick_inside g.resolution c within in
+across_left r p t next e within last is =
+    let c = voxel_of (side r) p in
+    let own = own_spot r p within in
+    let digit : p % 512 / 64 ≡ 0 = sym (digit_x (side r) p) ∙ last in
+    let bricks = brick_inside r c within in
     elim (cases_lt 0 c.x) [
-      | inl some ↦
-          let before = wall_before_own g.resolution c (p / 512) (p % 512) own last some in
-          that_word g c 1 ((p + 448) / 512 - t) ((p + 448) % 512) word
-          (spot_left g.resolution c 1 (p / 512) (p % 512) ((p + 448) / 512 - t) ((p + 448) % 512) own refl last some (omega arith) (omega arith)) (λ q s. read.value q (omega arith) s)
-      | inr none ↦
-          let below = first_wall (side g.resolution) (c.x / 8) (c.y / 8) (c.z / 8) (p / 512) (omega arith) bricks.y bricks.z own.in_brick in
-          no_word g c 1 word space (none_left g.resolution c 1 refl (omega arith)) (read.none (omega arith))
+      | inl some ↦ inl (spot_left r c 1 (p / 512) (p % 512) (next / 512) (next % 512) own refl last some (omega arith) (omega arith))
+      | inr none ↦ let below = first_wall (side r) (c.x / 8) (c.y / 8) (c.z / 8) (p / 512) (omega arith) bricks.y bricks.z own.in_brick in absurd (omega arith)
     ]
 
-pub word_right : (g : Grid) (p t word : ℕ) → t ≡ side g.resolution * side g.resolution
-    → IsInSpace g.resolution (voxel_in g p) → (voxel_in g p).x % 8 ≡ 7 → ReadsAt g (p - 448 + 512 * t) word
-    → IsWordToward (word_at g) (voxel_in g p) 2 word
-word_right g p t word e within last read =
-    let own = own_spot g.resolution p within in
-    let digit : p % 512 / 64 ≡ 7 = sym (digit_x (side g.resolution) p) ∙ last in
-    that_word g (voxel_in g p) 2 ((p - 448 + 512 * t) / 512) ((p - 448 + 512 * t) % 512) word
-    (spot_right g.resolution (voxel_in g p) 2 (p / 512) (p % 512) ((p - 448 + 512 * t) / 512) ((p - 448 + 512 * t) % 512) own refl last (omega arith) (omega arith)) read
+pub no_left : (r p t : ℕ) → t ≡ side r * side r → IsInSpace r (voxel_of (side r) p)
+    → (voxel_of (side r) p).x % 8 ≡ 0 → (p + 448) / 512 < t → NoneToward r (voxel_of (side r) p) 1
+no_left r p t e within last few =
+    let c = voxel_of (side r) p in
+    let own = own_spot r p within in
+    let digit : p % 512 / 64 ≡ 0 = sym (digit_x (side r) p) ∙ last in
+    elim (cases_lt 0 c.x) [
+      | inl some ↦ let before = wall_before_own r c (p / 512) (p % 512) own last some in absurd (omega arith)
+      | inr none ↦ none_left r c 1 refl (omega arith)
+    ]
 
-pub word_over : (g : Grid) (p t word : ℕ) → t ≡ side g.resolution → IsInSpace g.resolution (voxel_in g p)
-    → (voxel_in g p).y % 8 ≡ 7 → ReadsAt g (p - 56 + 512 * t) word
-    → IsWordToward (word_at g) (voxel_in g p) 4 word
-word_over g p t word e within last read =
-    let own = own_spot g.resolution p within in
-    let digit : p % 512 / 8 % 8 ≡ 7 = sym (digit_y (side g.resolution) p) ∙ last in
-    that_word g (voxel_in g p) 4 ((p - 56 + 512 * t) / 512) ((p - 56 + 512 * t) % 512) word
-    (spot_over g.resolution (voxel_in g p) 4 (p / 512) (p % 512) ((p - 56 + 512 * t) / 512) ((p - 56 + 512 * t) % 512) own refl last (omega arith) (omega arith)) read
+pub across_right : (r p t next : ℕ) → t ≡ side r * side r → IsInSpace r (voxel_of (side r) p)
+    → (voxel_of (side r) p).x % 8 ≡ 7 → next + 448 ≡ p + 512 * t → IsSpotAcross r (voxel_of (side r) p) 2 next
+across_right r p t next e within last is =
+    let own = own_spot r p within in
+    let digit : p % 512 / 64 ≡ 7 = sym (digit_x (side r) p) ∙ last in
+    inl (spot_right r (voxel_of (side r) p) 2 (p / 512) (p % 512) (next / 512) (next % 512) own refl last (omega arith) (omega arith))
 
-pub word_far : (g : Grid) (p word : ℕ) → IsInSpace g.resolution (voxel_in g p) → (voxel_in g p).z % 8 ≡ 7
-    → ReadsAt g (p - 7 + 512) word → IsWordToward (word_at g) (voxel_in g p) 6 word
-word_far g p word within last read =
-    let own = own_spot g.resolution p within in
-    let digit : p % 512 % 8 ≡ 7 = sym (digit_z (side g.resolution) p) ∙ last in
-    that_word g (voxel_in g p) 6 ((p - 7 + 512) / 512) ((p - 7 + 512) % 512) word
-    (spot_far g.resolution (voxel_in g p) 6 (p / 512) (p % 512) ((p - 7 + 512) / 512) ((p - 7 + 512) % 512) own refl last (omega arith) (omega arith)) read
+pub across_over : (r p t next : ℕ) → t ≡ side r → IsInSpace r (voxel_of (side r) p)
+    → (voxel_of (side r) p).y % 8 ≡ 7 → next + 56 ≡ p + 512 * t → IsSpotAcross r (voxel_of (side r) p) 4 next
+across_over r p t next e within last is =
+    let own = own_spot r p within in
+    let digit : p % 512 / 8 % 8 ≡ 7 = sym (digit_y (side r) p) ∙ last in
+    inl (spot_over r (voxel_of (side r) p) 4 (p / 512) (p % 512) (next / 512) (next % 512) own refl last (omega arith) (omega arith))
+
+pub across_far : (r p next : ℕ) → IsInSpace r (voxel_of (side r) p) → (voxel_of (side r) p).z % 8 ≡ 7
+    → next + 7 ≡ p + 512 → IsSpotAcross r (voxel_of (side r) p) 6 next
+across_far r p next within last is =
+    let own = own_spot r p within in
+    let digit : p % 512 % 8 ≡ 7 = sym (digit_z (side r) p) ∙ last in
+    inl (spot_far r (voxel_of (side r) p) 6 (p / 512) (p % 512) (next / 512) (next % 512) own refl last (omega arith) (omega arith))
 
 -- the brick before the first of its row lies beyond space
-beyond_row : (g : Grid) (p : ℕ) → IsInSpace g.resolution (voxel_in g p) → (voxel_in g p).y ≡ 0
-    → side g.resolution ≤ p / 512 → (q : Coord) × (IsInSpace g.resolution q → ⊥) × StandsIn g.resolution ((p + 56) / 512 - side g.resolution) ((p + 56) % 512) q
+beyond_row : (r p next : ℕ) → IsInSpace r (voxel_of (side r) p) → (voxel_of (side r) p).y ≡ 0
+    → next + 512 * side r ≡ p + 56 → StandsBeyond r (next / 512) (next % 512)
 unfolding brick_number word_index side
-beyond_row g p within floor some =
-    let r = g.resolution in
-    let c = voxel_in g p in
+beyond_row r p next within floor is =
+    let c = voxel_of (side r) p in
     let own = own_spot r p within in
     let bricks = brick_inside r c within in
     let digit : p % 512 / 8 % 8 ≡ 0 = sym (digit_y (side r) p) ∙ omega arith in
@@ -395,43 +394,45 @@ beyond_row g p within floor some =
     let y_is : (8 * (side r - 1) + 7) / 8 ≡ side r - 1 = omega arith in
     let at = own.at_index in
     let row : p / 512 ≡ c.x / 8 * side r * side r + 0 * side r + c.z / 8 = own.in_brick ∙ ap (λ (k : ℕ). c.x / 8 * side r * side r + k * side r + c.z / 8) (omega arith) in
-    let number : (p + 56) / 512 - side r + side r ≡ p / 512 = omega arith in (
-      there,
-      (λ s. let in_y = s.y in omega arith),
-      record {
+    let number : next / 512 + side r ≡ p / 512 = omega arith in
+    record {
+      there = there;
+      out = λ s. let in_y = s.y in omega arith;
+      stands = record {
         within = record { x = omega arith; y = omega arith; z = in_z };
-        in_brick = ap (λ (k : ℕ). k * side r * side r + (8 * (side r - 1) + 7) / 8 * side r + c.z / 8) x_is ∙ (ap (λ (k : ℕ). (c.x / 8 - 1) * side r * side r + k * side r + c.z / 8) y_is ∙ row_around (side r) (c.x / 8) (c.z / 8) ((p + 56) / 512 - side r) (p / 512) wall (omega arith) number row);
+        in_brick = ap (λ (k : ℕ). k * side r * side r + (8 * (side r - 1) + 7) / 8 * side r + c.z / 8) x_is ∙ (ap (λ (k : ℕ). (c.x / 8 - 1) * side r * side r + k * side r + c.z / 8) y_is ∙ row_around (side r) (c.x / 8) (c.z / 8) (next / 512) (p / 512) wall (omega arith) number row);
         at_index = omega arith;
-      },
-    )
+      };
+    }
 
-pub word_under : (g : Grid) (p t word : ℕ) → t ≡ side g.resolution → IsInSpace g.resolution (voxel_in g p)
-    → (voxel_in g p).y % 8 ≡ 0 → Space g → ReadsBefore g (p + 56) t word
-    → IsWordToward (word_at g) (voxel_in g p) 3 word
-word_under g p t word e within last space read =
-    let c = voxel_in g p in
-    let own = own_spot g.resolution p within in
-    let digit : p % 512 / 8 % 8 ≡ 0 = sym (digit_y (side g.resolution) p) ∙ last in
+pub across_under : (r p t next : ℕ) → t ≡ side r → IsInSpace r (voxel_of (side r) p)
+    → (voxel_of (side r) p).y % 8 ≡ 0 → next + 512 * t ≡ p + 56 → IsSpotAcross r (voxel_of (side r) p) 3 next
+across_under r p t next e within last is =
+    let c = voxel_of (side r) p in
+    let own = own_spot r p within in
+    let digit : p % 512 / 8 % 8 ≡ 0 = sym (digit_y (side r) p) ∙ last in
     elim (cases_lt 0 c.y) [
-      | inl some ↦
-          let before = row_before_own g.resolution c (p / 512) (p % 512) own last some in
-          that_word g c 3 ((p + 56) / 512 - t) ((p + 56) % 512) word
-          (spot_under g.resolution c 3 (p / 512) (p % 512) ((p + 56) / 512 - t) ((p + 56) % 512) own refl last some (omega arith) (omega arith)) (λ q s. read.value q (omega arith) s)
-      | inr none ↦ no_word g c 3 word space (none_under g.resolution c 3 refl (omega arith)) (elim (cases_lt (p / 512) t) [
-        | inl k ↦ read.none (omega arith)
-        | inr k ↦
-            let around = beyond_row g p within (omega arith) (omega arith) in
-            void_word g around.0 word space around.1 (read.value around.0 (omega arith) (subst (λ (n : ℕ). StandsIn g.resolution ((p + 56) / 512 - n) ((p + 56) % 512) around.0) (sym e) around.2))
-      ])
+      | inl some ↦ inl (spot_under r c 3 (p / 512) (p % 512) (next / 512) (next % 512) own refl last some (omega arith) (omega arith))
+      | inr none ↦ inr (none_under r c 3 refl (omega arith), beyond_row r p next within (omega arith) (omega arith))
+    ]
+
+pub no_under : (r p t : ℕ) → t ≡ side r → IsInSpace r (voxel_of (side r) p) → (voxel_of (side r) p).y % 8 ≡ 0
+    → (p + 56) / 512 < t → NoneToward r (voxel_of (side r) p) 3
+no_under r p t e within last few =
+    let c = voxel_of (side r) p in
+    let own = own_spot r p within in
+    let digit : p % 512 / 8 % 8 ≡ 0 = sym (digit_y (side r) p) ∙ last in
+    elim (cases_lt 0 c.y) [
+      | inl some ↦ let before = row_before_own r c (p / 512) (p % 512) own last some in absurd (omega arith)
+      | inr none ↦ none_under r c 3 refl (omega arith)
     ]
 
 -- the brick before the first of its line lies beyond space
-beyond_line : (g : Grid) (p : ℕ) → IsInSpace g.resolution (voxel_in g p) → (voxel_in g p).z ≡ 0 → 1 ≤ p / 512
-    → (q : Coord) × (IsInSpace g.resolution q → ⊥) × StandsIn g.resolution ((p + 7) / 512 - 1) ((p + 7) % 512) q
+beyond_line : (r p next : ℕ) → IsInSpace r (voxel_of (side r) p) → (voxel_of (side r) p).z ≡ 0
+    → next + 512 ≡ p + 7 → StandsBeyond r (next / 512) (next % 512)
 unfolding brick_number word_index side
-beyond_line g p within first some =
-    let r = g.resolution in
-    let c = voxel_in g p in
+beyond_line r p next within first is =
+    let c = voxel_of (side r) p in
     let own = own_spot r p within in
     let bricks = brick_inside r c within in
     let in_x = bricks.x in
@@ -439,19 +440,20 @@ beyond_line g p within first some =
     let digit : p % 512 % 8 ≡ 0 = sym (digit_z (side r) p) ∙ omega arith in
     let at = own.at_index in
     let z_is : (8 * (side r - 1) + 7) / 8 ≡ side r - 1 = omega arith in
-    let number : (p + 7) / 512 - 1 + 1 ≡ p / 512 = omega arith in
+    let number : next / 512 + 1 ≡ p / 512 = omega arith in
     let line : p / 512 ≡ c.x / 8 * side r * side r + c.y / 8 * side r + 0 = own.in_brick ∙ ap (λ (k : ℕ). c.x / 8 * side r * side r + c.y / 8 * side r + k) (omega arith) in
     elim (cases_lt 0 (c.y / 8)) [
       | inl k ↦
-          let y_is : (c.y - 8) / 8 ≡ c.y / 8 - 1 = omega arith in (
-            record { x = c.x; y = c.y - 8; z = 8 * (side r - 1) + 7 },
-            (λ s. let in_z = s.z in omega arith),
-            record {
+          let y_is : (c.y - 8) / 8 ≡ c.y / 8 - 1 = omega arith in
+          record {
+            there = record { x = c.x; y = c.y - 8; z = 8 * (side r - 1) + 7 };
+            out = λ s. let in_z = s.z in omega arith;
+            stands = record {
               within = record { x = in_x; y = omega arith; z = omega arith };
-              in_brick = ap (λ (j : ℕ). c.x / 8 * side r * side r + j * side r + (8 * (side r - 1) + 7) / 8) y_is ∙ (ap (λ (j : ℕ). c.x / 8 * side r * side r + (c.y / 8 - 1) * side r + j) z_is ∙ line_around (side r) (c.x / 8) (c.y / 8) ((p + 7) / 512 - 1) (p / 512) k (omega arith) number line);
+              in_brick = ap (λ (j : ℕ). c.x / 8 * side r * side r + j * side r + (8 * (side r - 1) + 7) / 8) y_is ∙ (ap (λ (j : ℕ). c.x / 8 * side r * side r + (c.y / 8 - 1) * side r + j) z_is ∙ line_around (side r) (c.x / 8) (c.y / 8) (next / 512) (p / 512) k (omega arith) number line);
               at_index = omega arith;
-            },
-          )
+            };
+          }
       | inr k ↦
           let none : c.y / 8 ≡ 0 = omega arith in
           let wall_line : p / 512 ≡ c.x / 8 * side r * side r + 0 * side r + 0 = line ∙ ap (λ (j : ℕ). c.x / 8 * side r * side r + j * side r + 0) none in
@@ -460,58 +462,36 @@ beyond_line g p within first some =
             | inr m ↦ let first_is : c.x / 8 * side r * side r ≡ 0 * side r * side r = ap (λ (j : ℕ). j * side r * side r) (omega arith) in absurd (omega arith)
           ] in
           let x_is : (c.x - 8) / 8 ≡ c.x / 8 - 1 = omega arith in
-          let y_is : (8 * (side r - 1) + c.y % 8) / 8 ≡ side r - 1 = omega arith in (
-            record { x = c.x - 8; y = 8 * (side r - 1) + c.y % 8; z = 8 * (side r - 1) + 7 },
-            (λ s. let in_z = s.z in omega arith),
-            record {
+          let y_is : (8 * (side r - 1) + c.y % 8) / 8 ≡ side r - 1 = omega arith in
+          record {
+            there = record { x = c.x - 8; y = 8 * (side r - 1) + c.y % 8; z = 8 * (side r - 1) + 7 };
+            out = λ s. let in_z = s.z in omega arith;
+            stands = record {
               within = record { x = omega arith; y = omega arith; z = omega arith };
-              in_brick = ap (λ (j : ℕ). j * side r * side r + (8 * (side r - 1) + c.y % 8) / 8 * side r + (8 * (side r - 1) + 7) / 8) x_is ∙ (ap (λ (j : ℕ). (c.x / 8 - 1) * side r * side r + j * side r + (8 * (side r - 1) + 7) / 8) y_is ∙ (ap (λ (j : ℕ). (c.x / 8 - 1) * side r * side r + (side r - 1) * side r + j) z_is ∙ wall_around (side r) (c.x / 8) ((p + 7) / 512 - 1) (p / 512) wall (omega arith) number wall_line));
+              in_brick = ap (λ (j : ℕ). j * side r * side r + (8 * (side r - 1) + c.y % 8) / 8 * side r + (8 * (side r - 1) + 7) / 8) x_is ∙ (ap (λ (j : ℕ). (c.x / 8 - 1) * side r * side r + j * side r + (8 * (side r - 1) + 7) / 8) y_is ∙ (ap (λ (j : ℕ). (c.x / 8 - 1) * side r * side r + (side r - 1) * side r + j) z_is ∙ wall_around (side r) (c.x / 8) (next / 512) (p / 512) wall (omega arith) number wall_line));
               at_index = omega arith;
-            },
-          )
+            };
+          }
     ]
 
-pub word_near : (g : Grid) (p word : ℕ) → IsInSpace g.resolution (voxel_in g p) → (voxel_in g p).z % 8 ≡ 0 → Space g
-    → ReadsBefore g (p + 7) 1 word → IsWordToward (word_at g) (voxel_in g p) 5 word
-word_near g p word within last space read =
-    let c = voxel_in g p in
-    let own = own_spot g.resolution p within in
-    let digit : p % 512 % 8 ≡ 0 = sym (digit_z (side g.resolution) p) ∙ last in
+pub across_near : (r p next : ℕ) → IsInSpace r (voxel_of (side r) p) → (voxel_of (side r) p).z % 8 ≡ 0
+    → next + 512 ≡ p + 7 → IsSpotAcross r (voxel_of (side r) p) 5 next
+across_near r p next within last is =
+    let c = voxel_of (side r) p in
+    let own = own_spot r p within in
+    let digit : p % 512 % 8 ≡ 0 = sym (digit_z (side r) p) ∙ last in
     elim (cases_lt 0 c.z) [
-      | inl some ↦
-          let before = one_before_own g.resolution c (p / 512) (p % 512) own last some in
-          that_word g c 5 ((p + 7) / 512 - 1) ((p + 7) % 512) word
-          (spot_near g.resolution c 5 (p / 512) (p % 512) ((p + 7) / 512 - 1) ((p + 7) % 512) own refl last some (omega arith) (omega arith)) (λ q s. read.value q (omega arith) s)
-      | inr none ↦ no_word g c 5 word space (none_near g.resolution c 5 refl (omega arith)) (elim (cases_lt (p / 512) 1) [
-        | inl k ↦ read.none (omega arith)
-        | inr k ↦ let around = beyond_line g p within (omega arith) (omega arith) in void_word g around.0 word space around.1 (read.value around.0 (omega arith) around.2)
-      ])
+      | inl some ↦ inl (spot_near r c 5 (p / 512) (p % 512) (next / 512) (next % 512) own refl last some (omega arith) (omega arith))
+      | inr none ↦ inr (none_near r c 5 refl (omega arith), beyond_line r p next within (omega arith) (omega arith))
     ]
 
--- ---- the next brick is in the table
-
-pub right_below : (g : Grid) (p t : ℕ) → t ≡ side g.resolution * side g.resolution
-    → IsInSpace g.resolution (voxel_in g p) → (voxel_in g p).x % 8 ≡ 7
-    → (p - 448 + 512 * t) / 512 < side g.resolution * side g.resolution * side g.resolution
-right_below g p t e within last =
-    let own = own_spot g.resolution p within in
-    let digit : p % 512 / 64 ≡ 7 = sym (digit_x (side g.resolution) p) ∙ last in
-    let spot = spot_right g.resolution (voxel_in g p) 2 (p / 512) (p % 512) ((p - 448 + 512 * t) / 512) ((p - 448 + 512 * t) % 512) own refl last (omega arith) (omega arith) in
-    stands_below g.resolution ((p - 448 + 512 * t) / 512) ((p - 448 + 512 * t) % 512) spot.there spot.stands
-
-pub over_below : (g : Grid) (p t : ℕ) → t ≡ side g.resolution → IsInSpace g.resolution (voxel_in g p)
-    → (voxel_in g p).y % 8 ≡ 7
-    → (p - 56 + 512 * t) / 512 < side g.resolution * side g.resolution * side g.resolution
-over_below g p t e within last =
-    let own = own_spot g.resolution p within in
-    let digit : p % 512 / 8 % 8 ≡ 7 = sym (digit_y (side g.resolution) p) ∙ last in
-    let spot = spot_over g.resolution (voxel_in g p) 4 (p / 512) (p % 512) ((p - 56 + 512 * t) / 512) ((p - 56 + 512 * t) % 512) own refl last (omega arith) (omega arith) in
-    stands_below g.resolution ((p - 56 + 512 * t) / 512) ((p - 56 + 512 * t) % 512) spot.there spot.stands
-
-pub far_below : (g : Grid) (p : ℕ) → IsInSpace g.resolution (voxel_in g p) → (voxel_in g p).z % 8 ≡ 7
-    → (p - 7 + 512) / 512 < side g.resolution * side g.resolution * side g.resolution
-far_below g p within last =
-    let own = own_spot g.resolution p within in
-    let digit : p % 512 % 8 ≡ 7 = sym (digit_z (side g.resolution) p) ∙ last in
-    let spot = spot_far g.resolution (voxel_in g p) 6 (p / 512) (p % 512) ((p - 7 + 512) / 512) ((p - 7 + 512) % 512) own refl last (omega arith) (omega arith) in
-    stands_below g.resolution ((p - 7 + 512) / 512) ((p - 7 + 512) % 512) spot.there spot.stands
+pub no_near : (r p : ℕ) → IsInSpace r (voxel_of (side r) p) → (voxel_of (side r) p).z % 8 ≡ 0
+    → (p + 7) / 512 < 1 → NoneToward r (voxel_of (side r) p) 5
+no_near r p within last few =
+    let c = voxel_of (side r) p in
+    let own = own_spot r p within in
+    let digit : p % 512 % 8 ≡ 0 = sym (digit_z (side r) p) ∙ last in
+    elim (cases_lt 0 c.z) [
+      | inl some ↦ let before = one_before_own r c (p / 512) (p % 512) own last some in absurd (omega arith)
+      | inr none ↦ none_near r c 5 refl (omega arith)
+    ]

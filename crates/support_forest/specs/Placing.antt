@@ -71,6 +71,17 @@ pub record IsSpotToward (r : ℕ) (c : Coord) (d number index : ℕ) : Type 0 wh
 abbrev pub NoneToward : ℕ → Coord → ℕ → Type 0
 NoneToward r c d = (q : Coord) → Toward d c q → IsInSpace r q → ⊥
 
+-- what stands at that index of the brick of that number lies beyond space
+pub record StandsBeyond (r number index : ℕ) : Type 0 where
+  pub there : Coord
+  pub out : IsInSpace r there → ⊥
+  pub stands : StandsIn r number index there
+
+-- the neighbour in the direction is at the spot, or none lies in space and what is at the spot neither
+abbrev pub IsSpotAcross : ℕ → Coord → ℕ → ℕ → Type 0
+IsSpotAcross r c d next =
+    IsSpotToward r c d (next / 512) (next % 512) ⊎ (NoneToward r c d × StandsBeyond r (next / 512) (next % 512))
+
 -- the words are those of the voxel's neighbours
 pub record AreBesideWords (w : Coord → ℕ) (c : Coord) (b : Beside) : Type 0 where
   pub left : IsWordToward w c 1 b.left

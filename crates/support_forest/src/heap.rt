@@ -165,7 +165,8 @@ fn pile_row<L: Ledger>(
         → IsHeaped planes.now cells.new (place_of planes.now.resolution first + 8) rest }
     ensures touches { steps.new ≤ steps.old + 8 }
 {
-    cells.write_row(own, first, heap_word(first.y), steps);
+    let spot = cells.spot(first);
+    cells.write_row(own, spot, heap_word(first.y), steps);
 }
 
 /// Stacks the full ones of some voxels of a row in one brick, whose bits are the lowest of a word, one after another, or lists

@@ -1,16 +1,18 @@
 //! Takes away the full voxels of a region, row by row: only those of rows on which others hang are listed.
-ghost use Rattle.std.specs.Prelude.{◌≡◌, ◌+◌, ◌-◌, ◌*◌, ◌^◌, ◌<◌, ◌≤◌, ℕ, IfOk, Some, length, slice_index, true};
+ghost use Rattle.std.specs.Prelude.{◌≡◌, ◌+◌, ◌-◌, ◌*◌, ◌/◌, ◌%◌, ◌^◌, ◌<◌, ◌≤◌, ℕ, IfOk, Some, length, slice_index, true};
 ghost use Rattle.vox_geom.specs.Region.{size, span};
 ghost use Rattle.vox_geom.specs.Space.{IsInSpace};
 ghost use Rattle.vox_planes.specs.Walk.{wall_size};
 ghost use Rattle.support_forest.specs.Grid.{slot_of, word_at};
+ghost use Rattle.support_forest.specs.Spots.{voxel_in};
 ghost use Rattle.support_forest.specs.Regions.{AreVoided, IsInRegion, IsInRow, IsInWall};
 ghost use Rattle.support_forest.specs.Stretches.{IsBrickRow, LieInRow, further, whole_row_start};
 ghost use Rattle.support_forest.specs.Words.{AreExact};
 
-use crate::cells::{BRICK_SIDE, Cells, word_index};
+use crate::beside::place_in_chunk;
+use crate::cells::{BRICK_SIDE, BRICK_WORDS, Cells};
 use crate::stretch::{clear_row, part_is_free, start_of_row};
-use brick_arena::{Chunk, start_in_chunk};
+use brick_arena::Chunk;
 use std::alloc::AllocError;
 use std::sync::ledger::Ledger;
 use vox_geom::{Coord, Region, Steps};
@@ -33,18 +35,18 @@ fn words_are_void<L: Ledger>(chunk: &Chunk, from: usize, count: u16, steps: &mut
     void
 }
 
-/// Whether the whole row of a brick in which a voxel lies is void. `own` is the slot of the brick.
+/// Whether the whole row of a brick in which the voxel at a spot lies is void. `own` is the slot of the brick.
 #[inline(always)]
-fn row_is_void<L: Ledger>(cells: &Cells, own: u32, c: Coord, steps: &mut Steps<L>) -> bool
-    requires within { IsInSpace cells.now.resolution c }
-    requires own { slot_of cells.now c ≡ Some own }
-    ensures void { result ≡ true → (k : ℕ) → k < 8 → word_at cells.now (further (whole_row_start c) k) ≡ 0 }
+fn row_is_void<L: Ledger>(cells: &Cells, own: u32, spot: u32, steps: &mut Steps<L>) -> bool
+    requires within { IsInSpace cells.now.resolution (voxel_in cells.now spot) }
+    requires own { slot_of cells.now (voxel_in cells.now spot) ≡ Some own }
+    ensures void { result ≡ true → (k : ℕ) → k < 8
+        → word_at cells.now (further (whole_row_start (voxel_in cells.now spot)) k) ≡ 0 }
     ensures touches { steps.new ≤ steps.old + 8 }
 {
     cells.recall();
     let chunk = cells.chunk(own);
-    let start = start_of_row(c);
-    let from = start_in_chunk(own) + usize::from(word_index(start));
+    let from = place_in_chunk(own, start_of_row(spot));
     words_are_void(chunk, from, BRICK_SIDE, steps)
 }
 
@@ -78,33 +80,44 @@ fn list_part<L: Ledger>(
     Ok(())
 }
 
-/// The full voxels of a part of a row, which lies in one brick, become void, or are listed.
+/// The full voxels of a part of a row, which lies in one brick, become void, or are listed. The first of them is at that spot.
 #[inline(always)]
 fn take_part<L: Ledger>(
     cells: &mut Cells,
     first: Coord,
+    spot: u32,
     count: u16,
     rest: &mut Vec<Coord>,
     steps: &mut Steps<L>,
 ) -> Result<(), AllocError>
     requires some { 0 < count }
+    requires spot { voxel_in cells.old spot ≡ first }
     requires row { LieInRow cells.old first count }
     requires exact { AreExact cells.old.resolution (word_at cells.old) }
     ensures voided { IfOk result
         (λ _. AreVoided cells.old cells.new (IsInRow first count) count rest.old.items rest.new.items) }
     ensures touches { IfOk result (λ _. steps.new ≤ steps.old + 40 * count) }
 {
-    let Some(own) = cells.slot(first) else {
+    let Some(own) = cells.slot_at(spot) else {
         return Ok(());
     };
-    if row_is_void(cells, own, first, steps) {
+    if row_is_void(cells, own, spot, steps) {
         return Ok(());
     }
-    if part_is_free(cells, own, first, count, steps) {
-        clear_row(cells, own, first, count, steps);
+    if part_is_free(cells, own, spot, count, steps) {
+        clear_row(cells, own, spot, count, steps);
         return Ok(());
     }
     list_part(cells, own, first, count, rest, steps)
+}
+
+/// The spot so many voxels further along z than the first of a line through space.
+#[inline(always)]
+fn spot_along(line: u32, z: u16) -> u32
+    requires fits { line < 67917312 }
+    ensures { result ≡ line + 512 * (z / 8) + z % 8 }
+{
+    line + BRICK_WORDS * u32::from(z / BRICK_SIDE) + u32::from(z % BRICK_SIDE)
 }
 
 /// The full voxels of a row from one on, before `end`, become void, or are listed.
@@ -124,11 +137,13 @@ fn take_row<L: Ledger>(
         rest.new.items) }
     ensures touches { IfOk result (λ _. steps.new ≤ steps.old + 40 * (end - first.z)) }
 {
+    let line = cells.spot(Coord { z: 0, ..first });
     let mut left = end;
     while left > first.z {
         let part = ((left - 1) % BRICK_SIDE + 1).min(left - first.z);
         left -= part;
-        take_part(cells, Coord { z: left, ..first }, part, rest, steps)?;
+        let at = Coord { z: left, ..first };
+        take_part(cells, at, spot_along(line, left), part, rest, steps)?;
     }
     Ok(())
 }

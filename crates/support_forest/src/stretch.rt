@@ -4,18 +4,17 @@
 ghost use Rattle.std.specs.Prelude.{◌≡◌, ℕ, ◌+◌, ◌-◌, ◌*◌, ◌%◌, ◌^◌, ◌<◌, ◌≤◌, IfOk, IfSome, Some, false, true, length, slice_index_or};
 ghost use Rattle.vox_geom.specs.Space.{IsInSpace};
 ghost use Rattle.vox_geom.specs.declared.coordinate.Coord.{Coord};
-ghost use Rattle.brick_arena.specs.Slots.{HasSlot};
 ghost use Rattle.support_forest.specs.Access.{LieInBrick};
-ghost use Rattle.support_forest.specs.Grid.{Grid, word_at};
-ghost use Rattle.support_forest.specs.Placing.{IsWordToward};
+ghost use Rattle.support_forest.specs.Grid.{Grid, StandsIn, word_at};
+ghost use Rattle.support_forest.specs.Spots.{IsReadAt, voxel_in, voxel_of};
 ghost use Rattle.support_forest.specs.Stretches.{AreCleared, CanClear, EndsAreFree, IsBrickRow, IsStretch, LieInRow, RowHangsNot, RowIsFree, SideHangsNot, SidesAreFree, TakesMore, WordsHangNot, whole_row_start};
 ghost use Rattle.support_forest.specs.Words.{AreExact};
 
-use crate::cells::{BRICK_SIDE, Cells, word_index};
-use crate::directions::neighbor;
+use crate::beside::place_in_chunk;
+use crate::cells::{BRICK_SIDE, Cells};
 use crate::take::{hangs, take};
-use crate::toward::index_toward;
-use brick_arena::{Chunk, start_in_chunk};
+use crate::toward::{place_toward, spot_across, word_toward};
+use brick_arena::Chunk;
 use std::alloc::AllocError;
 use std::sync::ledger::Ledger;
 use vox_geom::{Coord, Steps};
@@ -68,198 +67,166 @@ fn words_hang_not<L: Ledger>(
     none
 }
 
-/// Whether no word of the row says a parent in that direction. A row of a brick without a slot is void.
+/// Whether no word of the row from a spot on says a parent in that direction. A row of a brick without a slot is void.
 #[inline(always)]
 fn row_is_free<L: Ledger>(
     cells: &Cells,
-    first: Coord,
+    spot: u32,
     count: u16,
     toward: u32,
     steps: &mut Steps<L>,
 ) -> bool
-    requires row { LieInRow cells.now first count }
-    ensures none { result ≡ true → RowHangsNot (word_at cells.now) first count toward }
+    requires number { spot / 512 < length cells.now.table }
+    requires row { spot % 8 + count ≤ 8 }
+    ensures none { result ≡ true → (q : Coord) → StandsIn cells.now.resolution (spot / 512) (spot % 512) q
+        → RowHangsNot (word_at cells.now) q count toward }
     ensures touches { steps.new ≤ steps.old + count }
 {
-    match cells.slot(first) {
+    match cells.slot_beyond(spot) {
         Some(slot) => {
-            let from = start_in_chunk(slot) + usize::from(word_index(first));
+            let from = place_in_chunk(slot, spot);
             words_hang_not(cells.chunk(slot), from, count, toward, steps)
         }
         None => true,
     }
 }
 
-/// Whether no neighbour in the direction, to a side of the row, has its parent in a voxel of the row. In the same brick no slot
-/// is looked up, and no bound of space: a word beyond it is 0.
+/// Whether no neighbour in the direction, to a side of the row from a spot on, has its parent in a voxel of the row. `chunk` has the
+/// words of the slot of its brick, that of the first at that place.
 #[inline(always)]
-fn side_is_free<L: Ledger>(
+fn side_is_free<const D: u8, L: Ledger>(
     cells: &Cells,
+    spot: u32,
     own: u32,
     chunk: &Chunk,
-    first: Coord,
+    at: usize,
     count: u16,
-    d: u8,
     toward: u32,
     steps: &mut Steps<L>,
 ) -> bool
-    requires direction { (0 < d) × (d ≤ 4) }
-    requires row { IsBrickRow cells.now own first count }
-    requires chunk { HasSlot cells.now.bricks own chunk.now }
-    ensures none { result ≡ true → SideHangsNot (word_at cells.now) first count d toward }
+    requires direction { (0 < D) × (D ≤ 4) }
+    requires read { IsReadAt cells.now spot own chunk.now at }
+    requires row { spot % 8 + count ≤ 8 }
+    requires space { (q : Coord) → 0 < word_at cells.now q → IsInSpace cells.now.resolution q }
+    ensures none { result ≡ true → SideHangsNot (word_at cells.now) (voxel_in cells.now spot) count D toward }
     ensures touches { steps.new ≤ steps.old + count }
 {
     cells.recall();
-    if let Some(i) = index_toward(first, usize::from(word_index(first)), d) {
-        let from = start_in_chunk(own) + i;
+    if let Some(from) = place_toward::<D>(spot, at) {
         return words_hang_not(chunk, from, count, toward, steps);
     }
-    match neighbor(first, d, cells.resolution()) {
-        Some(q) => row_is_free(cells, q, count, toward, steps),
+    match spot_across::<D>(cells, spot) {
+        Some(next) => row_is_free(cells, next, count, toward, steps),
         None => true,
     }
 }
 
-/// Whether no neighbour to a side of the row has its parent in a voxel of the row, and no voxel of the row in the next one.
+/// Whether no neighbour to a side of the row from a spot on has its parent in a voxel of the row, and no voxel of the row in the next
+/// one. The last of them may lie beyond space.
 #[inline(always)]
 fn sides_are_free<L: Ledger>(
     cells: &Cells,
     own: u32,
-    first: Coord,
+    spot: u32,
     count: u16,
     steps: &mut Steps<L>,
 ) -> bool
-    requires { IsBrickRow cells.now own first count }
-    ensures free { result ≡ true → SidesAreFree (word_at cells.now) first count }
+    requires brick { LieInBrick cells.now (voxel_in cells.now spot) own }
+    requires row { spot % 8 + count ≤ 8 }
+    ensures free { result ≡ true → SidesAreFree (word_at cells.now) (voxel_in cells.now spot) count }
     ensures touches { steps.new ≤ steps.old + 5 * count }
 {
     cells.recall();
     let chunk = cells.chunk(own);
-    if !side_is_free(cells, own, chunk, first, count, 4, 3, steps) {
+    let at = place_in_chunk(own, spot);
+    if !side_is_free::<4, L>(cells, spot, own, chunk, at, count, 3, steps) {
         return false;
     }
-    if !side_is_free(cells, own, chunk, first, count, 3, 4, steps) {
+    if !side_is_free::<3, L>(cells, spot, own, chunk, at, count, 4, steps) {
         return false;
     }
-    if !side_is_free(cells, own, chunk, first, count, 1, 2, steps) {
+    if !side_is_free::<1, L>(cells, spot, own, chunk, at, count, 2, steps) {
         return false;
     }
-    if !side_is_free(cells, own, chunk, first, count, 2, 1, steps) {
+    if !side_is_free::<2, L>(cells, spot, own, chunk, at, count, 1, steps) {
         return false;
     }
-    let from = start_in_chunk(own) + usize::from(word_index(first));
-    words_hang_not(chunk, from, count, 6, steps)
+    words_hang_not(chunk, at, count, 6, steps)
 }
 
-/// The word of the neighbour of a voxel in a direction, 0 where there is none: its brick has this slot, with this chunk.
-#[inline(always)]
-fn word_next<const D: u8, L: Ledger>(
-    cells: &Cells,
-    c: Coord,
-    own: u32,
-    chunk: &Chunk,
-    steps: &mut Steps<L>,
-) -> u32
-    requires direction { (0 < D) × (D ≤ 6) }
-    requires brick { LieInBrick cells.now c own }
-    requires chunk { HasSlot cells.now.bricks own chunk.now }
-    ensures word { IsWordToward (word_at cells.now) c D result }
-    ensures touch { steps.new ≤ steps.old + 1 }
-{
-    cells.recall();
-    if let Some(i) = index_toward(c, usize::from(word_index(c)), D) {
-        return chunk.word(start_in_chunk(own) + i, steps);
-    }
-    match neighbor(c, D, cells.resolution()) {
-        Some(q) => cells.word(q, steps),
-        None => 0,
-    }
-}
-
-/// Whether neither the voxel before the row has its parent in the first of the row, nor that behind it in the last.
+/// Whether neither the voxel before the row from a spot on has its parent in the first of the row, nor that behind it in the last.
 #[inline(always)]
 fn ends_are_free<L: Ledger>(
     cells: &Cells,
     own: u32,
-    first: Coord,
+    spot: u32,
     count: u16,
     steps: &mut Steps<L>,
 ) -> bool
-    requires { IsBrickRow cells.now own first count }
-    ensures free { result ≡ true → EndsAreFree (word_at cells.now) first count }
+    requires { IsBrickRow cells.now own (voxel_in cells.now spot) count }
+    ensures free { result ≡ true → EndsAreFree (word_at cells.now) (voxel_in cells.now spot) count }
     ensures touches { steps.new ≤ steps.old + 2 }
 {
-    let last = Coord {
-        z: first.z + (count - 1),
-        ..first
-    };
     cells.recall();
     let chunk = cells.chunk(own);
-    if hangs(word_next::<5, L>(cells, first, own, chunk, steps), 6) {
+    let at = place_in_chunk(own, spot);
+    let near = word_toward::<5, L>(cells, spot, own, chunk, at, steps);
+    if hangs(near, 6) {
         return false;
     }
-    !hangs(word_next::<6, L>(cells, last, own, chunk, steps), 5)
+    let behind = count - 1;
+    let last = spot + u32::from(behind);
+    let far = word_toward::<6, L>(cells, last, own, chunk, at + usize::from(behind), steps);
+    !hangs(far, 5)
 }
 
-/// Whether no neighbour has its parent in a voxel of the row, but for the next voxel of the row.
+/// Whether no neighbour has its parent in a voxel of the row from a spot on, but for the next voxel of the row.
 #[inline(always)]
 fn is_free<L: Ledger>(
     cells: &Cells,
     own: u32,
-    first: Coord,
+    spot: u32,
     count: u16,
     steps: &mut Steps<L>,
 ) -> bool
-    requires { IsBrickRow cells.now own first count }
-    ensures free { result ≡ true → RowIsFree (word_at cells.now) first count }
+    requires { IsBrickRow cells.now own (voxel_in cells.now spot) count }
+    ensures free { result ≡ true → RowIsFree (word_at cells.now) (voxel_in cells.now spot) count }
     ensures touches { steps.new ≤ steps.old + 5 * count + 2 }
 {
-    if !sides_are_free(cells, own, first, count, steps) {
+    if !sides_are_free(cells, own, spot, count, steps) {
         return false;
     }
-    ends_are_free(cells, own, first, count, steps)
+    ends_are_free(cells, own, spot, count, steps)
 }
 
-/// The first voxel of a whole row, said so that the compiler knows where in its brick it lies.
+/// The spot of the first voxel of the whole row of a brick in which that at a spot lies, said so that the compiler knows where in its
+/// brick it is.
 #[inline(always)]
-fn whole_row(first: Coord) -> Coord
-    requires { first.z % BRICK_SIDE + BRICK_SIDE ≤ BRICK_SIDE }
-    ensures { result ≡ first }
+pub fn start_of_row(spot: u32) -> u32
+    ensures first { (side : ℕ) → voxel_of side result ≡ whole_row_start (voxel_of side spot) }
+    ensures whole { result % 8 ≡ 0 }
+    ensures same { spot % 8 ≡ 0 → result ≡ spot }
 {
-    Coord {
-        z: first.z / BRICK_SIDE * BRICK_SIDE,
-        ..first
-    }
+    spot / 8 * 8
 }
 
-/// Whether no neighbour has its parent in a voxel of the row, but for the next voxel of the row. A whole row is read by
+/// Whether no neighbour has its parent in a voxel of the row from a spot on, but for the next voxel of the row. A whole row is read by
 /// steps that the compiler knows.
 fn are_free<L: Ledger>(
     cells: &Cells,
     own: u32,
-    first: Coord,
+    spot: u32,
     count: u16,
     steps: &mut Steps<L>,
 ) -> bool
-    requires { IsBrickRow cells.now own first count }
-    ensures free { result ≡ true → RowIsFree (word_at cells.now) first count }
+    requires { IsBrickRow cells.now own (voxel_in cells.now spot) count }
+    ensures free { result ≡ true → RowIsFree (word_at cells.now) (voxel_in cells.now spot) count }
     ensures touches { steps.new ≤ steps.old + 5 * count + 2 }
 {
     if count == BRICK_SIDE {
-        return is_free(cells, own, whole_row(first), BRICK_SIDE, steps);
+        return is_free(cells, own, start_of_row(spot), BRICK_SIDE, steps);
     }
-    is_free(cells, own, first, count, steps)
-}
-
-/// The first voxel of the whole row of a brick in which the voxel lies.
-#[inline(always)]
-pub fn start_of_row(c: Coord) -> Coord
-    ensures { result ≡ whole_row_start c }
-{
-    Coord {
-        z: c.z / BRICK_SIDE * BRICK_SIDE,
-        ..c
-    }
+    is_free(cells, own, spot, count, steps)
 }
 
 /// Whether nothing beside the whole row of the brick has its parent in that row, so that nothing beside these voxels of it
@@ -268,100 +235,96 @@ pub fn start_of_row(c: Coord) -> Coord
 fn sides_of_all_are_free<L: Ledger>(
     cells: &Cells,
     own: u32,
-    first: Coord,
+    spot: u32,
     count: u16,
     steps: &mut Steps<L>,
 ) -> bool
-    requires { IsBrickRow cells.now own first count }
-    ensures free { result ≡ true → SidesAreFree (word_at cells.now) first count }
+    requires { IsBrickRow cells.now own (voxel_in cells.now spot) count }
+    ensures free { result ≡ true → SidesAreFree (word_at cells.now) (voxel_in cells.now spot) count }
     ensures touches { steps.new ≤ steps.old + 20 * count }
 {
-    cells.recall();
-    let start = start_of_row(first);
-    if count == 1 || start.z + BRICK_SIDE > cells.resolution() {
+    if count == 1 {
         return false;
     }
-    sides_are_free(cells, own, start, BRICK_SIDE, steps)
+    sides_are_free(cells, own, start_of_row(spot), BRICK_SIDE, steps)
 }
 
-/// Whether no neighbour has its parent in a voxel of the row, but for the next voxel of the row. Most parts of rows lie in
-/// whole rows that are free.
+/// Whether no neighbour has its parent in a voxel of the row from a spot on, but for the next voxel of the row. Most parts of rows lie
+/// in whole rows that are free.
 #[inline(always)]
 pub fn part_is_free<L: Ledger>(
     cells: &Cells,
     own: u32,
-    first: Coord,
+    spot: u32,
     count: u16,
     steps: &mut Steps<L>,
 ) -> bool
-    requires { IsBrickRow cells.now own first count }
-    ensures free { result ≡ true → RowIsFree (word_at cells.now) first count }
+    requires { IsBrickRow cells.now own (voxel_in cells.now spot) count }
+    ensures free { result ≡ true → RowIsFree (word_at cells.now) (voxel_in cells.now spot) count }
     ensures touches { steps.new ≤ steps.old + 25 * count + 2 }
 {
-    if sides_of_all_are_free(cells, own, first, count, steps) {
-        return ends_are_free(cells, own, first, count, steps);
+    if sides_of_all_are_free(cells, own, spot, count, steps) {
+        return ends_are_free(cells, own, spot, count, steps);
     }
-    are_free(cells, own, first, count, steps)
+    are_free(cells, own, spot, count, steps)
 }
 
-/// The slot of the row, where no neighbour has its parent in one of its voxels, but for the next voxel of the row.
+/// The slot of the row from a spot on, where no neighbour has its parent in one of its voxels, but for the next voxel of the row.
 #[inline(always)]
 fn free_slot<L: Ledger>(
     cells: &Cells,
-    first: Coord,
+    spot: u32,
     count: u16,
     steps: &mut Steps<L>,
 ) -> Option<u32>
     requires some { 0 < count }
-    requires row { LieInRow cells.now first count }
+    requires row { LieInRow cells.now (voxel_in cells.now spot) count }
     requires space { (q : Coord) → 0 < word_at cells.now q → IsInSpace cells.now.resolution q }
-    ensures row { IfSome result (λ own. IsBrickRow cells.now own first count) }
-    ensures free { IfSome result (λ _. RowIsFree (word_at cells.now) first count) }
+    ensures row { IfSome result (λ own. IsBrickRow cells.now own (voxel_in cells.now spot) count) }
+    ensures free { IfSome result (λ _. RowIsFree (word_at cells.now) (voxel_in cells.now spot) count) }
     ensures touches { steps.new ≤ steps.old + 5 * count + 2 }
 {
-    let own = cells.slot(first)?;
-    if !are_free(cells, own, first, count, steps) {
+    let own = cells.slot_at(spot)?;
+    if !are_free(cells, own, spot, count, steps) {
         return None;
     }
     Some(own)
 }
 
-/// Makes the voxels of a row void, from the last to the first.
+/// Makes the voxels of the row from a spot on void, from the last to the first.
 #[inline(always)]
 fn clear_voxels<L: Ledger>(
     cells: &mut Cells,
     own: u32,
-    first: Coord,
+    spot: u32,
     count: u16,
     steps: &mut Steps<L>,
 )
-    requires { CanClear cells.old own first count }
-    ensures { AreCleared cells.old cells.new first 0 count steps.old steps.new }
+    requires { CanClear cells.old own (voxel_in cells.old spot) count }
+    ensures { AreCleared cells.old cells.new (voxel_in cells.old spot) 0 count steps.old steps.new }
 {
     let mut left = count;
     while left > 0 {
         left -= 1;
-        let at = Coord {
-            z: first.z + left,
-            ..first
-        };
-        let word = cells.word_in(Some(own), at, steps);
-        cells.write(own, at, word, 0, steps);
+        let at = spot + u32::from(left);
+        let word = cells.word_at(Some(own), at, steps);
+        cells.write_at(own, at, word, 0, steps);
     }
 }
 
-/// Makes the voxels of a row void at once, where it is a whole one and no voxel floats: whether it did. Otherwise all
-/// stays.
+/// Makes the voxels of the row from a spot on void at once, where it is a whole one and no voxel floats: whether it did. Otherwise
+/// all stays.
 #[inline(always)]
 fn clear_at_once<L: Ledger>(
     cells: &mut Cells,
     own: u32,
-    first: Coord,
+    spot: u32,
     count: u16,
     steps: &mut Steps<L>,
 ) -> bool
-    requires { CanClear cells.old own first count }
-    ensures cleared { result ≡ true → AreCleared cells.old cells.new first 0 count steps.old steps.new }
+    requires { CanClear cells.old own (voxel_in cells.old spot) count }
+    ensures cleared { result ≡ true
+        → AreCleared cells.old cells.new (voxel_in cells.old spot) 0 count steps.old steps.new }
     ensures stays { result ≡ false → cells.new ≡ cells.old × steps.new ≡ steps.old }
 {
     if count < BRICK_SIDE {
@@ -370,26 +333,26 @@ fn clear_at_once<L: Ledger>(
     if cells.floating() != 0 {
         return false;
     }
-    cells.write_row(own, first, 0, steps);
+    cells.write_row(own, spot, 0, steps);
     true
 }
 
-/// Makes the voxels of a row void.
+/// Makes the voxels of the row from a spot on void.
 #[inline(always)]
 pub fn clear_row<L: Ledger>(
     cells: &mut Cells,
     own: u32,
-    first: Coord,
+    spot: u32,
     count: u16,
     steps: &mut Steps<L>,
 )
-    requires { CanClear cells.old own first count }
-    ensures { AreCleared cells.old cells.new first 0 count steps.old steps.new }
+    requires { CanClear cells.old own (voxel_in cells.old spot) count }
+    ensures { AreCleared cells.old cells.new (voxel_in cells.old spot) 0 count steps.old steps.new }
 {
-    if clear_at_once(cells, own, first, count, steps) {
+    if clear_at_once(cells, own, spot, count, steps) {
         return;
     }
-    clear_voxels(cells, own, first, count, steps)
+    clear_voxels(cells, own, spot, count, steps)
 }
 
 /// Lists the voxels from the last before `end` down to `start`.
@@ -439,8 +402,9 @@ pub fn take_stretch<L: Ledger>(
         }
         return Ok(start);
     }
-    if let Some(own) = free_slot(cells, first, count, steps) {
-        clear_row(cells, own, first, count, steps);
+    let spot = cells.spot(first);
+    if let Some(own) = free_slot(cells, spot, count, steps) {
+        clear_row(cells, own, spot, count, steps);
         return Ok(start);
     }
     list_voxels(gone, start, end, rest)?;

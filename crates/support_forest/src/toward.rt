@@ -1,59 +1,16 @@
 //! The word of a voxel's neighbour in one direction.
-ghost use Rattle.std.specs.Prelude.{◌≡◌, ◌+◌, ◌-◌, ◌*◌, ◌/◌, ◌%◌, ◌^◌, ◌<◌, ◌≤◌, ℕ, MatchOption, Some, length};
+ghost use Rattle.std.specs.Prelude.{◌≡◌, ◌+◌, ◌*◌, ◌/◌, ◌%◌, ◌^◌, ◌<◌, ◌≤◌, ℕ, IfSome, MatchOption, Some};
 ghost use Rattle.vox_geom.specs.Space.{IsInSpace};
 ghost use Rattle.vox_geom.specs.declared.coordinate.Coord.{Coord};
 ghost use Rattle.support_forest.specs.Access.{LieInSpace};
-ghost use Rattle.support_forest.specs.Grid.{StandsIn, slot_of, word_at, word_index as word_index_of};
-ghost use Rattle.support_forest.specs.Placing.{EndsBrick, IsIndexToward, IsPlaceToward, IsWordToward};
+ghost use Rattle.support_forest.specs.Grid.{slot_of, word_at};
+ghost use Rattle.support_forest.specs.Placing.{EndsBrick, IsPlaceToward, IsSpotAcross, IsWordToward, NoneToward};
 ghost use Rattle.support_forest.specs.Spots.{IsReadAt, voxel_of, voxel_in};
 
 use crate::cells::{BRICK_SIDE, BRICK_WORDS, Cells, word_index};
 use brick_arena::Chunk;
 use std::sync::ledger::Ledger;
 use vox_geom::{Coord, Steps};
-
-/// The index that is a step lower, where `at` is not the first of its brick.
-#[inline(always)]
-fn lower(at: u16, index: usize, step: usize) -> Option<usize>
-    requires { 0 < at % 8 → step ≤ index }
-    ensures { MatchOption result (at % 8 ≡ 0) (λ i. (0 < at % 8) × (i + step ≡ index)) }
-{
-    if at % BRICK_SIDE == 0 {
-        return None;
-    }
-    Some(index - step)
-}
-
-/// The index that is a step higher, where `at` is not the last of its brick.
-#[inline(always)]
-fn upper(at: u16, index: usize, step: usize) -> Option<usize>
-    requires { at % 8 < 7 → index + step < 512 }
-    ensures { MatchOption result (at % 8 ≡ 7) (λ i. (at % 8 < 7) × (i ≡ index + step)) }
-{
-    if at % BRICK_SIDE == BRICK_SIDE - 1 {
-        return None;
-    }
-    Some(index + step)
-}
-
-/// The index of the word of the neighbour in a direction, where it lies in the same brick. In the width of an address the step
-/// is a part of the read that follows.
-#[tactic(auto, unfolding(crate::specs::Grid::word_index))]
-#[inline(always)]
-pub fn index_toward(c: Coord, index: usize, d: u8) -> Option<usize>
-    requires direction { (0 < d) × (d ≤ 6) }
-    requires index { index ≡ word_index_of c }
-    ensures { MatchOption result (EndsBrick c d) (IsIndexToward c d) }
-{
-    match d {
-        1 => lower(c.x, index, 64),
-        2 => upper(c.x, index, 64),
-        3 => lower(c.y, index, 8),
-        4 => upper(c.y, index, 8),
-        5 => lower(c.z, index, 1),
-        _ => upper(c.z, index, 1),
-    }
-}
 
 /// The place that is a step lower, where `part` is not within the first step: the part of a spot in eight steps.
 #[inline(always)]
@@ -81,7 +38,7 @@ fn place_above(part: usize, at: usize, step: usize) -> Option<usize>
 
 /// The place of the word of the neighbour in a direction, where it lies in the same brick: `at` is that of the spot's own.
 #[inline(always)]
-fn place_toward<const D: u8>(spot: u32, at: usize) -> Option<usize>
+pub fn place_toward<const D: u8>(spot: u32, at: usize) -> Option<usize>
     requires direction { (0 < D) × (D ≤ 6) }
     requires own { spot % 512 ≤ at }
     requires fits { at < 2 ^ 31 }
@@ -98,24 +55,43 @@ fn place_toward<const D: u8>(spot: u32, at: usize) -> Option<usize>
     }
 }
 
-/// The word at the spot that is so many bricks before one, 0 where there are not so many.
+/// The spot that is so many bricks before one, where there are so many.
 #[inline(always)]
-fn word_before<L: Ledger>(cells: &Cells, spot: u32, bricks: u32, steps: &mut Steps<L>) -> u32
-    requires number { spot / 512 < length cells.now.table }
-    requires fits { bricks < 4096 }
-    ensures value { (q : Coord) → bricks ≤ spot / 512
-        → StandsIn cells.now.resolution (spot / 512 - bricks) (spot % 512) q → word_at cells.now q ≡ result }
-    ensures none { spot / 512 < bricks → result ≡ 0 }
-    ensures touch { steps.new ≤ steps.old + 1 }
+fn spot_less(spot: u32, bricks: u32) -> Option<u32>
+    requires { bricks < 4096 }
+    ensures { MatchOption result (spot / 512 < bricks) (λ less. less + 512 * bricks ≡ spot) }
 {
     if spot < BRICK_WORDS * bricks {
-        return 0;
+        return None;
     }
-    cells.word_at_spot(spot - BRICK_WORDS * bricks, steps)
+    Some(spot - BRICK_WORDS * bricks)
 }
 
-/// The word of the neighbour in a direction, which lies in another brick, 0 where there is none. No bound of space is looked at: what
-/// lies over the border is a brick beyond space, or none.
+/// The spot of the neighbour in a direction, which lies in another brick: no bound of space is looked at, so where no neighbour lies
+/// in space it is that of a voxel beyond space, or none.
+#[inline(always)]
+pub fn spot_across<const D: u8>(cells: &Cells, spot: u32) -> Option<u32>
+    requires direction { (0 < D) × (D ≤ 6) }
+    requires within { IsInSpace cells.now.resolution (voxel_in cells.now spot) }
+    requires last { EndsBrick (voxel_in cells.now spot) D }
+    ensures across { MatchOption result (NoneToward cells.now.resolution (voxel_in cells.now spot) D)
+        (IsSpotAcross cells.now.resolution (voxel_in cells.now spot) D) }
+    ensures line { IfSome result (λ next. D ≤ 4 → next % 8 ≡ spot % 8) }
+{
+    cells.recall();
+    let row = u32::from(cells.side());
+    let wall = row * row;
+    match D {
+        1 => spot_less(spot + 448, wall),
+        2 => Some(spot - 448 + BRICK_WORDS * wall),
+        3 => spot_less(spot + 56, row),
+        4 => Some(spot - 56 + BRICK_WORDS * row),
+        5 => spot_less(spot + 7, 1),
+        _ => Some(spot - 7 + BRICK_WORDS),
+    }
+}
+
+/// The word of the neighbour in a direction, which lies in another brick, 0 where there is none.
 #[inline(always)]
 fn word_across<const D: u8, L: Ledger>(cells: &Cells, spot: u32, steps: &mut Steps<L>) -> u32
     requires direction { (0 < D) × (D ≤ 6) }
@@ -125,15 +101,9 @@ fn word_across<const D: u8, L: Ledger>(cells: &Cells, spot: u32, steps: &mut Ste
     ensures touch { steps.new ≤ steps.old + 1 }
 {
     cells.recall();
-    let row = u32::from(cells.side());
-    let wall = row * row;
-    match D {
-        1 => word_before(cells, spot + 448, wall, steps),
-        2 => cells.word_at_spot(spot - 448 + BRICK_WORDS * wall, steps),
-        3 => word_before(cells, spot + 56, row, steps),
-        4 => cells.word_at_spot(spot - 56 + BRICK_WORDS * row, steps),
-        5 => word_before(cells, spot + 7, 1, steps),
-        _ => cells.word_at_spot(spot - 7 + BRICK_WORDS, steps),
+    match spot_across::<D>(cells, spot) {
+        Some(next) => cells.word_at_spot(next, steps),
+        None => 0,
     }
 }
 
