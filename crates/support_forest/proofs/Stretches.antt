@@ -7,15 +7,16 @@ use Rattle.vox_geom.specs.declared.coordinate.Coord.{Coord}
 use Rattle.vox_geom.specs.Space.{IsInSpace}
 use Rattle.support_forest.specs.Directions.{Toward, lies_left, lies_right, lies_under, lies_over, lies_near, lies_far}
 use Rattle.brick_arena.specs.Slots.{HasSlot, start_in_chunk, words_of}
-use Rattle.support_forest.specs.Grid.{Grid, IsStore, StandsAt, brick, side, slot_of, word_at, word_index}
-use Rattle.support_forest.specs.Placing.{IsIndexToward, IsWordToward}
+use Rattle.support_forest.specs.Access.{LieInBrick}
+use Rattle.support_forest.specs.Grid.{Grid, IsStore, StandsAt, StandsIn, brick, side, slot_at, slot_of, word_at, word_in, word_index}
+use Rattle.support_forest.specs.Placing.{IsIndexToward, IsSpotAcross, IsWordToward, NoneToward}
 use Rattle.support_forest.specs.Stretches.{EndsAreFree, IsBrickRow, LieInRow, IsStretch, RowHangsNot, RowIsFree, SideHangsNot, SidesAreFree, WordsHangNot, further, whole_row_start}
 use Rattle.support_forest.specs.Taking.{HangsNot}
 use Rattle.support_forest.specs.Words.{AreExact}
 use Rattle.support_forest.proofs.Nearby.{same_slot, stands_beside}
 use Rattle.support_forest.proofs.Sides.{one_toward}
 use Rattle.support_forest.proofs.Store.{brick_inside, index_below}
-use Rattle.support_forest.proofs.Writes.{reads_index, reads_none}
+use Rattle.support_forest.proofs.Writes.{reads_index}
 
 -- ---- where a stretch begins
 
@@ -97,10 +98,6 @@ pub row_slot : (g : Grid) (c : Coord) (n k : ℕ) (own : Option ℕ) → LieInRo
     → own ≡ slot_of g (further c k)
 row_slot g c n k own h l e = same_slot g c (further c k) own (row_brick c n k h.row l) e
 
-pub row_void : (g : Grid) (c : Coord) (n toward : ℕ) → LieInRow g c n → None ≡ slot_of g c
-    → RowHangsNot (word_at g) c n toward
-row_void g c n toward h e k l f = let word_is : 0 ≡ word_at g (further c k) = reads_none g (further c k) (row_space g c n k h l) (row_slot g c n k None h l e) in absurd (omega arith)
-
 pub row_index : (c : Coord) (n k index : ℕ) → c.z % 8 + n ≤ 8 → k < n → index ≡ word_index c
     → word_index (further c k) ≡ index + k
 unfolding word_index
@@ -131,6 +128,31 @@ row_in_slot g chunk slot index from n c P s b r e h i f w k l =
     let here : get_or chunk (from + k) 0 ≡ get_or (words_of g.bricks slot) (index + k) 0 = ap (λ (j : ℕ). get_or chunk j 0) place ∙ h.each (index + k) below in
     subst P (here ∙ sym read) (w k l)
 
+-- the place of a row in its line of a brick, by its index
+pub row_part : (q : Coord) (index n : ℕ) → word_index q ≡ index → index % 8 + n ≤ 8 → q.z % 8 + n ≤ 8
+unfolding word_index
+row_part q index n e r = omega arith
+
+-- the words of a row that stands in a brick of the table, which may lie beyond space
+pub standing_row : (g : Grid) (chunk : List ℕ) (slot number index from n : ℕ) (q : Coord) (P : ℕ → Type 0) → IsStore g
+    → StandsIn g.resolution number index q → index % 8 + n ≤ 8 → Some slot ≡ slot_at g.table number
+    → HasSlot g.bricks slot chunk → from ≡ start_in_chunk slot + index
+    → ((k : ℕ) → k < n → P (get_or chunk (from + k) 0)) → (k : ℕ) → k < n → P (word_at g (further q k))
+standing_row g chunk slot number index from n q P store s r e h f w =
+    row_in_slot g chunk slot index from n q P store s.within (row_part q index n s.at_index r)
+    (ap (λ (k : ℕ). slot_at g.table k) s.in_brick ∙ sym e) h (sym s.at_index) f w
+
+-- a row that stands in a brick without a slot is void
+pub standing_void : (g : Grid) (number index n toward : ℕ) (q : Coord) → IsStore g
+    → StandsIn g.resolution number index q → index % 8 + n ≤ 8 → None ≡ slot_at g.table number
+    → RowHangsNot (word_at g) q n toward
+standing_void g number index n toward q store s r e k l f =
+    let same : brick (further q k) ≡ brick q = row_brick q n k (row_part q index n s.at_index r) l in
+    let slot : None ≡ slot_of g (further q k) = same_slot g q (further q k) None same (e ∙ ap (λ (j : ℕ). slot_at g.table j) (sym s.in_brick)) in
+    let word_is : 0 ≡ word_at g (further q k) = ap (λ (o : Option ℕ). word_in g.bricks o (word_index (further q k))) slot
+        ∙ store.words (further q k) (subst (λ (b : Coord). IsInSpace (side g.resolution) b) (sym same) s.within) in
+    absurd (omega arith)
+
 -- ---- the words at a side
 
 -- what lies beside a voxel lies so, as much later, beside a later one
@@ -154,14 +176,6 @@ same_height d c q r (lies_over h) = omega arith
 same_height d c q r (lies_near h) = absurd (omega arith)
 same_height d c q r (lies_far h) = absurd (omega arith)
 
-pub side_row : (g : Grid) (c q : Coord) (n d : ℕ) → (0 < d) × (d ≤ 4) → LieInRow g c n → Toward d c q
-    → IsInSpace g.resolution q → LieInRow g q n
-side_row g c q n d r h t s = let same_z : q.z ≡ c.z = same_height d c q r.1 t in record {
-  within = s;
-  last = let last = h.last in omega arith;
-  row = let row = h.row in omega arith;
-}
-
 pub side_free : (w : Coord → ℕ) (c q : Coord) (n d toward : ℕ) → (0 < d) × (d ≤ 4) → Toward d c q
     → RowHangsNot w q n toward → SideHangsNot w c n d toward
 side_free w c q n d toward r t h k p l u = subst (λ (x : Coord). HangsNot (w x) toward) (sym (beside_further d k c q p r.1 t u)) (h k l)
@@ -175,32 +189,37 @@ side_back d k c p r (lies_over h) = lies_over (h.0, h.1, h.2, refl)
 side_back d k c p r (lies_near h) = absurd (omega arith)
 side_back d k c p r (lies_far h) = absurd (omega arith)
 
-pub side_none : (g : Grid) (r : ℕ) (c : Coord) (n d toward : ℕ) → (0 < d) × (d ≤ 4) → LieInRow g c n → r ≡ g.resolution
-    → ((q : Coord) → 0 < word_at g q → IsInSpace g.resolution q) → ((q : Coord) → Toward d c q → IsInSpace r q → ⊥)
-    → SideHangsNot (word_at g) c n d toward
-side_none g r c n d toward b h e space none k p l t f m =
-    let space_here = space p (omega arith) in
+pub side_none : (g : Grid) (c : Coord) (n d toward own : ℕ) → (0 < d) × (d ≤ 4) → LieInBrick g c own
+    → NoneToward g.resolution c d → SideHangsNot (word_at g) c n d toward
+side_none g c n d toward own b h none k p l t f m =
+    let space_here = h.space p (omega arith) in
     let within_z = h.within.z in
-    none (record { x = p.x; y = p.y; z = c.z }) (side_back d k c p b.1 t) (subst (λ (i : ℕ). IsInSpace i (record { x = p.x; y = p.y; z = c.z })) (sym e) (record { x = space_here.x; y = space_here.y; z = within_z }))
+    none (record { x = p.x; y = p.y; z = c.z }) (side_back d k c p b.1 t) (record { x = space_here.x; y = space_here.y; z = within_z })
 
 -- a side in the brick at hand
 pub side_in_slot : (g : Grid) (chunk : List ℕ) (slot index from n d toward : ℕ) (c : Coord) → (0 < d) × (d ≤ 4)
-    → IsStore g → IsBrickRow g slot c n → HasSlot g.bricks slot chunk → IsIndexToward c d index
+    → IsStore g → LieInBrick g c slot → c.z % 8 + n ≤ 8 → HasSlot g.bricks slot chunk → IsIndexToward c d index
     → from ≡ start_in_chunk slot + index → WordsHangNot chunk from n toward → SideHangsNot (word_at g) c n d toward
-side_in_slot g chunk slot index from n d toward c r s b h t f w =
-    let at : StandsAt g slot index t.there = stands_beside g c d slot index b.row.within b.own t in
+side_in_slot g chunk slot index from n d toward c r s b row h t f w =
+    let at : StandsAt g slot index t.there = stands_beside g c d slot index b.within b.slot t in
     let same_z : t.there.z ≡ c.z = same_height d c t.there r.1 t.toward in
-    let row = b.row.row in
     side_free (word_at g) c t.there n d toward r t.toward
     (row_in_slot g chunk slot index from n t.there (λ v. HangsNot v toward) s at.within (omega arith) at.in_slot h (sym at.at_index) f w)
 
-pub side_in_chunk : (g : Grid) (chunk : List ℕ) (slot index from n d : ℕ) (c : Coord) → d ≤ 4 → IsBrickRow g slot c n
+pub side_in_chunk : (g : Grid) (chunk : List ℕ) (slot index from n d : ℕ) (c : Coord) → d ≤ 4 → c.z % 8 + n ≤ 8
     → HasSlot g.bricks slot chunk → IsIndexToward c d index → from ≡ start_in_chunk slot + index
     → from + n ≤ length chunk
-side_in_chunk g chunk slot index from n d c r b h t f =
+side_in_chunk g chunk slot index from n d c r row h t f =
     let same_z : t.there.z ≡ c.z = same_height d c t.there r t.toward in
-    let row = b.row.row in
     row_in_chunk g chunk slot index from n t.there h (sym t.at_index) (omega arith) f
+
+-- a side over the border of the brick: what stands at its spot is the row beside, or none lies in space
+pub side_across : (g : Grid) (c : Coord) (n d toward next own : ℕ) → (0 < d) × (d ≤ 4) → LieInBrick g c own
+    → IsSpotAcross g.resolution c d next
+    → ((q : Coord) → StandsIn g.resolution (next / 512) (next % 512) q → RowHangsNot (word_at g) q n toward)
+    → SideHangsNot (word_at g) c n d toward
+side_across g c n d toward next own r b (inl s) free = side_free (word_at g) c s.there n d toward r s.toward (free s.there s.stands)
+side_across g c n d toward next own r b (inr s) free = side_none g c n d toward own r b s.0
 
 pub end_free : (w : Coord → ℕ) (c : Coord) (d toward word : ℕ) → IsWordToward w c d word → HangsNot word toward
     → SideHangsNot w c 1 d toward
@@ -273,19 +292,13 @@ whole_row_in_slot g chunk slot index from c P s w e h i f v =
     (subst (λ (x : Coord). IsInSpace (side g.resolution) x) (sym (whole_row_brick c)) (brick_inside g.resolution c w)) (omega arith)
     (sym (same_slot g c (whole_row_start c) (Some slot) (whole_row_brick c) (sym e))) h i f v
 
-pub whole_brick_row : (g : Grid) (own : ℕ) (c : Coord) (n : ℕ) → IsBrickRow g own c n → c.z / 8 * 8 + 8 ≤ g.resolution
-    → IsBrickRow g own (whole_row_start c) 8
-whole_brick_row g own c n b l =
-    record {
-      some = omega arith;
-      own = sym (same_slot g c (whole_row_start c) (Some own) (whole_row_brick c) (sym b.own));
-      row = record {
-        within = record { x = b.row.within.x; y = b.row.within.y; z = omega arith };
-        last = l;
-        row = omega arith;
-      };
-      space = b.space;
-    }
+-- the first voxel of the whole row lies in the brick too
+pub whole_row_lies : (g : Grid) (own : ℕ) (c : Coord) → LieInBrick g c own → LieInBrick g (whole_row_start c) own
+whole_row_lies g own c b = record {
+  within = record { x = b.within.x; y = b.within.y; z = let along_z = b.within.z in omega arith };
+  slot = sym (same_slot g c (whole_row_start c) (Some own) (whole_row_brick c) (sym b.slot));
+  space = b.space;
+}
 
 pub row_free : (w : Coord → ℕ) (c : Coord) (n : ℕ) → SidesAreFree w c n → EndsAreFree w c n → RowIsFree w c n
 row_free w c n s e = record { left = s.left; right = s.right; under = s.under; over = s.over; near = e.near; own = s.own; far = e.far }

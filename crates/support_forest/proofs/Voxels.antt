@@ -11,6 +11,7 @@ use Rattle.vox_geom.proofs.Tests.{test_equal, test_unequal}
 use Rattle.support_forest.specs.Grid.{Grid, IsStore, StandsIn, brick, brick_number, side, slot_at, slot_of, word_index}
 use Rattle.support_forest.specs.Placing.{IsOwnSpot}
 use Rattle.support_forest.specs.Spots.{spot_of, voxel_of, voxel_in, voxel_of_brick}
+use Rattle.support_forest.specs.Stretches.{further, whole_row_start}
 use Rattle.support_forest.proofs.Store.{brick_inside, cube_of_bricks, few_bricks, index_below}
 
 high : (b i : ℕ) → i < 8 → (8 * b + i) / 8 ≡ b
@@ -124,6 +125,38 @@ pub live_slot : (g : Grid) (number : ℕ) (slot : Option ℕ) → IsStore g → 
     → IfSome slot (IsLive g.bricks)
 live_slot g number None h e = search rules
 live_slot g number (Some slot) h e = h.live number slot (sym e)
+
+-- ---- along a row of a brick
+
+pub voxel_further : (s p k : ℕ) → p % 8 + k < 8 → voxel_of s (p + k) ≡ further (voxel_of s p) k
+unfolding voxel_of
+voxel_further s p k r =
+    let number : (p + k) / 512 ≡ p / 512 = omega arith in
+    let x_is : (p + k) % 512 / 64 ≡ p % 512 / 64 = omega arith in
+    let y_is : (p + k) % 512 / 8 % 8 ≡ p % 512 / 8 % 8 = omega arith in
+    let z_is : (p + k) % 512 % 8 ≡ p % 512 % 8 + k = omega arith in
+    let same : voxel_of_brick (coordinate_at s ((p + k) / 512)) ((p + k) % 512) ≡ voxel_of_brick (coordinate_at s (p / 512)) ((p + k) % 512) = ap (λ (n : ℕ). voxel_of_brick (coordinate_at s n) ((p + k) % 512)) number in
+    let brick_is = coordinate_at s (p / 512) in
+    let sum_is : 8 * brick_is.z + (p % 512 % 8 + k) ≡ 8 * brick_is.z + p % 512 % 8 + k = omega arith in
+    same ∙ (λ j. record { x = 8 * brick_is.x + x_is j; y = 8 * brick_is.y + y_is j; z = 8 * brick_is.z + z_is j }) ∙ (λ j. record { x = 8 * brick_is.x + p % 512 / 64; y = 8 * brick_is.y + p % 512 / 8 % 8; z = sum_is j })
+
+pub whole_row_there : (s p : ℕ) → voxel_of s (p / 8 * 8) ≡ whole_row_start (voxel_of s p)
+unfolding voxel_of
+whole_row_there s p =
+    let number : p / 8 * 8 / 512 ≡ p / 512 = omega arith in
+    let x_is : p / 8 * 8 % 512 / 64 ≡ p % 512 / 64 = omega arith in
+    let y_is : p / 8 * 8 % 512 / 8 % 8 ≡ p % 512 / 8 % 8 = omega arith in
+    let brick_is = coordinate_at s (p / 512) in
+    let z_is : 8 * brick_is.z + p / 8 * 8 % 512 % 8 ≡ (8 * brick_is.z + p % 512 % 8) / 8 * 8 = omega arith in
+    ap (λ (n : ℕ). voxel_of_brick (coordinate_at s n) (p / 8 * 8 % 512)) number
+    ∙ (λ j. record { x = 8 * brick_is.x + x_is j; y = 8 * brick_is.y + y_is j; z = z_is j })
+
+-- a spot's part in its row of eight is that of its voxel
+pub part_there : (s p n : ℕ) → (voxel_of s p).z % 8 + n ≤ 8 → p % 8 + n ≤ 8
+part_there s p n h = let digit = digit_z s p in omega arith
+
+pub part_of_row : (s p n : ℕ) → p % 8 + n ≤ 8 → (voxel_of s p).z % 8 + n ≤ 8
+part_of_row s p n h = let digit = digit_z s p in omega arith
 
 -- ---- the floor
 

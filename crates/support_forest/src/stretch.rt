@@ -1,7 +1,7 @@
 //! Takes away voxels that follow one another along z in a row of a brick: their slots are looked up once.
 //!
 //! Where a neighbour has its parent among them all of them are listed: to try each alone would read the words beside it again.
-ghost use Rattle.std.specs.Prelude.{◌≡◌, ℕ, ◌+◌, ◌-◌, ◌*◌, ◌%◌, ◌^◌, ◌<◌, ◌≤◌, IfOk, IfSome, Some, false, true, length, slice_index_or};
+ghost use Rattle.std.specs.Prelude.{◌≡◌, ℕ, ◌+◌, ◌-◌, ◌*◌, ◌/◌, ◌%◌, ◌^◌, ◌<◌, ◌≤◌, IfOk, IfSome, Some, false, true, length, slice_index_or};
 ghost use Rattle.vox_geom.specs.Space.{IsInSpace};
 ghost use Rattle.vox_geom.specs.declared.coordinate.Coord.{Coord};
 ghost use Rattle.support_forest.specs.Access.{LieInBrick};
@@ -303,6 +303,7 @@ fn clear_voxels<L: Ledger>(
     requires { CanClear cells.old own (voxel_in cells.old spot) count }
     ensures { AreCleared cells.old cells.new (voxel_in cells.old spot) 0 count steps.old steps.new }
 {
+    cells.recall();
     let mut left = count;
     while left > 0 {
         left -= 1;

@@ -1,36 +1,85 @@
-use Rattle.std.proofs.Common.{◌≡◌, ℕ, ◌-◌, arith, subst, Some, sym}
-use Rattle.support_forest.specs.Stretches.{AreCleared, further}
+use Rattle.std.proofs.Common.{◌≡◌, ℕ, ◌+◌, ◌-◌, ◌%◌, ◌<◌, ◌≤◌, ◌∙◌, Some, ap, arith, subst, sym}
+use Rattle.vox_geom.specs.declared.coordinate.Coord.{Coord}
+use Rattle.vox_geom.specs.Space.{IsInSpace}
+use Rattle.support_forest.specs.Grid.{Grid, side, slot_of, word_at}
+use Rattle.support_forest.specs.Spots.{voxel_in, voxel_of}
+use Rattle.support_forest.specs.Stretches.{AreCleared, LieInRow, further}
+use Rattle.support_forest.specs.Words.{IsWritten}
 use Rattle.support_forest.proofs.Clearing.{before_left, cleared_more}
 use Rattle.support_forest.proofs.Nearby.{slot_stays}
-use Rattle.support_forest.proofs.Stretches.{row_slot}
+use Rattle.support_forest.proofs.Stretches.{row_slot, row_space}
+use Rattle.support_forest.proofs.Voxels.{part_there, spot_small, voxel_further}
 use Rattle.support_forest.proofs.stretch.clear_voxels.Goals as goal
 
-pub word_in-word-requires-clause-slot : goal.word_in-word-requires-clause-slot
-word_in-word-requires-clause-slot g c =
-    let invariant = c.loop-left.invariant in
-    let within = invariant.within in
-    slot_stays c.args.cells.now c.loop-left.cells (further c.args.first (c.loop-left.left - 1)) (Some c.args.own) invariant.table invariant.resolution
-    (row_slot c.args.cells.now c.args.first c.args.count (c.loop-left.left - 1) (Some c.args.own) c.requires.row.row (let goes_on = c.loop-left-test.true in omega arith) (sym c.requires.row.own))
+-- the voxel at a later spot of the row, in a store of the same resolution
+later : (old now : Grid) (spot n k behind : ℕ) → now.resolution ≡ old.resolution → LieInRow old (voxel_in old spot) n → k < n
+    → behind ≡ k → voxel_in now (spot + behind) ≡ further (voxel_in old spot) k
+later old now spot n k behind same row l e =
+    let part = part_there (side old.resolution) spot n row.row in
+    ap (λ (r : ℕ). voxel_of (side r) (spot + behind)) same ∙ (voxel_further (side old.resolution) spot behind (omega arith) ∙ ap (further (voxel_in old spot)) e)
 
-pub write-requires-clause-slot : goal.write-requires-clause-slot
-write-requires-clause-slot g c =
+pub overflow_add-at : goal.overflow_add-at
+overflow_add-at g c =
+    let within = c.loop-left.invariant.within in
+    let small = spot_small c.args.cells.now.resolution c.args.spot c.recall.ensures.few c.requires.row.row.within in
+    let part = part_there (side c.args.cells.now.resolution) c.args.spot c.args.count c.requires.row.row.row in
+    omega (arith, c.from.ensures)
+
+pub word_at-word-requires-clause-within : goal.word_at-word-requires-clause-within
+word_at-word-requires-clause-within g c =
     let invariant = c.loop-left.invariant in
     let within = invariant.within in
-    sym (slot_stays c.args.cells.now c.loop-left.cells (further c.args.first (c.loop-left.left - 1)) (Some c.args.own) invariant.table invariant.resolution
-    (row_slot c.args.cells.now c.args.first c.args.count (c.loop-left.left - 1) (Some c.args.own) c.requires.row.row (let goes_on = c.loop-left-test.true in omega arith) (sym c.requires.row.own)))
+    let goes_on = c.loop-left-test.true in
+    let here = later c.args.cells.now c.loop-left.cells c.args.spot c.args.count (c.loop-left.left - 1) c.from.result invariant.resolution c.requires.row.row (omega arith) c.from.ensures in
+    subst (λ (p : Coord). IsInSpace c.loop-left.cells.resolution p) (sym here)
+    (subst (λ (r : ℕ). IsInSpace r (further (voxel_in c.args.cells.now c.args.spot) (c.loop-left.left - 1))) (sym invariant.resolution)
+    (row_space c.args.cells.now (voxel_in c.args.cells.now c.args.spot) c.args.count (c.loop-left.left - 1) c.requires.row.row (omega arith)))
+
+pub word_at-word-requires-clause-slot : goal.word_at-word-requires-clause-slot
+word_at-word-requires-clause-slot g c =
+    let invariant = c.loop-left.invariant in
+    let within = invariant.within in
+    let goes_on = c.loop-left-test.true in
+    let here = later c.args.cells.now c.loop-left.cells c.args.spot c.args.count (c.loop-left.left - 1) c.from.result invariant.resolution c.requires.row.row (omega arith) c.from.ensures in
+    subst (λ (p : Coord). Some c.args.own ≡ slot_of c.loop-left.cells p) (sym here)
+    (slot_stays c.args.cells.now c.loop-left.cells (further (voxel_in c.args.cells.now c.args.spot) (c.loop-left.left - 1)) (Some c.args.own) invariant.table invariant.resolution
+    (row_slot c.args.cells.now (voxel_in c.args.cells.now c.args.spot) c.args.count (c.loop-left.left - 1) (Some c.args.own) c.requires.row.row (omega arith) (sym c.requires.row.own)))
+
+pub write_at-requires-clause-within : goal.write_at-requires-clause-within
+write_at-requires-clause-within g c =
+    let invariant = c.loop-left.invariant in
+    let within = invariant.within in
+    let goes_on = c.loop-left-test.true in
+    let here = later c.args.cells.now c.loop-left.cells c.args.spot c.args.count (c.loop-left.left - 1) c.from.result invariant.resolution c.requires.row.row (omega arith) c.from.ensures in
+    subst (λ (p : Coord). IsInSpace c.loop-left.cells.resolution p) (sym here)
+    (subst (λ (r : ℕ). IsInSpace r (further (voxel_in c.args.cells.now c.args.spot) (c.loop-left.left - 1))) (sym invariant.resolution)
+    (row_space c.args.cells.now (voxel_in c.args.cells.now c.args.spot) c.args.count (c.loop-left.left - 1) c.requires.row.row (omega arith)))
+
+pub write_at-requires-clause-slot : goal.write_at-requires-clause-slot
+write_at-requires-clause-slot g c =
+    let invariant = c.loop-left.invariant in
+    let within = invariant.within in
+    let goes_on = c.loop-left-test.true in
+    let here = later c.args.cells.now c.loop-left.cells c.args.spot c.args.count (c.loop-left.left - 1) c.from.result invariant.resolution c.requires.row.row (omega arith) c.from.ensures in
+    subst (λ (p : Coord). slot_of c.loop-left.cells p ≡ Some c.args.own) (sym here)
+    (sym (slot_stays c.args.cells.now c.loop-left.cells (further (voxel_in c.args.cells.now c.args.spot) (c.loop-left.left - 1)) (Some c.args.own) invariant.table invariant.resolution
+    (row_slot c.args.cells.now (voxel_in c.args.cells.now c.args.spot) c.args.count (c.loop-left.left - 1) (Some c.args.own) c.requires.row.row (omega arith) (sym c.requires.row.own))))
 
 pub loop-left-preserved : goal.loop-left-preserved
 loop-left-preserved g c =
     let invariant = c.loop-left.invariant in
     let within = invariant.within in
     let goes_on = c.loop-left-test.true in
-    let word_touch = c.word_in-word.ensures.touch in
-    let write_touch = c.write.ensures.touch in
-    cleared_more c.args.cells.now c.loop-left.cells c.write.new.self c.args.first (c.loop-left.left - 1) c.args.count c.args.steps.now c.loop-left.steps c.write.new.steps c.requires.free
-    (before_left c.args.cells.now c.loop-left.cells c.args.first c.loop-left.left c.args.count c.args.steps.now c.loop-left.steps (omega arith) invariant) (omega arith) c.write.ensures.written c.write.ensures.resolution c.write.ensures.slots (omega arith)
+    let word_touch = c.word_at-word.ensures.touch in
+    let write_touch = c.write_at.ensures.touch in
+    let first = voxel_in c.args.cells.now c.args.spot in
+    let here = later c.args.cells.now c.loop-left.cells c.args.spot c.args.count (c.loop-left.left - 1) c.from.result invariant.resolution c.requires.row.row (omega arith) c.from.ensures in
+    cleared_more c.args.cells.now c.loop-left.cells c.write_at.new.self first (c.loop-left.left - 1) c.args.count c.args.steps.now c.loop-left.steps c.write_at.new.steps c.requires.free
+    (before_left c.args.cells.now c.loop-left.cells first c.loop-left.left c.args.count c.args.steps.now c.loop-left.steps (omega arith) invariant) (omega arith)
+    (subst (λ (p : Coord). IsWritten (word_at c.loop-left.cells) (word_at c.write_at.new.self) p 0) here c.write_at.ensures.written) c.write_at.ensures.resolution c.write_at.ensures.slots (omega arith)
 
 pub returns : goal.returns
 returns g c =
     let at_end = c.loop-left-test.false in
     let left_zero : c.loop-left.left ≡ 0 = omega arith in
-    subst (λ (k : ℕ). AreCleared c.args.cells.now c.loop-left.cells c.args.first k c.args.count c.args.steps.now c.loop-left.steps) left_zero c.loop-left.invariant
+    subst (λ (k : ℕ). AreCleared c.args.cells.now c.loop-left.cells (voxel_in c.args.cells.now c.args.spot) k c.args.count c.args.steps.now c.loop-left.steps) left_zero c.loop-left.invariant

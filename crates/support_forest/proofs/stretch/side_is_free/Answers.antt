@@ -1,34 +1,40 @@
-use Rattle.std.proofs.Common.{ℕ, ◌+◌, arith, subst}
-use Rattle.vox_geom.specs.Space.{IsInSpace}
-use Rattle.support_forest.specs.Grid.{word_at}
-use Rattle.support_forest.proofs.Store.{index_below}
-use Rattle.support_forest.proofs.Stretches.{side_free, side_in_chunk, side_in_slot, side_none, side_row}
+use Rattle.std.proofs.Common.{arith}
+use Rattle.support_forest.specs.Access.{LieInBrick}
+use Rattle.support_forest.specs.Grid.{side}
+use Rattle.support_forest.specs.Spots.{voxel_in}
+use Rattle.support_forest.proofs.Across.{across_below}
+use Rattle.support_forest.proofs.Stretches.{side_across, side_in_chunk, side_in_slot, side_none}
+use Rattle.support_forest.proofs.Voxels.{part_of_row}
+use Rattle.support_forest.proofs.Within.{place_is}
 use Rattle.support_forest.proofs.stretch.side_is_free.Goals as goal
-
-pub overflow_add-from : goal.overflow_add-from
-overflow_add-from g c =
-    let some_ensured = c.in-Some.ensures in
-    let below = index_below some_ensured.there in
-    let same = some_ensured.at_index in
-    let start_in_chunk_ensured = c.start_in_chunk.ensures in
-    omega arith
 
 pub words_hang_not-requires-clause-within : goal.words_hang_not-requires-clause-within
 words_hang_not-requires-clause-within g c =
-    let start_in_chunk_ensured = c.start_in_chunk.ensures in
-    side_in_chunk c.args.cells.now c.args.chunk.now c.args.own c.in-Some.i (c.start_in_chunk.result + c.in-Some.i) c.args.count c.args.d c.args.first c.requires.direction.1 c.requires.row c.requires.chunk c.in-Some.ensures (omega arith)
+    let place = c.in-Some.ensures (side c.args.cells.now.resolution) in
+    side_in_chunk c.args.cells.now c.args.chunk.now c.args.own place.index c.in-Some.from c.args.count g.row.D (voxel_in c.args.cells.now c.args.spot) c.requires.direction.1
+    (part_of_row (side c.args.cells.now.resolution) c.args.spot c.args.count c.requires.row) c.requires.read.chunk place.toward
+    (place_is c.args.cells.now c.args.spot c.args.own g.row.D c.args.at c.in-Some.from c.args.chunk.now c.requires.read place)
 
 pub returns-in-Some-clause-none : goal.returns-in-Some-clause-none
 returns-in-Some-clause-none g c t =
-    let start_in_chunk_ensured = c.start_in_chunk.ensures in
-    side_in_slot c.args.cells.now c.args.chunk.now c.args.own c.in-Some.i (c.start_in_chunk.result + c.in-Some.i) c.args.count c.args.d c.args.toward c.args.first
-    c.requires.direction c.recall.ensures.store c.requires.row c.requires.chunk c.in-Some.ensures (omega arith) (c.words_hang_not.ensures.none t)
+    let place = c.in-Some.ensures (side c.args.cells.now.resolution) in
+    let lies : LieInBrick c.args.cells.now (voxel_in c.args.cells.now c.args.spot) c.args.own = record { within = c.requires.read.within; slot = c.requires.read.slot; space = c.requires.space } in
+    side_in_slot c.args.cells.now c.args.chunk.now c.args.own place.index c.in-Some.from c.args.count g.row.D c.args.toward (voxel_in c.args.cells.now c.args.spot) c.requires.direction
+    c.recall.ensures.store lies (part_of_row (side c.args.cells.now.resolution) c.args.spot c.args.count c.requires.row) c.requires.read.chunk place.toward
+    (place_is c.args.cells.now c.args.spot c.args.own g.row.D c.args.at c.in-Some.from c.args.chunk.now c.requires.read place) (c.words_hang_not.ensures.none t)
 
-pub row_is_free-requires : goal.row_is_free-requires
-row_is_free-requires g c = record { row = side_row c.args.cells.now c.args.first c.in-Some-neighbor.q c.args.count c.args.d c.requires.direction c.requires.row.row c.in-Some-neighbor.ensures.0 (subst (λ (r : ℕ). IsInSpace r c.in-Some-neighbor.q) c.resolution.ensures.value c.in-Some-neighbor.ensures.1) }
+pub row_is_free-requires-clause-number : goal.row_is_free-requires-clause-number
+row_is_free-requires-clause-number g c = let below = across_below _ _ g.row.D _ c.in-Some-spot_across.ensures.across in let bricks = c.recall.ensures.store.bricks in omega arith
 
-pub returns-in-Some-neighbor-clause-none : goal.returns-in-Some-neighbor-clause-none
-returns-in-Some-neighbor-clause-none g c t = side_free (word_at c.args.cells.now) c.args.first c.in-Some-neighbor.q c.args.count c.args.d c.args.toward c.requires.direction c.in-Some-neighbor.ensures.0 (c.row_is_free.ensures.none t)
+pub row_is_free-requires-clause-row : goal.row_is_free-requires-clause-row
+row_is_free-requires-clause-row g c = let line = c.in-Some-spot_across.ensures.line c.requires.direction.1 in let row = c.requires.row in omega arith
+
+pub returns-in-Some-spot_across-clause-none : goal.returns-in-Some-spot_across-clause-none
+returns-in-Some-spot_across-clause-none g c t =
+    let lies : LieInBrick c.args.cells.now (voxel_in c.args.cells.now c.args.spot) c.args.own = record { within = c.requires.read.within; slot = c.requires.read.slot; space = c.requires.space } in
+    side_across c.args.cells.now _ c.args.count g.row.D c.args.toward _ c.args.own c.requires.direction lies c.in-Some-spot_across.ensures.across (c.row_is_free.ensures.none t)
 
 pub returns-in-None-clause-none : goal.returns-in-None-clause-none
-returns-in-None-clause-none g c t = side_none c.args.cells.now c.resolution.result c.args.first c.args.count c.args.d c.args.toward c.requires.direction c.requires.row.row c.resolution.ensures.value c.requires.row.space c.in-None.ensures
+returns-in-None-clause-none g c t =
+    let lies : LieInBrick c.args.cells.now (voxel_in c.args.cells.now c.args.spot) c.args.own = record { within = c.requires.read.within; slot = c.requires.read.slot; space = c.requires.space } in
+    side_none c.args.cells.now _ c.args.count g.row.D c.args.toward c.args.own c.requires.direction lies c.in-None.ensures.across

@@ -1,6 +1,6 @@
 use Rattle.std.proofs.Common.{◌≡◌, ℕ, ◌+◌, ◌-◌, ◌*◌, ◌≤◌, arith, get_or, subst, sym}
 use Rattle.vox_geom.specs.declared.coordinate.Coord.{Coord}
-use Rattle.support_forest.specs.Stretches.{TakesMore}
+use Rattle.support_forest.specs.Stretches.{AreCleared, LieInRow, TakesMore}
 use Rattle.support_forest.specs.Taking.{HaveTaken}
 use Rattle.support_forest.proofs.Clearing.{one_listed, one_taken, row_cleared, row_listed}
 use Rattle.support_forest.proofs.Placing.{unless, when}
@@ -35,8 +35,9 @@ free_slot-requires-clause-row g c =
     let count = c.stretch_before-count.result in
     let count_ensured = c.stretch_before-count.ensures in
     let element = get_or c.args.gone.now (c.args.end - c.from.result) origin in
-    stretch_in_row c.args.cells.now c.args.gone.now c.args.end count element c.requires.exact
-    (count_ensured.stretch element (first_of c.args.gone.now c.args.end c.from.result count origin count_ensured.some count_ensured.below c.requires.within c.from.ensures)) count_ensured.below c.requires.full
+    subst (λ (p : Coord). LieInRow c.args.cells.now p count) (sym c.spot-spot.ensures.voxel)
+    (stretch_in_row c.args.cells.now c.args.gone.now c.args.end count element c.requires.exact
+    (count_ensured.stretch element (first_of c.args.gone.now c.args.end c.from.result count origin count_ensured.some count_ensured.below c.requires.within c.from.ensures)) count_ensured.below c.requires.full)
 
 pub returns-in-Some-clause-taken : goal.returns-in-Some-clause-taken
 returns-in-Some-clause-taken g c =
@@ -48,7 +49,8 @@ returns-in-Some-clause-taken g c =
     let n_large : 2 ≤ count = grind arith in
     subst (λ (k : ℕ). TakesMore c.args.cells.now c.clear_row.new.cells c.args.gone.now c.args.end (c.args.end - k) c.args.rest.now.items c.args.rest.now.items c.args.steps.now c.clear_row.new.steps) (sym c.from.ensures)
     (row_cleared c.args.cells.now c.clear_row.new.cells c.args.gone.now c.args.end count c.args.rest.now.items c.args.steps.now c.free_slot.new.steps c.clear_row.new.steps element n_large count_ensured.below
-    (count_ensured.stretch element (first_of c.args.gone.now c.args.end c.from.result count origin count_ensured.some count_ensured.below c.requires.within c.from.ensures)) c.free_slot.ensures.touches c.clear_row.ensures)
+    (count_ensured.stretch element (first_of c.args.gone.now c.args.end c.from.result count origin count_ensured.some count_ensured.below c.requires.within c.from.ensures)) c.free_slot.ensures.touches
+    (subst (λ (p : Coord). AreCleared c.args.cells.now c.clear_row.new.cells p 0 count c.free_slot.new.steps c.clear_row.new.steps) c.spot-spot.ensures.voxel c.clear_row.ensures))
 
 pub returns-clause-taken : goal.returns-clause-taken
 returns-clause-taken g c =
