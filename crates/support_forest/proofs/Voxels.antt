@@ -151,6 +151,15 @@ whole_row_there s p =
     ap (λ (n : ℕ). voxel_of_brick (coordinate_at s n) (p / 8 * 8 % 512)) number
     ∙ (λ j. record { x = 8 * brick_is.x + x_is j; y = 8 * brick_is.y + y_is j; z = z_is j })
 
+-- ---- along a line through space
+
+pub voxel_along : (r line : ℕ) (c : Coord) → line ≡ spot_of r (record { x = c.x; y = c.y; z = 0 }) → IsInSpace r c
+    → voxel_of (side r) (line + 512 * (c.z / 8) + c.z % 8) ≡ c
+unfolding spot_of brick_number word_index
+voxel_along r line c e h =
+    let bricks = brick_inside r c h in
+    voxel_there r (line + 512 * (c.z / 8) + c.z % 8) c bricks (omega arith) (omega arith)
+
 -- a spot's part in its row of eight is that of its voxel
 pub part_there : (s p n : ℕ) → (voxel_of s p).z % 8 + n ≤ 8 → p % 8 + n ≤ 8
 part_there s p n h = let digit = digit_z s p in omega arith

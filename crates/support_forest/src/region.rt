@@ -137,6 +137,7 @@ fn take_row<L: Ledger>(
         rest.new.items) }
     ensures touches { IfOk result (λ _. steps.new ≤ steps.old + 40 * (end - first.z)) }
 {
+    cells.recall();
     let line = cells.spot(Coord { z: 0, ..first });
     let mut left = end;
     while left > first.z {
