@@ -5,6 +5,7 @@ ghost use Rattle.vox_geom.specs.Space.{IsInSpace, place as place_of};
 ghost use Rattle.vox_geom.specs.declared.coordinate.Coord.{Coord as Coordinate};
 ghost use Rattle.support_forest.specs.Grid.{slot_of, word_at};
 ghost use Rattle.support_forest.specs.Heap.{AreBrickSlots, CanStack, CanStackPart, HaveStacked, IsHeaped, IsPile, IsSomeHeap, RowStands};
+ghost use Rattle.support_forest.specs.Spots.{voxel_in};
 ghost use Rattle.support_forest.specs.Standing.{matrix_of};
 ghost use Rattle.support_forest.specs.Stretches.{LieInRow};
 ghost use Rattle.support_forest.specs.Words.{AreExact};
@@ -14,6 +15,8 @@ ghost use Rattle.vox_planes.specs.Places.{voxel_at};
 use crate::add::add_cells;
 use crate::cells::{BRICK_SIDE, Cells, word_index};
 use crate::lists::Lists;
+use crate::spots::{ends_brick, spot_along};
+use crate::toward::spot_across;
 use brick_arena::{Chunk, start_in_chunk};
 use std::alloc::{AllocError, Global};
 use std::sync::ledger::Ledger;
@@ -51,19 +54,20 @@ fn stack<L: Ledger>(
     true
 }
 
-/// The slot of the brick of the voxel under one. `own` is the slot of the voxel's own brick, which mostly is the same.
-fn slot_under(cells: &Cells, c: Coord, own: u32) -> Option<u32>
-    requires within { IsInSpace cells.now.resolution c }
-    requires own { slot_of cells.now c ≡ Some own }
-    ensures { 0 < c.y → result ≡ slot_of cells.now (under_of c) }
+/// The slot of the brick of the voxel under that at a spot. `own` is the slot of the voxel's own brick, which mostly is the same.
+fn slot_under(cells: &Cells, spot: u32, own: u32) -> Option<u32>
+    requires within { IsInSpace cells.now.resolution (voxel_in cells.now spot) }
+    requires own { slot_of cells.now (voxel_in cells.now spot) ≡ Some own }
+    ensures { 0 < (voxel_in cells.now spot).y → result ≡ slot_of cells.now (under_of (voxel_in cells.now spot)) }
 {
-    if c.y % BRICK_SIDE != 0 {
+    cells.recall();
+    if !ends_brick::<3>(spot) {
         return Some(own);
     }
-    if c.y == 0 {
-        return None;
+    match spot_across::<3>(cells, spot) {
+        Some(under) => cells.slot_beyond(under),
+        None => None,
     }
-    cells.slot(Coord { y: c.y - 1, ..c })
 }
 
 /// Whether no word of the chunk from one on is 0. All are looked at, so that they can be read at once.
@@ -146,15 +150,18 @@ fn heap_word(y: u16) -> u32
     if y == 0 { 8 } else { 8 * u32::from(y) + 11 }
 }
 
-/// Stacks a whole row of full voxels, each on the floor or on a full one. `own` is the slot of their brick.
+/// Stacks a whole row of full voxels, each on the floor or on a full one. The first is at that spot, and `own` is the slot of their
+/// brick.
 #[inline(always)]
 fn pile_row<L: Ledger>(
     cells: &mut Cells,
     planes: &Planes,
     first: Coord,
+    spot: u32,
     own: u32,
     steps: &mut Steps<L>,
 )
+    requires spot { voxel_in cells.old spot ≡ first }
     requires row { LieInRow cells.old first 8 }
     requires own { slot_of cells.old first ≡ Some own }
     requires full { (k : ℕ) → k < 8 → IsTrue (voxel_at planes.now (place_of planes.now.resolution first + k)) }
@@ -165,7 +172,6 @@ fn pile_row<L: Ledger>(
         → IsHeaped planes.now cells.new (place_of planes.now.resolution first + 8) rest }
     ensures touches { steps.new ≤ steps.old + 8 }
 {
-    let spot = cells.spot(first);
     cells.write_row(own, spot, heap_word(first.y), steps);
 }
 
@@ -205,17 +211,19 @@ fn stack_each<L: Ledger>(
 }
 
 /// Stacks the full ones of some voxels of a row in one brick, whose bits are the lowest of a word, or lists them. Most rows of a
-/// model are whole and stand on whole ones.
+/// model are whole and stand on whole ones. The first is at that spot.
 fn stack_part<L: Ledger>(
     cells: &mut Cells,
     planes: &Planes,
     first: Coord,
+    spot: u32,
     count: u16,
     bits: u64,
     rest: &mut Vec<Coord>,
     steps: &mut Steps<L>,
 ) -> Result<(), AllocError>
-    requires { CanStackPart planes.now cells.old first count bits rest.old.items }
+    requires spot { voxel_in cells.old spot ≡ first }
+    requires part { CanStackPart planes.now cells.old first count bits rest.old.items }
     ensures heaped { IfOk result
         (λ _. IsHeaped planes.now cells.new (place_of planes.now.resolution first + count) rest.new.items) }
     ensures touches { IfOk result (λ _. steps.new ≤ steps.old + 8 * count) }
@@ -224,10 +232,10 @@ fn stack_part<L: Ledger>(
     if bits % 256 == 0 {
         return Ok(());
     }
-    let own = cells.take_slot(first)?;
-    let below = slot_under(cells, first, own);
+    let own = cells.take_slot_at(spot)?;
+    let below = slot_under(cells, spot, own);
     if is_pile(cells, first, count, bits, below, steps) {
-        pile_row(cells, planes, first, own, steps);
+        pile_row(cells, planes, first, spot, own, steps);
         return Ok(());
     }
     stack_each(cells, planes, first, count, bits, own, below, rest, steps)
@@ -250,6 +258,8 @@ fn stack_some<L: Ledger>(
         (λ _. IsHeaped planes.now cells.new (place_of planes.now.resolution first + count) rest.new.items) }
     ensures touches { IfOk result (λ _. steps.new ≤ steps.old + 9 * count) }
 {
+    cells.recall();
+    let line = cells.spot(Coord { z: 0, ..first });
     let from = place(first, planes.resolution());
     let bits = planes.places(from, u32::from(count), steps);
     let mut k = 0;
@@ -260,6 +270,7 @@ fn stack_some<L: Ledger>(
             cells,
             planes,
             Coord { z, ..first },
+            spot_along(line, z),
             part,
             bits >> k,
             rest,

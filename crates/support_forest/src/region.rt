@@ -10,7 +10,8 @@ ghost use Rattle.support_forest.specs.Stretches.{IsBrickRow, LieInRow, further, 
 ghost use Rattle.support_forest.specs.Words.{AreExact};
 
 use crate::beside::place_in_chunk;
-use crate::cells::{BRICK_SIDE, BRICK_WORDS, Cells};
+use crate::cells::{BRICK_SIDE, Cells};
+use crate::spots::spot_along;
 use crate::stretch::{clear_row, part_is_free, start_of_row};
 use brick_arena::Chunk;
 use std::alloc::AllocError;
@@ -109,15 +110,6 @@ fn take_part<L: Ledger>(
         return Ok(());
     }
     list_part(cells, own, first, count, rest, steps)
-}
-
-/// The spot so many voxels further along z than the first of a line through space.
-#[inline(always)]
-fn spot_along(line: u32, z: u16) -> u32
-    requires fits { line < 67917312 }
-    ensures { result ≡ line + 512 * (z / 8) + z % 8 }
-{
-    line + BRICK_WORDS * u32::from(z / BRICK_SIDE) + u32::from(z % BRICK_SIDE)
 }
 
 /// The full voxels of a row from one on, before `end`, become void, or are listed.

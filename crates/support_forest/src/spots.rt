@@ -1,9 +1,9 @@
-//! The spots of a voxel's neighbours.
-ghost use Rattle.std.specs.Prelude.{◌≡◌, ℕ, ◌+◌, ◌*◌, ◌/◌, ◌<◌, ◌≤◌, MatchBool};
+//! The spots of a voxel's neighbours, and of those of a line.
+ghost use Rattle.std.specs.Prelude.{◌≡◌, ℕ, ◌+◌, ◌*◌, ◌/◌, ◌%◌, ◌<◌, ◌≤◌, MatchBool};
 ghost use Rattle.support_forest.specs.Placing.{EndsBrick};
 ghost use Rattle.support_forest.specs.Spots.{IsBrickBeside, IsSpotNext, StaysInBrick, voxel_of};
 
-use crate::cells::BRICK_WORDS;
+use crate::cells::{BRICK_SIDE, BRICK_WORDS};
 
 /// Whether the voxel at a spot is the last of its brick in a direction.
 #[inline(always)]
@@ -69,4 +69,13 @@ pub fn spot_toward<const D: u8>(spot: u32, side: u16) -> u32
         5 => spot_before(spot, spot % 8, 1, 1),
         _ => spot_behind(spot, spot % 8, 1, 1),
     }
+}
+
+/// The spot so many voxels further along z than the first of a line through space.
+#[inline(always)]
+pub fn spot_along(line: u32, z: u16) -> u32
+    requires fits { line < 67917312 }
+    ensures { result ≡ line + 512 * (z / 8) + z % 8 }
+{
+    line + BRICK_WORDS * u32::from(z / BRICK_SIDE) + u32::from(z % BRICK_SIDE)
 }

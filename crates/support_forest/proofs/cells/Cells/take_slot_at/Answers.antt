@@ -1,0 +1,8 @@
+use Rattle.std.proofs.Common.{◌≡◌, ℕ, ◌∙◌, ap, arith}
+use Rattle.support_forest.specs.Grid.{brick_number, side, slot_at}
+use Rattle.support_forest.specs.Spots.{voxel_in}
+use Rattle.support_forest.proofs.Voxels.{number_at, number_below}
+use Rattle.support_forest.proofs.cells.Cells.take_slot_at.Goals as goal
+
+pub slot_for-requires : goal.slot_for-requires
+slot_for-requires c = let below = number_below c.args.self.now.resolution c.args.spot c.requires in let bricks = c.recall.ensures.store.bricks in omega arith
