@@ -1,6 +1,9 @@
 use Rattle.std.proofs.Common.{◌≡◌, ℕ, arith, inl, inr, subst}
 use Rattle.std.proofs.lemmas.Bool.{cases_lt}
+use Rattle.vox_geom.specs.declared.coordinate.Coord.{Coord}
 use Rattle.vox_geom.specs.Space.{IsInSpace}
+use Rattle.support_forest.specs.Grid.{word_at}
+use Rattle.support_forest.specs.Stretches.{AreWritten, further}
 use Rattle.support_forest.proofs.Stacking.{CanPile, piled, void_to_come}
 use Rattle.support_forest.proofs.heap.pile_row.Goals as goal
 
@@ -10,7 +13,8 @@ write_row-requires-clause-level g c e =
     elim (cases_lt 0 c.args.first.y) [ inl l ↦ let above = heap_word_ensured.above l in omega arith | inr l ↦ let same_y : c.args.first.y ≡ 0 = omega arith in let floor = heap_word_ensured.floor same_y in omega arith ]
 
 pub write_row-requires-clause-levels : goal.write_row-requires-clause-levels
-write_row-requires-clause-levels g c k l e = void_to_come c.args.planes.now c.args.cells.now c.args.first k c.requires.heap e
+write_row-requires-clause-levels g c k l e = void_to_come c.args.planes.now c.args.cells.now c.args.first k c.requires.heap
+    (subst (λ (p : Coord). word_at c.args.cells.now (further p k) ≡ 1) c.requires.spot e)
 
 pub returns-clause-heaped : goal.returns-clause-heaped
 returns-clause-heaped g c =
@@ -24,4 +28,5 @@ returns-clause-heaped g c =
       floor = c.heap_word.ensures.floor;
       above = c.heap_word.ensures.above;
     } in
-    piled c.args.planes.now c.args.cells.now c.write_row.new.self c.args.first c.heap_word.result can c.write_row.ensures.written
+    piled c.args.planes.now c.args.cells.now c.write_row.new.self c.args.first c.heap_word.result can
+    (subst (λ (p : Coord). AreWritten c.args.cells.now c.write_row.new.self p c.heap_word.result) c.requires.spot c.write_row.ensures.written)
