@@ -1,8 +1,10 @@
 -- What the reads and the write of a voxel's word ask for and leave.
-use Rattle.std.specs.Prelude.{◌≡◌, ℕ, ◌+◌, ◌<◌, Some}
+use Rattle.std.specs.Prelude.{◌≡◌, ℕ, ◌+◌, ◌<◌, ◌≤◌, Some}
 use Rattle.vox_geom.specs.declared.coordinate.Coord.{Coord}
 use Rattle.vox_geom.specs.Space.{IsInSpace}
 use Rattle.support_forest.specs.Grid.{Grid, slot_of, word_at, word_index}
+use Rattle.support_forest.specs.Placing.{IsWordToward}
+use Rattle.support_forest.specs.Spots.{voxel_in}
 use Rattle.support_forest.specs.Words.{IsWritten}
 
 -- the voxel lies in space, and so do all full ones
@@ -29,3 +31,8 @@ pub record HasWritten (old new : Grid) (c : Coord) (word before after : ℕ) : T
   pub slots : new.table ≡ old.table
   pub written : IsWritten (word_at old) (word_at new) c word
   pub touch : after ≡ before + 1
+
+-- the word of the neighbour of the spot's voxel in the direction was read, 0 where there is none, by one touch at most
+pub record ReadsToward (g : Grid) (spot d read before after : ℕ) : Type 0 where
+  pub word : IsWordToward (word_at g) (voxel_in g spot) d read
+  pub touch : after ≤ before + 1

@@ -1,10 +1,11 @@
--- Spots: where the words of voxels stand. In a store a spot is the number of a brick times 512, and an index in the brick.
-use Rattle.std.specs.Prelude.{◌≡◌, ℕ, ◌+◌, ◌*◌, ◌/◌, ◌%◌, List, Some}
+-- Spots: where the words of voxels stand. In a store a spot is the number of a brick times 512, and an index in the
+-- brick.
+use Rattle.std.specs.Prelude.{◌≡◌, ℕ, ◌+◌, ◌*◌, ◌/◌, ◌%◌, ◌<◌, List, Some}
 use Rattle.brick_arena.specs.Slots.{HasSlot, start_in_chunk}
 use Rattle.vox_geom.specs.declared.coordinate.Coord.{Coord}
 use Rattle.vox_geom.specs.Space.{IsInSpace, coordinate_at}
 use Rattle.support_forest.specs.Directions.{Toward}
-use Rattle.support_forest.specs.Grid.{Grid, brick, brick_number, side, slot_of, word_index}
+use Rattle.support_forest.specs.Grid.{Grid, brick, brick_number, side, slot_of, word_at, word_index}
 
 -- the spot of a voxel
 unfoldable pub spot_of : ℕ → Coord → ℕ
@@ -23,9 +24,11 @@ voxel_of side spot = voxel_of_brick (coordinate_at side (spot / 512)) (spot % 51
 abbrev pub voxel_in : Grid → ℕ → Coord
 voxel_in g spot = voxel_of (side g.resolution) spot
 
--- the spot's voxel lies in space, and the chunk has the words of the slot of its brick: its own at that place
+-- the spot's voxel lies in space, and so do all full ones, and the chunk has the words of the slot of its brick: its own
+-- at that place
 pub record IsReadAt (g : Grid) (spot own : ℕ) (words : List ℕ) (place : ℕ) : Type 0 where
   pub within : IsInSpace g.resolution (voxel_in g spot)
+  pub space : (q : Coord) → 0 < word_at g q → IsInSpace g.resolution q
   pub slot : slot_of g (voxel_in g spot) ≡ Some own
   pub chunk : HasSlot g.bricks own words
   pub at : place ≡ start_in_chunk own + spot % 512

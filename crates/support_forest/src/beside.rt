@@ -80,8 +80,7 @@ pub fn words_in<L: Ledger>(
     at: usize,
     steps: &mut Steps<L>,
 ) -> Beside
-    requires read { IsReadAt cells.now spot slot chunk.now at }
-    requires space { (q : Coord) → 0 < word_at cells.now q → IsInSpace cells.now.resolution q }
+    requires { IsReadAt cells.now spot slot chunk.now at }
     ensures words { AreBesideWords (word_at cells.now) (voxel_in cells.now spot) result }
     ensures touches { steps.new ≤ steps.old + 6 }
 {

@@ -107,7 +107,6 @@ fn side_is_free<const D: u8, L: Ledger>(
     requires direction { (0 < D) × (D ≤ 4) }
     requires read { IsReadAt cells.now spot own chunk.now at }
     requires row { spot % 8 + count ≤ 8 }
-    requires space { (q : Coord) → 0 < word_at cells.now q → IsInSpace cells.now.resolution q }
     ensures none { result ≡ true → SideHangsNot (word_at cells.now) (voxel_in cells.now spot) count D toward }
     ensures touches { steps.new ≤ steps.old + count }
 {

@@ -2,7 +2,7 @@
 ghost use Rattle.std.specs.Prelude.{◌≡◌, ◌+◌, ◌*◌, ◌/◌, ◌%◌, ◌^◌, ◌<◌, ◌≤◌, ℕ, IfSome, MatchOption, Some};
 ghost use Rattle.vox_geom.specs.Space.{IsInSpace};
 ghost use Rattle.vox_geom.specs.declared.coordinate.Coord.{Coord};
-ghost use Rattle.support_forest.specs.Access.{LieInSpace};
+ghost use Rattle.support_forest.specs.Access.{LieInSpace, ReadsToward};
 ghost use Rattle.support_forest.specs.Grid.{slot_of, word_at};
 ghost use Rattle.support_forest.specs.Placing.{EndsBrick, IsPlaceToward, IsSpotAcross, IsWordToward, NoneToward};
 ghost use Rattle.support_forest.specs.Spots.{IsReadAt, voxel_of, voxel_in};
@@ -97,8 +97,7 @@ fn word_across<const D: u8, L: Ledger>(cells: &Cells, spot: u32, steps: &mut Ste
     requires direction { (0 < D) × (D ≤ 6) }
     requires inside { LieInSpace cells.now (voxel_in cells.now spot) }
     requires last { EndsBrick (voxel_in cells.now spot) D }
-    ensures word { IsWordToward (word_at cells.now) (voxel_in cells.now spot) D result }
-    ensures touch { steps.new ≤ steps.old + 1 }
+    ensures { ReadsToward cells.now spot D result steps.old steps.new }
 {
     cells.recall();
     match spot_across::<D>(cells, spot) {
@@ -113,8 +112,7 @@ fn word_apart<const D: u8, L: Ledger>(cells: &Cells, spot: u32, steps: &mut Step
     requires direction { (0 < D) × (D ≤ 6) }
     requires inside { LieInSpace cells.now (voxel_in cells.now spot) }
     requires last { EndsBrick (voxel_in cells.now spot) D }
-    ensures word { IsWordToward (word_at cells.now) (voxel_in cells.now spot) D result }
-    ensures touch { steps.new ≤ steps.old + 1 }
+    ensures { ReadsToward cells.now spot D result steps.old steps.new }
 {
     word_across::<D, L>(cells, spot, steps)
 }
@@ -124,8 +122,7 @@ fn word_apart<const D: u8, L: Ledger>(cells: &Cells, spot: u32, steps: &mut Step
 pub fn word_beyond<const D: u8, L: Ledger>(cells: &Cells, spot: u32, steps: &mut Steps<L>) -> u32
     requires direction { (0 < D) × (D ≤ 6) }
     requires inside { LieInSpace cells.now (voxel_in cells.now spot) }
-    ensures word { IsWordToward (word_at cells.now) (voxel_in cells.now spot) D result }
-    ensures touch { steps.new ≤ steps.old + 1 }
+    ensures { ReadsToward cells.now spot D result steps.old steps.new }
 {
     cells.recall();
     if let Some(next) = place_toward::<D>(spot, spot as usize) {
@@ -147,9 +144,7 @@ pub fn word_toward<const D: u8, L: Ledger>(
 ) -> u32
     requires direction { (0 < D) × (D ≤ 6) }
     requires read { IsReadAt cells.now spot slot chunk.now at }
-    requires space { (q : Coord) → 0 < word_at cells.now q → IsInSpace cells.now.resolution q }
-    ensures word { IsWordToward (word_at cells.now) (voxel_in cells.now spot) D result }
-    ensures touch { steps.new ≤ steps.old + 1 }
+    ensures { ReadsToward cells.now spot D result steps.old steps.new }
 {
     cells.recall();
     if let Some(i) = place_toward::<D>(spot, at) {
@@ -171,9 +166,7 @@ pub fn word_beside<const D: u8, L: Ledger>(
 ) -> u32
     requires direction { (0 < D) × (D ≤ 6) }
     requires read { IsReadAt cells.now spot slot chunk.now at }
-    requires space { (q : Coord) → 0 < word_at cells.now q → IsInSpace cells.now.resolution q }
-    ensures word { IsWordToward (word_at cells.now) (voxel_in cells.now spot) D result }
-    ensures touch { steps.new ≤ steps.old + 1 }
+    ensures { ReadsToward cells.now spot D result steps.old steps.new }
 {
     cells.recall();
     if let Some(i) = place_toward::<D>(spot, at) {

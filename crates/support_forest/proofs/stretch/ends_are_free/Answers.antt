@@ -33,6 +33,7 @@ word_toward-far-requires-clause-read g c =
     record {
       within = subst (λ (p : Coord). IsInSpace cells.resolution p) (sym last) (row_space cells (voxel_in cells c.args.spot) c.args.count (c.args.count - 1) c.requires.row (omega arith));
       slot = subst (λ (p : Coord). slot_of cells p ≡ Some c.args.own) (sym last) (sym (row_slot cells (voxel_in cells c.args.spot) c.args.count (c.args.count - 1) (Some c.args.own) c.requires.row (omega arith) (sym c.requires.own)));
+      space = c.requires.space;
       chunk = c.chunk-chunk.ensures;
       at = omega (arith, c.place_in_chunk-at.ensures, c.from-2.ensures);
     }

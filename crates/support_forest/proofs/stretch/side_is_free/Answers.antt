@@ -18,7 +18,7 @@ words_hang_not-requires-clause-within g c =
 pub returns-in-Some-clause-none : goal.returns-in-Some-clause-none
 returns-in-Some-clause-none g c t =
     let place = c.in-Some.ensures (side c.args.cells.now.resolution) in
-    let lies : LieInBrick c.args.cells.now (voxel_in c.args.cells.now c.args.spot) c.args.own = record { within = c.requires.read.within; slot = c.requires.read.slot; space = c.requires.space } in
+    let lies : LieInBrick c.args.cells.now (voxel_in c.args.cells.now c.args.spot) c.args.own = record { within = c.requires.read.within; slot = c.requires.read.slot; space = c.requires.read.space } in
     side_in_slot c.args.cells.now c.args.chunk.now c.args.own place.index c.in-Some.from c.args.count g.row.D c.args.toward (voxel_in c.args.cells.now c.args.spot) c.requires.direction
     c.recall.ensures.store lies (part_of_row (side c.args.cells.now.resolution) c.args.spot c.args.count c.requires.row) c.requires.read.chunk place.toward
     (place_is c.args.cells.now c.args.spot c.args.own g.row.D c.args.at c.in-Some.from c.args.chunk.now c.requires.read place) (c.words_hang_not.ensures.none t)
@@ -31,10 +31,10 @@ row_is_free-requires-clause-row g c = let line = c.in-Some-spot_across.ensures.l
 
 pub returns-in-Some-spot_across-clause-none : goal.returns-in-Some-spot_across-clause-none
 returns-in-Some-spot_across-clause-none g c t =
-    let lies : LieInBrick c.args.cells.now (voxel_in c.args.cells.now c.args.spot) c.args.own = record { within = c.requires.read.within; slot = c.requires.read.slot; space = c.requires.space } in
+    let lies : LieInBrick c.args.cells.now (voxel_in c.args.cells.now c.args.spot) c.args.own = record { within = c.requires.read.within; slot = c.requires.read.slot; space = c.requires.read.space } in
     side_across c.args.cells.now _ c.args.count g.row.D c.args.toward _ c.args.own c.requires.direction lies c.in-Some-spot_across.ensures.across (c.row_is_free.ensures.none t)
 
 pub returns-in-None-clause-none : goal.returns-in-None-clause-none
 returns-in-None-clause-none g c t =
-    let lies : LieInBrick c.args.cells.now (voxel_in c.args.cells.now c.args.spot) c.args.own = record { within = c.requires.read.within; slot = c.requires.read.slot; space = c.requires.space } in
+    let lies : LieInBrick c.args.cells.now (voxel_in c.args.cells.now c.args.spot) c.args.own = record { within = c.requires.read.within; slot = c.requires.read.slot; space = c.requires.read.space } in
     side_none c.args.cells.now _ c.args.count g.row.D c.args.toward c.args.own c.requires.direction lies c.in-None.ensures.across

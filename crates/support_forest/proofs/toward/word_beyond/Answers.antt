@@ -23,5 +23,8 @@ word_at_spot-requires g c =
     let bricks = c.recall.ensures.store.bricks in
     omega (arith, place.moved, place.toward.at_index)
 
-pub returns-in-Some-clause-word : goal.returns-in-Some-clause-word
-returns-in-Some-clause-word g c = word_within c.args.cells.now c.args.spot g.row.D c.in-Some.next c.word_at_spot.result c.requires.inside.within (c.in-Some.ensures (side c.args.cells.now.resolution)) c.word_at_spot.ensures.value
+pub returns-in-Some : goal.returns-in-Some
+returns-in-Some g c = record {
+  word = word_within c.args.cells.now c.args.spot g.row.D c.in-Some.next c.word_at_spot.result c.requires.inside.within (c.in-Some.ensures (side c.args.cells.now.resolution)) c.word_at_spot.ensures.value;
+  touch = c.word_at_spot.ensures.touch;
+}

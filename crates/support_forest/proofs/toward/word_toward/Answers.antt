@@ -12,5 +12,8 @@ word-requires g c =
     let full = c.requires.read.chunk.full in
     omega (arith, place.toward.at_index)
 
-pub returns-in-Some-clause-word : goal.returns-in-Some-clause-word
-returns-in-Some-clause-word g c = word_in_chunk c.args.cells.now c.args.spot c.args.slot g.row.D c.args.at c.in-Some.i c.word.result c.args.chunk.now c.recall.ensures.store c.requires.read (c.in-Some.ensures (side c.args.cells.now.resolution)) c.word.ensures.value
+pub returns-in-Some : goal.returns-in-Some
+returns-in-Some g c = record {
+  word = word_in_chunk c.args.cells.now c.args.spot c.args.slot g.row.D c.args.at c.in-Some.i c.word.result c.args.chunk.now c.recall.ensures.store c.requires.read (c.in-Some.ensures (side c.args.cells.now.resolution)) c.word.ensures.value;
+  touch = omega (arith, c.word.ensures.touch);
+}
