@@ -10,7 +10,7 @@ use Rattle.brick_arena.specs.Slots.{HasSlot, start_in_chunk, words_of}
 use Rattle.support_forest.specs.Access.{LieInBrick}
 use Rattle.support_forest.specs.Grid.{Grid, IsStore, StandsAt, StandsIn, brick, side, slot_at, slot_of, word_at, word_in, word_index}
 use Rattle.support_forest.specs.Placing.{IsIndexToward, IsSpotAcross, IsWordToward, NoneToward}
-use Rattle.support_forest.specs.Stretches.{EndsAreFree, IsBrickRow, LieInRow, IsStretch, RowHangsNot, RowIsFree, SideHangsNot, SidesAreFree, WordsHangNot, further, whole_row_start}
+use Rattle.support_forest.specs.Stretches.{EndsAreFree, LieInRow, IsStretch, RowHangsNot, RowIsFree, SideHangsNot, SidesAreFree, WordsHangNot, further, whole_row_start}
 use Rattle.support_forest.specs.Taking.{HangsNot}
 use Rattle.support_forest.specs.Words.{AreExact}
 use Rattle.support_forest.proofs.Nearby.{same_slot, stands_beside}

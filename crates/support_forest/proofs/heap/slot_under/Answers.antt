@@ -1,4 +1,4 @@
-use Rattle.std.proofs.Common.{◌≡◌, ℕ, ◌-◌, ◌<◌, ◌∙◌, Option, Some, ap, arith, inl, inr, refl, sym}
+use Rattle.std.proofs.Common.{ℕ, ◌<◌, ◌∙◌, Some, ap, arith, inl, inr, refl, sym}
 use Rattle.vox_geom.specs.declared.coordinate.Coord.{Coord}
 use Rattle.vox_geom.specs.Point.{below as under}
 use Rattle.vox_geom.specs.Space.{IsInSpace}

@@ -1,4 +1,4 @@
-use Rattle.std.proofs.Common.{◌≡◌, ℕ, ◌+◌, ◌-◌, ◌%◌, ◌≤◌, ◌<◌, ◌∙◌, Bool, Some, ap, arith, false, not, refl, subst, sym, true}
+use Rattle.std.proofs.Common.{◌≡◌, ◌+◌, ◌-◌, ◌∙◌, Bool, Some, ap, arith, false, not, refl, subst, sym, true}
 use Rattle.vox_geom.specs.declared.coordinate.Coord.{Coord}
 use Rattle.vox_geom.specs.Space.{IsInSpace}
 use Rattle.support_forest.specs.Grid.{side, slot_of, word_at}

@@ -1,4 +1,4 @@
-use Rattle.std.proofs.Common.{◌+◌, ◌%◌, ◌∙◌, arith, sym}
+use Rattle.std.proofs.Common.{◌%◌, ◌∙◌, arith, sym}
 use Rattle.support_forest.specs.Taking.{HangsNot}
 use Rattle.support_forest.proofs.Stretches.{standing_row, standing_void}
 use Rattle.support_forest.proofs.stretch.row_is_free.Goals as goal

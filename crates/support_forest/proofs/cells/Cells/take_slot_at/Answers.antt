@@ -1,5 +1,5 @@
 use Rattle.std.proofs.Common.{◌≡◌, ℕ, ◌/◌, ◌∙◌, ap, arith}
-use Rattle.support_forest.specs.Grid.{brick_number, side, slot_at}
+use Rattle.support_forest.specs.Grid.{brick_number, slot_at}
 use Rattle.support_forest.specs.Spots.{voxel_in}
 use Rattle.support_forest.proofs.Voxels.{number_at, number_below}
 use Rattle.support_forest.proofs.cells.Cells.take_slot_at.Goals as goal
