@@ -150,7 +150,7 @@ standing_void g number index n toward q store s r e k l f =
     let same : brick (further q k) ≡ brick q = row_brick q n k (row_part q index n s.at_index r) l in
     let slot : None ≡ slot_of g (further q k) = same_slot g q (further q k) None same (e ∙ ap (λ (j : ℕ). slot_at g.table j) (sym s.in_brick)) in
     let word_is : 0 ≡ word_at g (further q k) = ap (λ (o : Option ℕ). word_in g.bricks o (word_index (further q k))) slot
-        ∙ store.words (further q k) (subst (λ (b : Coord). IsInSpace (side g.resolution) b) (sym same) s.within) in
+    ∙ store.words (further q k) (subst (λ (b : Coord). IsInSpace (side g.resolution) b) (sym same) s.within) in
     absurd (omega arith)
 
 -- ---- the words at a side

@@ -181,13 +181,7 @@ fn ends_are_free<L: Ledger>(
 
 /// Whether no neighbour has its parent in a voxel of the row from a spot on, but for the next voxel of the row.
 #[inline(always)]
-fn is_free<L: Ledger>(
-    cells: &Cells,
-    own: u32,
-    spot: u32,
-    count: u16,
-    steps: &mut Steps<L>,
-) -> bool
+fn is_free<L: Ledger>(cells: &Cells, own: u32, spot: u32, count: u16, steps: &mut Steps<L>) -> bool
     requires { IsBrickRow cells.now own (voxel_in cells.now spot) count }
     ensures free { result ≡ true → RowIsFree (word_at cells.now) (voxel_in cells.now spot) count }
     ensures touches { steps.new ≤ steps.old + 5 * count + 2 }
@@ -211,13 +205,7 @@ pub fn start_of_row(spot: u32) -> u32
 
 /// Whether no neighbour has its parent in a voxel of the row from a spot on, but for the next voxel of the row. A whole row is read by
 /// steps that the compiler knows.
-fn are_free<L: Ledger>(
-    cells: &Cells,
-    own: u32,
-    spot: u32,
-    count: u16,
-    steps: &mut Steps<L>,
-) -> bool
+fn are_free<L: Ledger>(cells: &Cells, own: u32, spot: u32, count: u16, steps: &mut Steps<L>) -> bool
     requires { IsBrickRow cells.now own (voxel_in cells.now spot) count }
     ensures free { result ≡ true → RowIsFree (word_at cells.now) (voxel_in cells.now spot) count }
     ensures touches { steps.new ≤ steps.old + 5 * count + 2 }
@@ -270,12 +258,7 @@ pub fn part_is_free<L: Ledger>(
 
 /// The slot of the row from a spot on, where no neighbour has its parent in one of its voxels, but for the next voxel of the row.
 #[inline(always)]
-fn free_slot<L: Ledger>(
-    cells: &Cells,
-    spot: u32,
-    count: u16,
-    steps: &mut Steps<L>,
-) -> Option<u32>
+fn free_slot<L: Ledger>(cells: &Cells, spot: u32, count: u16, steps: &mut Steps<L>) -> Option<u32>
     requires some { 0 < count }
     requires row { LieInRow cells.now (voxel_in cells.now spot) count }
     requires space { (q : Coord) → 0 < word_at cells.now q → IsInSpace cells.now.resolution q }
@@ -292,13 +275,7 @@ fn free_slot<L: Ledger>(
 
 /// Makes the voxels of the row from a spot on void, from the last to the first.
 #[inline(always)]
-fn clear_voxels<L: Ledger>(
-    cells: &mut Cells,
-    own: u32,
-    spot: u32,
-    count: u16,
-    steps: &mut Steps<L>,
-)
+fn clear_voxels<L: Ledger>(cells: &mut Cells, own: u32, spot: u32, count: u16, steps: &mut Steps<L>)
     requires { CanClear cells.old own (voxel_in cells.old spot) count }
     ensures { AreCleared cells.old cells.new (voxel_in cells.old spot) 0 count steps.old steps.new }
 {

@@ -22,9 +22,11 @@ pub spot_along-requires : goal.spot_along-requires
 spot_along-requires g c =
     let within = c.requires.within in
     let first : IsInSpace c.args.planes.now.resolution (record { x = c.args.first.x; y = c.args.first.y; z = 0 }) = record { x = within.x; y = within.y; z = let along_z = within.z in omega arith } in
-    record { fits = spot_small c.args.cells.now.resolution c.spot-line.result c.recall.ensures.few
-        (subst (λ (p : Coord). IsInSpace c.args.cells.now.resolution p) (sym c.spot-line.ensures.voxel)
-        (subst (λ (r : ℕ). IsInSpace r (record { x = c.args.first.x; y = c.args.first.y; z = 0 })) (sym c.requires.heaped.resolution) first)) }
+    record {
+      fits = spot_small c.args.cells.now.resolution c.spot-line.result c.recall.ensures.few
+          (subst (λ (p : Coord). IsInSpace c.args.cells.now.resolution p) (sym c.spot-line.ensures.voxel)
+          (subst (λ (r : ℕ). IsInSpace r (record { x = c.args.first.x; y = c.args.first.y; z = 0 })) (sym c.requires.heaped.resolution) first));
+    }
 
 pub stack_part-requires-clause-spot : goal.stack_part-requires-clause-spot
 stack_part-requires-clause-spot g c =

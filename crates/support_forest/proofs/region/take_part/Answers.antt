@@ -17,7 +17,7 @@ returns-in_default-clause-voided g c =
 pub returns-then-row_is_void-clause-voided : goal.returns-then-row_is_void-clause-voided
 returns-then-row_is_void-clause-voided g c =
     let void : (k : ℕ) → k < 8 → word_at c.args.cells.now (further (whole_row_start c.args.first) k) ≡ 0 =
-        subst (λ (p : Coord). (k : ℕ) → k < 8 → word_at c.args.cells.now (further (whole_row_start p) k) ≡ 0) c.requires.spot (c.row_is_void.ensures.void c.if-row_is_void.true) in
+    subst (λ (p : Coord). (k : ℕ) → k < 8 → word_at c.args.cells.now (further (whole_row_start p) k) ≡ 0) c.requires.spot (c.row_is_void.ensures.void c.if-row_is_void.true) in
     voided_already c.args.cells.now _ c.args.count c.args.rest.now.items c.requires.exact (λ d h. part_void c.args.cells.now c.args.first d c.args.count c.requires.row.row void h)
 
 pub returns-then-part_is_free-clause-voided : goal.returns-then-part_is_free-clause-voided

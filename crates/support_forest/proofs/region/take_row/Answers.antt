@@ -23,8 +23,10 @@ take_part-requires-clause-row g c =
 pub spot_along-requires : goal.spot_along-requires
 spot_along-requires g c =
     let within = c.requires.within in
-    record { fits = spot_small c.args.cells.now.resolution c.spot-line.result c.recall.ensures.few
-        (subst (λ (p : Coord). IsInSpace c.args.cells.now.resolution p) (sym c.spot-line.ensures.voxel) (record { x = within.x; y = within.y; z = let along_z = within.z in omega arith })) }
+    record {
+      fits = spot_small c.args.cells.now.resolution c.spot-line.result c.recall.ensures.few
+          (subst (λ (p : Coord). IsInSpace c.args.cells.now.resolution p) (sym c.spot-line.ensures.voxel) (record { x = within.x; y = within.y; z = let along_z = within.z in omega arith }));
+    }
 
 pub take_part-requires-clause-spot : goal.take_part-requires-clause-spot
 take_part-requires-clause-spot g c =

@@ -29,7 +29,7 @@ word_toward-far-requires-clause-read g c =
     let behind : c.from.result ≡ c.args.count - 1 = c.from.ensures in
     let part = part_there (side cells.resolution) c.args.spot c.args.count c.requires.row.row in
     let last : voxel_in cells (c.args.spot + c.from.result) ≡ further (voxel_in cells c.args.spot) (c.args.count - 1) =
-        voxel_further (side cells.resolution) c.args.spot c.from.result (omega arith) ∙ ap (further (voxel_in cells c.args.spot)) behind in
+    voxel_further (side cells.resolution) c.args.spot c.from.result (omega arith) ∙ ap (further (voxel_in cells c.args.spot)) behind in
     record {
       within = subst (λ (p : Coord). IsInSpace cells.resolution p) (sym last) (row_space cells (voxel_in cells c.args.spot) c.args.count (c.args.count - 1) c.requires.row (omega arith));
       slot = subst (λ (p : Coord). slot_of cells p ≡ Some c.args.own) (sym last) (sym (row_slot cells (voxel_in cells c.args.spot) c.args.count (c.args.count - 1) (Some c.args.own) c.requires.row (omega arith) (sym c.requires.own)));
@@ -45,7 +45,7 @@ returns-clause-free g c t =
     let behind : c.from.result ≡ c.args.count - 1 = c.from.ensures in
     let part = part_there (side cells.resolution) c.args.spot c.args.count c.requires.row.row in
     let last : voxel_in cells (c.args.spot + c.from.result) ≡ further (voxel_in cells c.args.spot) (c.args.count - 1) =
-        voxel_further (side cells.resolution) c.args.spot c.from.result (omega arith) ∙ ap (further (voxel_in cells c.args.spot)) behind in
+    voxel_further (side cells.resolution) c.args.spot c.from.result (omega arith) ∙ ap (further (voxel_in cells c.args.spot)) behind in
     record {
       near = end_free (word_at cells) (voxel_in cells c.args.spot) 5 6 c.word_toward-near.result c.word_toward-near.ensures.word (c.hangs.ensures c.if-hangs.false);
       far = far_free (word_at cells) (voxel_in cells c.args.spot) c.args.count some
