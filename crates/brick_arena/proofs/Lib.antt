@@ -6,6 +6,7 @@ pub mod Lines
 pub mod Looked
 pub mod Places
 pub mod Rows
+pub mod SlotWords
 pub mod Sharing
 pub mod Standing
 pub mod TakenNew

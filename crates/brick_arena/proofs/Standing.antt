@@ -5,9 +5,9 @@ use Rattle.std.proofs.lemmas.List.{get_or_past}
 use Rattle.std.specs.FinMap.{get}
 use Rattle.brick_arena.specs.Arena.{is_listed, chain, slot_words, view_of, IsArena}
 use Rattle.brick_arena.specs.Chunks.{AreChunks, chunk_word}
-use Rattle.brick_arena.specs.Slots.{Slots, IsLive, words_of, AreSlots, HasSlot}
+use Rattle.brick_arena.specs.Slots.{Slots, IsLive, words_of, AreSlots, HasSlot, swapped}
 use Rattle.brick_arena.proofs.LiveSlots.{get_past, get_vacant, get_live, live_inside}
-use Rattle.brick_arena.proofs.Rows.{length-row, get-row}
+use Rattle.brick_arena.proofs.SlotWords.{length_slot, swapped_below, swapped_twice, word_in_slot}
 
 word_fits : (cs : List (List ℕ)) (p : ℕ) → AreChunks cs → chunk_word cs p < 2 ^ 32
 word_fits cs p chunks = elim (cases_lt (p / 32768) (length cs)) [
@@ -28,10 +28,14 @@ module _ (cs : List (List ℕ)) (free vacant reached : ℕ) (arena : IsArena cs 
   pub words-live : (s : ℕ) → s < reached → is_listed s fs ≡ false → words_of v s ≡ slot_words m s
   words-live s lt unheld = ap (λ o. unwrap_or o []) (get_live m fs reached s lt unheld)
 
+  -- the word at a place of a slot
+  pub word_at_place : (s p : ℕ) → p < 512 → get_or (slot_words m s) (swapped p) 0 ≡ m (512 * s + p)
+  word_at_place s p lt = word_in_slot m s (swapped p) (swapped_below p lt) ∙ ap (λ k. m (512 * s + k)) (swapped_twice p lt)
+
   slot_fits : (s i : ℕ) → get_or (slot_words m s) i 0 < 2 ^ 32
   slot_fits s i = elim (cases_lt i 512) [
-    | inl lt ↦ let row_value = get-row m (512 * s) 512 i 0 lt in let fits = word_fits cs (512 * s + i) arena.chunks in omega (arith, row_value, fits)
-    | inr past ↦ let long = length-row m (512 * s) 512 in let past_is = get_or_past (slot_words m s) i 0 (omega (arith, long, past)) in omega (arith, past_is)
+    | inl lt ↦ let word_is = word_in_slot m s i lt in let fits = word_fits cs (512 * s + swapped i) arena.chunks in omega (arith, word_is, fits)
+    | inr past ↦ let long = length_slot m s in let past_is = get_or_past (slot_words m s) i 0 (omega (arith, long, past)) in omega (arith, past_is)
   ]
 
   no_words : (s i : ℕ) → get v s ≡ None → get_or (words_of v s) i 0 < 2 ^ 32
@@ -40,7 +44,7 @@ module _ (cs : List (List ℕ)) (free vacant reached : ℕ) (arena : IsArena cs 
   pub are_slots : AreSlots v
   are_slots = record {
     numbers = λ s live. let inside = live_inside m fs reached s live in omega (arith, inside.0, arena.limit);
-    lengths = λ s live. let inside = live_inside m fs reached s live in ap length (words-live s inside.0 inside.1) ∙ length-row m (512 * s) 512;
+    lengths = λ s live. let inside = live_inside m fs reached s live in ap length (words-live s inside.0 inside.1) ∙ length_slot m s;
     words = λ s i. elim (cases_lt s reached) [
       | inr past ↦ no_words s i (get_past m fs reached s past)
       | inl lt ↦ elim (cases_Bool (is_listed s fs)) [
@@ -65,13 +69,13 @@ module _ (cs : List (List ℕ)) (free vacant reached : ℕ) (arena : IsArena cs 
       let below_length : s / 64 < length cs = omega (arith, at.2) in
       record {
         full = ap (λ ws. length ws) e ∙ (arena.chunks (s / 64) below_length).full;
-        each = λ i lt.
-            let same_quotient : s / 64 ≡ (512 * s + i) / 32768 = omega arith in
-            let sum_is : s % 64 * 512 + i ≡ (512 * s + i) % 32768 = omega arith in
-            ap (λ ws. get_or ws (s % 64 * 512 + i) 0) e
-            ∙ ap (λ k. get_or (get_or cs k []) (s % 64 * 512 + i) 0) same_quotient
-            ∙ ap (λ k. get_or (get_or cs ((512 * s + i) / 32768) []) k 0) sum_is
-            ∙ sym (get-row m (512 * s) 512 i 0 lt)
-            ∙ sym (ap (λ words. get_or words i 0) (words-live s at.0 at.1))
-            ∙ ap (λ w. get_or (words_of w s) i 0) is;
+        each = λ p lt.
+            let same_quotient : s / 64 ≡ (512 * s + p) / 32768 = omega arith in
+            let sum_is : s % 64 * 512 + p ≡ (512 * s + p) % 32768 = omega arith in
+            ap (λ ws. get_or ws (s % 64 * 512 + p) 0) e
+            ∙ ap (λ k. get_or (get_or cs k []) (s % 64 * 512 + p) 0) same_quotient
+            ∙ ap (λ k. get_or (get_or cs ((512 * s + p) / 32768) []) k 0) sum_is
+            ∙ sym (word_at_place s p lt)
+            ∙ sym (ap (λ words. get_or words (swapped p) 0) (words-live s at.0 at.1))
+            ∙ ap (λ w. get_or (words_of w s) (swapped p) 0) is;
       }

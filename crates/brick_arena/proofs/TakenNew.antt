@@ -7,7 +7,7 @@ use Rattle.brick_arena.specs.Chunks.{chunk_word, HasRoom}
 use Rattle.brick_arena.specs.Slots.{Slots}
 use Rattle.brick_arena.proofs.Chains.{chain-same}
 use Rattle.brick_arena.proofs.LiveSlots.{get_past, get_live, inserted, len_added, same_slot}
-use Rattle.brick_arena.proofs.Rows.{row-same, row-const}
+use Rattle.brick_arena.proofs.SlotWords.{slot_const, slot_same}
 
 module _ (cs : List (List ℕ)) (free vacant reached : ℕ) (old : IsArena cs free vacant reached) where
   abbrev m : ℕ → ℕ
@@ -27,10 +27,10 @@ module _ (cs : List (List ℕ)) (free vacant reached : ℕ) (old : IsArena cs fr
     m' = chunk_word ds
 
     words_stay : (t : ℕ) → slot_words m' t ≡ slot_words m t
-    words_stay t = row-same m m' (512 * t) 512 (λ k lt. room.same (512 * t + k))
+    words_stay t = slot_same m m' t (λ p lt. room.same (512 * t + p))
 
     zeros : slot_words m' reached ≡ replicate 512 0
-    zeros = row-const m' (512 * reached) 512 0 (λ i lt. room.same (512 * reached + i) ∙ old.blank (512 * reached + i) (omega arith))
+    zeros = slot_const m' reached 0 (λ p lt. room.same (512 * reached + p) ∙ old.blank (512 * reached + p) (omega arith))
 
     links : chain m' free vacant ≡ fs
     links = chain-same m m' free vacant (λ t in_chain. room.same (512 * t))

@@ -6,7 +6,7 @@ use Rattle.brick_arena.specs.Chunks.{chunk_word, IsCleared}
 use Rattle.brick_arena.specs.Slots.{Slots}
 use Rattle.brick_arena.proofs.Chains.{among-first, among-rest, among-beside, apart, chain-same, chain-opens}
 use Rattle.brick_arena.proofs.LiveSlots.{get_vacant, get_live, inserted, len_added, same_slot}
-use Rattle.brick_arena.proofs.Rows.{row-same, row-const}
+use Rattle.brick_arena.proofs.SlotWords.{slot_const, slot_same}
 
 module _ (cs : List (List ℕ)) (free vacant reached : ℕ) (old : IsArena cs free vacant reached) (some : 0 < vacant) where
   abbrev m : ℕ → ℕ
@@ -44,10 +44,10 @@ module _ (cs : List (List ℕ)) (free vacant reached : ℕ) (old : IsArena cs fr
     first_stays t ne = let product_is : 512 * t ≡ 512 * t + 0 = omega arith in ap m' product_is ∙ cleared.others t 0 ne (omega arith) ∙ ap m (sym product_is)
 
     words_stay : (t : ℕ) → (t ≡ free → ⊥) → slot_words m' t ≡ slot_words m t
-    words_stay t ne = row-same m m' (512 * t) 512 (λ k lt. cleared.others t k ne lt)
+    words_stay t ne = slot_same m m' t (λ p lt. cleared.others t p ne lt)
 
     zeros : slot_words m' free ≡ replicate 512 0
-    zeros = row-const m' (512 * free) 512 0 cleared.zeros
+    zeros = slot_const m' free 0 cleared.zeros
 
     shorter : chain m' next (vacant - 1) ≡ ts
     shorter =

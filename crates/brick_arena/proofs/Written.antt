@@ -1,14 +1,14 @@
 -- What writes into a live slot do.
-use Rattle.std.proofs.Common.{◌≡◌, ℕ, zero, suc, ◌+◌, ◌-◌, ◌*◌, ◌<◌, ◌≤◌, ◌⊎◌, inl, inr, true, false, List, [], length, length-set, get_or, refl, sym, ap, ◌∙◌, subst, arith, Option, Some, None, is_some, unwrap_or, set}
+use Rattle.std.proofs.Common.{◌≡◌, ℕ, zero, suc, ◌+◌, ◌-◌, ◌*◌, ◌%◌, ◌<◌, ◌≤◌, ◌⊎◌, inl, inr, true, false, List, [], length, length-set, get_or, refl, sym, ap, ◌∙◌, subst, arith, Option, Some, None, is_some, unwrap_or, set}
 use Rattle.std.proofs.lemmas.Bool.{cases_lt, cases_eq}
 use Rattle.std.proofs.lemmas.List.{ext_get_or, get_or-set_same, get_or-set_other}
 use Rattle.std.specs.FinMap.{get, insert, len}
 use Rattle.brick_arena.specs.Arena.{is_listed, AreDistinct, chain, slot_words, live_slots, view_of, IsArena}
 use Rattle.brick_arena.specs.Chunks.{chunk_word, AreChunks, IsRowStored, IsStored}
-use Rattle.brick_arena.specs.Slots.{Slots, IsLive, with_row, words_of}
+use Rattle.brick_arena.specs.Slots.{Slots, IsLive, swapped, with_row, words_of}
 use Rattle.brick_arena.proofs.Chains.{chain-stays}
 use Rattle.brick_arena.proofs.LiveSlots.{get-insert_here, get-insert_other, get_live, inserted, len_replaced, same_slot}
-use Rattle.brick_arena.proofs.Rows.{get-row, length-row, row-same, row-set}
+use Rattle.brick_arena.proofs.SlotWords.{length_slot, row_ends, slot_same, slot_set, swapped_apart, swapped_row, swapped_twice, word_in_slot}
 use Rattle.brick_arena.proofs.Standing.{words-live}
 
 -- ---- the words of one slot become others
@@ -36,7 +36,7 @@ module _ (cs ds : List (List ℕ)) (free vacant reached s : ℕ) (ws : List ℕ)
   v = view_of cs free vacant reached
 
   kept_words : (t : ℕ) → (t ≡ s → ⊥) → slot_words m' t ≡ slot_words m t
-  kept_words t ne = row-same m m' (512 * t) 512 (λ k lk. others (512 * t + k) (elsewhere s t k ne lk))
+  kept_words t ne = slot_same m m' t (λ p lk. others (512 * t + p) (elsewhere s t p ne lk))
 
   first_stays : (t : ℕ) → (t ≡ s → ⊥) → m' (512 * t) ≡ m (512 * t)
   first_stays t ne = let product_is : 512 * t ≡ 512 * t + 0 = omega arith in ap m' product_is ∙ (others (512 * t + 0) (elsewhere s t 0 ne (omega arith)) ∙ ap m (sym product_is))
@@ -66,18 +66,18 @@ module _ (cs ds : List (List ℕ)) (free vacant reached s : ℕ) (ws : List ℕ)
 
 -- ---- one word
 
-module _ (cs ds : List (List ℕ)) (free vacant reached s i w p : ℕ) (old : IsArena cs free vacant reached) (stored : IsStored cs ds p w) (at : p ≡ s * 512 + i) (li : i < 512)
+module _ (cs ds : List (List ℕ)) (free vacant reached s place w p : ℕ) (old : IsArena cs free vacant reached) (stored : IsStored cs ds p w) (at : p ≡ s * 512 + place) (li : place < 512)
     (lt : s < reached) (live : is_listed s (chain (chunk_word cs) free vacant) ≡ false) where
-  others : (q : ℕ) → (q ≡ 512 * s + i → ⊥) → chunk_word ds q ≡ chunk_word cs q
+  others : (q : ℕ) → (q ≡ 512 * s + place → ⊥) → chunk_word ds q ≡ chunk_word cs q
   others q ne = stored.others q (λ e. ne (omega (arith, e, at)))
 
-  word_here : chunk_word ds (512 * s + i) ≡ w
-  word_here = let sum_is : 512 * s + i ≡ p = omega (arith, at) in ap (chunk_word ds) sum_is ∙ stored.here
+  word_here : chunk_word ds (512 * s + place) ≡ w
+  word_here = let sum_is : 512 * s + place ≡ p = omega (arith, at) in ap (chunk_word ds) sum_is ∙ stored.here
 
-  words_set : slot_words (chunk_word ds) s ≡ set (words_of (view_of cs free vacant reached) s) i w
+  words_set : slot_words (chunk_word ds) s ≡ set (words_of (view_of cs free vacant reached) s) (swapped place) w
   words_set =
-      row-set (chunk_word cs) (chunk_word ds) (512 * s) 512 i w li word_here (λ k lk ne. others (512 * s + k) (λ e. ne (omega (arith, e))))
-      ∙ ap (λ ws. set ws i w) (sym (words-live cs free vacant reached old s lt live))
+      slot_set (chunk_word cs) (chunk_word ds) s place w li word_here (λ k lk ne. others (512 * s + k) (λ e. ne (omega (arith, e))))
+      ∙ ap (λ ws. set ws (swapped place) w) (sym (words-live cs free vacant reached old s lt live))
 
   apart : (q : ℕ) → IsElsewhere s q → chunk_word ds q ≡ chunk_word cs q
   apart q (inl b) = others q (λ e. absurd (omega arith))
@@ -94,7 +94,8 @@ module _ (cs ds : List (List ℕ)) (free vacant reached s i w p : ℕ) (old : Is
   past_stay q past = apart q (inr (omega (arith, past, lt)))
 
   pub view_written : view_of ds free vacant reached
-      ≡ insert (view_of cs free vacant reached) s (set (words_of (view_of cs free vacant reached) s) i w)
+      ≡ insert (view_of cs free vacant reached) s
+      (set (words_of (view_of cs free vacant reached) s) (swapped place) w)
   view_written = view_changed cs ds free vacant reached s _ old stored.same_length stored.chunks words_set apart lt live
 
   pub arena_written : IsArena ds free vacant reached
@@ -151,29 +152,38 @@ row_last v s i k w live long l =
     ap (λ u. get_or (words_of u s) (i + k) 0) (row_inserted v s i (k + 1) w live)
     ∙ (ap (λ o. get_or (unwrap_or o []) (i + k) 0) (get-insert_here v s ws s refl) ∙ inside (words_of v s) i (k + 1) w (i + k) (omega arith) (omega arith) (omega arith))
 
-module _ (cs ds : List (List ℕ)) (free vacant reached s i w p : ℕ) (old : IsArena cs free vacant reached) (stored : IsRowStored cs ds p w) (at : p ≡ s * 512 + i) (li : i + 8 ≤ 512)
-    (lt : s < reached) (live : is_listed s (chain (chunk_word cs) free vacant) ≡ false) where
-  row_here : (k : ℕ) → k < 8 → chunk_word ds (512 * s + (i + k)) ≡ w
-  row_here k l = let sum_is : 512 * s + (i + k) ≡ p + k = omega (arith, at) in ap (chunk_word ds) sum_is ∙ stored.here k l
+module _ (cs ds : List (List ℕ)) (free vacant reached s place w p : ℕ) (old : IsArena cs free vacant reached) (stored : IsRowStored cs ds p w) (at : p ≡ s * 512 + place) (li : place < 512)
+    (whole : place % 8 ≡ 0) (lt : s < reached) (live : is_listed s (chain (chunk_word cs) free vacant) ≡ false) where
+  -- the index of the first
+  abbrev i : ℕ
+  i = swapped place
 
-  row_others : (q : ℕ) → ((k : ℕ) → k < 8 → q ≡ 512 * s + (i + k) → ⊥) → chunk_word ds q ≡ chunk_word cs q
+  row_here : (k : ℕ) → k < 8 → chunk_word ds (512 * s + (place + k)) ≡ w
+  row_here k l = let sum_is : 512 * s + (place + k) ≡ p + k = omega (arith, at) in ap (chunk_word ds) sum_is ∙ stored.here k l
+
+  row_others : (q : ℕ) → ((k : ℕ) → k < 8 → q ≡ 512 * s + (place + k) → ⊥) → chunk_word ds q ≡ chunk_word cs q
   row_others q ne = stored.others q (λ k l e. ne k l (omega (arith, e, at)))
+
+  -- a word that stands elsewhere stays
+  kept_there : (k : ℕ) → k < 512 → ((j : ℕ) → j < 8 → k ≡ i + j → ⊥)
+      → chunk_word ds (512 * s + swapped k) ≡ chunk_word cs (512 * s + swapped k)
+  kept_there k b o = row_others (512 * s + swapped k) (λ j l e. o j l (swapped_apart (place + j) k b (omega (arith, e)) ∙ swapped_row place j whole l))
 
   row_set : slot_words (chunk_word ds) s ≡ with_words (slot_words (chunk_word cs) s) i 8 w
   row_set =
       let ws = slot_words (chunk_word cs) s in
-      let long : length ws ≡ 512 = length-row (chunk_word cs) (512 * s) 512 in
-      let long' : length (slot_words (chunk_word ds) s) ≡ 512 = length-row (chunk_word ds) (512 * s) 512 in
+      let long : length ws ≡ 512 = length_slot (chunk_word cs) s in
+      let long' : length (slot_words (chunk_word ds) s) ≡ 512 = length_slot (chunk_word ds) s in
       ext_get_or 0 (slot_words (chunk_word ds) s) (with_words ws i 8 w) (long' ∙ sym (length-with_words ws i 8 w ∙ long))
-      (λ k l. let k_below_512 : k < 512 = omega arith in get-row (chunk_word ds) (512 * s) 512 k 0 k_below_512 ∙ each k k_below_512 (cases_lt k i) (cases_lt k (i + 8)))
+      (λ k l. let k_below_512 : k < 512 = omega arith in word_in_slot (chunk_word ds) s k k_below_512 ∙ each k k_below_512 (cases_lt k i) (cases_lt k (i + 8)))
     where
       each : (k : ℕ) → k < 512 → (k < i) ⊎ (i ≤ k) → (k < i + 8) ⊎ (i + 8 ≤ k)
-          → chunk_word ds (512 * s + k) ≡ get_or (with_words (slot_words (chunk_word cs) s) i 8 w) k 0
-      each k b (inl f) o = row_others (512 * s + k) (λ j l e. absurd (omega arith)) ∙ sym (outside (slot_words (chunk_word cs) s) i 8 w k (λ j l e. absurd (omega arith)) ∙ get-row (chunk_word cs) (512 * s) 512 k 0 b)
-      each k b (inr f) (inr o) = row_others (512 * s + k) (λ j l e. absurd (omega arith)) ∙ sym (outside (slot_words (chunk_word cs) s) i 8 w k (λ j l e. absurd (omega arith)) ∙ get-row (chunk_word cs) (512 * s) 512 k 0 b)
+          → chunk_word ds (512 * s + swapped k) ≡ get_or (with_words (slot_words (chunk_word cs) s) i 8 w) k 0
+      each k b (inl f) o = kept_there k b (λ j l e. absurd (omega arith)) ∙ sym (outside (slot_words (chunk_word cs) s) i 8 w k (λ j l e. absurd (omega arith)) ∙ word_in_slot (chunk_word cs) s k b)
+      each k b (inr f) (inr o) = kept_there k b (λ j l e. absurd (omega arith)) ∙ sym (outside (slot_words (chunk_word cs) s) i 8 w k (λ j l e. absurd (omega arith)) ∙ word_in_slot (chunk_word cs) s k b)
       each k b (inr f) (inl o) =
-          let sum_is : 512 * s + k ≡ 512 * s + (i + (k - i)) = omega arith in
-          ap (chunk_word ds) sum_is ∙ (row_here (k - i) (omega arith) ∙ sym (inside (slot_words (chunk_word cs) s) i 8 w k f o (let long : length (slot_words (chunk_word cs) s) ≡ 512 = length-row (chunk_word cs) (512 * s) 512 in omega arith)))
+          let there : swapped k ≡ place + (k - i) = ap swapped (let sum_is : k ≡ i + (k - i) = omega arith in sum_is ∙ sym (swapped_row place (k - i) whole (omega arith))) ∙ swapped_twice (place + (k - i)) (omega arith) in
+          ap (λ q. chunk_word ds (512 * s + q)) there ∙ (row_here (k - i) (omega arith) ∙ sym (inside (slot_words (chunk_word cs) s) i 8 w k f o (let long : length (slot_words (chunk_word cs) s) ≡ 512 = length_slot (chunk_word cs) s in let fits : i + 8 ≤ 512 = row_ends place li whole in omega arith)))
 
   row_apart : (q : ℕ) → IsElsewhere s q → chunk_word ds q ≡ chunk_word cs q
   row_apart q (inl b) = row_others q (λ k l e. absurd (omega arith))

@@ -4,7 +4,7 @@ use Rattle.std.specs.FinMap.{empty, insert, len}
 use Rattle.brick_arena.specs.declared.TheConstants.{SLOT_WORDS, MOST_SLOTS}
 use Rattle.brick_arena.specs.declared.chunk.TheConstants.{CHUNK_SLOTS}
 use Rattle.brick_arena.specs.Chunks.{chunk_word, AreChunks}
-use Rattle.brick_arena.specs.Slots.{Slots}
+use Rattle.brick_arena.specs.Slots.{Slots, swapped}
 
 -- f at start, start + 1, .., so many values
 unfoldable pub values : {X : Type 0} → (ℕ → X) → ℕ → ℕ → List X
@@ -24,8 +24,9 @@ unfoldable pub chain : (ℕ → ℕ) → ℕ → ℕ → List ℕ
 chain m first zero = []
 chain m first (suc count) = first ∷ chain m (m (SLOT_WORDS * first)) count
 
+-- the words of a slot by their indices
 abbrev pub slot_words : (ℕ → ℕ) → ℕ → List ℕ
-slot_words m slot = values m (SLOT_WORDS * slot) SLOT_WORDS
+slot_words m slot = values (λ index. m (SLOT_WORDS * slot + swapped index)) 0 SLOT_WORDS
 
 -- the slots that were reached and are not vacant, each with its words
 unfoldable pub live_slots : (ℕ → ℕ) → List ℕ → ℕ → Slots

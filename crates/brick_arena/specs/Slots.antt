@@ -1,5 +1,5 @@
 -- The live slots by number, each with its words: what callers see of an arena.
-use Rattle.std.specs.Prelude.{◌≡◌, ℕ, zero, suc, ◌+◌, ◌*◌, ◌%◌, ◌^◌, ◌<◌, List, [], length, slice_index, slice_set, IsSome, unwrap_or}
+use Rattle.std.specs.Prelude.{◌≡◌, ℕ, zero, suc, ◌+◌, ◌*◌, ◌/◌, ◌%◌, ◌^◌, ◌<◌, List, [], length, slice_index, slice_set, IsSome, unwrap_or}
 use Rattle.std.specs.Ordering.{nat_cmp}
 use Rattle.std.specs.FinMap.{FinMap, get, insert}
 use Rattle.brick_arena.specs.declared.TheConstants.{SLOT_WORDS, MOST_SLOTS}
@@ -27,12 +27,17 @@ pub record AreSlots (slots : Slots) : Type 0 where
   pub lengths : (slot : ℕ) → IsLive slots slot → length (words_of slots slot) ≡ SLOT_WORDS
   pub words : (slot index : ℕ) → slice_index (words_of slots slot) index < 2 ^ 32
 
+-- the index of the word at a place of its slot, and the place of the word with an index: of the three digits to base
+-- eight the first two are exchanged
+unfoldable pub swapped : ℕ → ℕ
+swapped index = 64 * (index / 8 % 8) + 8 * (index / 64) + index % 8
+
 -- the place of a slot's first word in its chunk
 abbrev pub start_in_chunk : ℕ → ℕ
 start_in_chunk slot = slot % CHUNK_SLOTS * SLOT_WORDS
 
--- the chunk has the words of the slot
+-- the chunk has the words of the slot, by their places
 pub record HasSlot (slots : Slots) (slot : ℕ) (chunk : List ℕ) : Type 0 where
   pub full : length chunk ≡ CHUNK_WORDS
-  pub each : (index : ℕ) → index < SLOT_WORDS
-      → slice_index chunk (start_in_chunk slot + index) ≡ slice_index (words_of slots slot) index
+  pub each : (place : ℕ) → place < SLOT_WORDS
+      → slice_index chunk (start_in_chunk slot + place) ≡ slice_index (words_of slots slot) (swapped place)

@@ -4,9 +4,9 @@
 mod chunk;
 mod chunks;
 
-ghost use Rattle.std.specs.Prelude.{◌≡◌, ◌+◌, ◌<◌, ◌≤◌, ℕ, None, replicate, slice_index, slice_set, OnErr, IfOk};
+ghost use Rattle.std.specs.Prelude.{◌≡◌, ◌+◌, ◌%◌, ◌<◌, ◌≤◌, ℕ, None, replicate, slice_index, slice_set, OnErr, IfOk};
 ghost use Rattle.std.specs.FinMap as map;
-ghost use Rattle.brick_arena.specs.Slots.{IsLive, words_of, with_row, AreSlots, HasSlot};
+ghost use Rattle.brick_arena.specs.Slots.{IsLive, words_of, with_row, AreSlots, HasSlot, swapped as swapped_of};
 
 use chunk::CHUNK_SLOTS;
 pub use chunk::Chunk;
@@ -22,6 +22,16 @@ pub const SLOT_WORDS: u16 = 512;
 
 /// The most slots that can be live at a time. The number of a slot is below it.
 pub const MOST_SLOTS: u32 = 1_048_576;
+
+/// The index of the word at a place of its slot, and the place of the word with an index. The word with the index 64 a + 8 b + c stands
+/// at the place 64 b + 8 a + c, so that words whose indices have their middle digit in common stand together.
+#[tactic(auto, unfolding(crate::specs::Slots::swapped))]
+#[inline(always)]
+pub fn swapped(index: u16) -> u16
+    ensures { result ≡ swapped_of index }
+{
+    64 * (index / 8 % 8) + 8 * (index / 64) + index % 8
+}
 
 /// Slots of 512 words, each all 0 when it is taken.
 ///
@@ -110,6 +120,19 @@ impl Bricks {
         self.vacant += 1;
     }
 
+    /// The word at a place of a live slot, by one touch.
+    #[inline(always)]
+    pub fn word_at<L: Ledger>(&self, slot: u32, at: u16, steps: &mut Steps<L>) -> u32
+        requires live { IsLive self.now slot }
+        requires place { at < SLOT_WORDS }
+        ensures value { result ≡ slice_index (words_of self.now slot) (swapped_of at) }
+        ensures touch { steps.new ≡ steps.old + 1 }
+        ensures slots { AreSlots self.now }
+    {
+        steps.tick();
+        load(&self.chunks, place(slot, at))
+    }
+
     /// The word at `index` of a live slot, by one touch.
     pub fn word<L: Ledger>(&self, slot: u32, index: u16, steps: &mut Steps<L>) -> u32
         requires live { IsLive self.now slot }
@@ -118,18 +141,31 @@ impl Bricks {
         ensures touch { steps.new ≡ steps.old + 1 }
         ensures slots { AreSlots self.now }
     {
-        steps.tick();
-        load(&self.chunks, place(slot, index))
+        self.word_at(slot, swapped(index), steps)
     }
 
-    /// The chunk that has the words of a live slot, from [`start_in_chunk`] on. A caller that reads several of them looks for
-    /// it once.
+    /// The chunk that has the words of a live slot by their places, from [`start_in_chunk`] on. A caller that reads several of them
+    /// looks for it once.
     #[inline(always)]
     pub fn chunk(&self, slot: u32) -> &Chunk
         requires { IsLive self.now slot }
         ensures { HasSlot self.now slot result.now }
     {
         &self.chunks[slot as usize / CHUNK_SLOTS]
+    }
+
+    /// Writes the word at a place of a live slot, by one touch.
+    #[inline(always)]
+    pub fn set_word_at<L: Ledger>(&mut self, slot: u32, at: u16, word: u32, steps: &mut Steps<L>)
+        requires live { IsLive self.old slot }
+        requires place { at < SLOT_WORDS }
+        ensures value { self.new ≡ map.insert self.old slot (slice_set (words_of self.old slot) (swapped_of at) word) }
+        ensures written { slice_index (words_of self.new slot) (swapped_of at) ≡ word }
+        ensures touch { steps.new ≡ steps.old + 1 }
+        ensures slots { AreSlots self.new }
+    {
+        steps.tick();
+        store(&mut self.chunks, place(slot, at), word);
     }
 
     /// Writes the word at `index` of a live slot, by one touch.
@@ -141,25 +177,26 @@ impl Bricks {
         ensures touch { steps.new ≡ steps.old + 1 }
         ensures slots { AreSlots self.new }
     {
-        steps.tick();
-        store(&mut self.chunks, place(slot, index), word);
+        self.set_word_at(slot, swapped(index), word, steps);
     }
 
-    /// Writes one word into the eight places of a live slot from `index` on, as eight calls of [`Bricks::set_word`] would,
-    /// by one touch each.
+    /// Writes one word into the eight places of a live slot from one on, as eight calls of [`Bricks::set_word_at`] would,
+    /// by one touch each. The first is a multiple of eight.
     #[inline(always)]
-    pub fn set_row<L: Ledger>(&mut self, slot: u32, index: u16, word: u32, steps: &mut Steps<L>)
+    pub fn set_row<L: Ledger>(&mut self, slot: u32, at: u16, word: u32, steps: &mut Steps<L>)
         requires live { IsLive self.old slot }
-        requires row { index + 8 ≤ SLOT_WORDS }
-        ensures value { self.new ≡ with_row self.old slot index 8 word }
+        requires place { at < SLOT_WORDS }
+        requires row { at % 8 ≡ 0 }
+        ensures value { self.new ≡ with_row self.old slot (swapped_of at) 8 word }
         ensures written { (k : ℕ) → k < 8
-            → slice_index (words_of (with_row self.old slot index (k + 1) word) slot) (index + k) ≡ word }
+            → slice_index (words_of (with_row self.old slot (swapped_of at) (k + 1) word) slot) (swapped_of at + k)
+            ≡ word }
         ensures touches { steps.new ≡ steps.old + 8 }
         ensures slots { AreSlots self.new }
     {
         for _ in 0..8u16 {
             steps.tick();
         }
-        store_row(&mut self.chunks, place(slot, index), word);
+        store_row(&mut self.chunks, place(slot, at), word);
     }
 }

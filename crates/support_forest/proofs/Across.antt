@@ -3,16 +3,17 @@ use Rattle.std.proofs.Common.{◌≡◌, ℕ, zero, suc, ◌+◌, ◌-◌, ◌*�
 use Rattle.std.specs.Prelude.{MatchOption}
 use Rattle.std.proofs.Math.Nat.{add-mul, mul-le-mul_right, suc-mul}
 use Rattle.std.proofs.lemmas.Bool.{cases_lt}
+use Rattle.brick_arena.specs.Slots.{swapped}
 use Rattle.vox_geom.specs.declared.coordinate.Coord.{Coord}
 use Rattle.vox_geom.specs.Space.{IsInSpace, place}
 use Rattle.vox_geom.proofs.Firsts.{place_below}
 use Rattle.support_forest.specs.Directions.{lies_left, lies_right, lies_under, lies_over, lies_near, lies_far}
-use Rattle.support_forest.specs.Grid.{Grid, IsStore, StandsIn, brick, brick_number, side, slot_at, word_at, word_in, word_index}
+use Rattle.support_forest.specs.Grid.{Grid, IsStore, StandsIn, brick, brick_number, side, slot_at, word_at, word_in, word_index, word_place}
 use Rattle.support_forest.specs.Placing.{EndsBrick, IsOwnSpot, IsSpotAcross, IsSpotToward, IsWordToward, NoneToward, StandsBeyond}
 use Rattle.support_forest.specs.Spots.{voxel_of}
 use Rattle.support_forest.proofs.Sides.{goes, one_toward}
 use Rattle.support_forest.proofs.Voxels.{digit_x, digit_y, digit_z, own_spot}
-use Rattle.support_forest.proofs.Store.{brick_inside, cube_of_bricks}
+use Rattle.support_forest.proofs.Store.{brick_inside, cube_of_bricks, index_there}
 
 -- ---- the number of the next brick
 
@@ -61,43 +62,43 @@ square_of_bricks n h =
     let at_most_n : n * n ≤ 51 * n = grind arith in
     omega arith
 
-pub stands_below : (r number index : ℕ) (c : Coord) → StandsIn r number index c → number < side r * side r * side r
+pub stands_below : (r number slot_place : ℕ) (c : Coord) → StandsIn r number slot_place c → number < side r * side r * side r
 unfolding brick_number
-stands_below r number index c s = let below = place_below (side r) (brick c) s.within in let in_brick = s.in_brick in omega arith
+stands_below r number slot_place c s = let below = place_below (side r) (brick c) s.within in let in_brick = s.in_brick in omega arith
 
 -- ---- where the neighbour stands
 
 -- so many bricks are before it where it is not in the first of them
-pub own_below : (r : ℕ) (c : Coord) (number index : ℕ) → IsOwnSpot r c number index → side r ≤ 51 → number < 132651
+pub own_below : (r : ℕ) (c : Coord) (number slot_place : ℕ) → IsOwnSpot r c number slot_place → side r ≤ 51 → number < 132651
 unfolding brick_number
-own_below r c number index own few =
+own_below r c number slot_place own few =
     let below = place_below (side r) (brick c) (brick_inside r c own.within) in
     let cube = cube_of_bricks (side r) few in
     let in_brick = own.in_brick in
     omega arith
 
-pub wall_before_own : (r : ℕ) (c : Coord) (number index : ℕ) → IsOwnSpot r c number index → c.x % 8 ≡ 0 → 0 < c.x
+pub wall_before_own : (r : ℕ) (c : Coord) (number slot_place : ℕ) → IsOwnSpot r c number slot_place → c.x % 8 ≡ 0 → 0 < c.x
     → side r * side r ≤ number
 unfolding brick_number
-wall_before_own r c number index own last some = wall_fits (side r) (c.x / 8) (c.y / 8) (c.z / 8) number (omega arith) own.in_brick
+wall_before_own r c number slot_place own last some = wall_fits (side r) (c.x / 8) (c.y / 8) (c.z / 8) number (omega arith) own.in_brick
 
-pub row_before_own : (r : ℕ) (c : Coord) (number index : ℕ) → IsOwnSpot r c number index → c.y % 8 ≡ 0 → 0 < c.y
+pub row_before_own : (r : ℕ) (c : Coord) (number slot_place : ℕ) → IsOwnSpot r c number slot_place → c.y % 8 ≡ 0 → 0 < c.y
     → side r ≤ number
 unfolding brick_number
-row_before_own r c number index own last some = row_fits (side r) (c.x / 8) (c.y / 8) (c.z / 8) number (omega arith) own.in_brick
+row_before_own r c number slot_place own last some = row_fits (side r) (c.x / 8) (c.y / 8) (c.z / 8) number (omega arith) own.in_brick
 
-pub one_before_own : (r : ℕ) (c : Coord) (number index : ℕ) → IsOwnSpot r c number index → c.z % 8 ≡ 0 → 0 < c.z
+pub one_before_own : (r : ℕ) (c : Coord) (number slot_place : ℕ) → IsOwnSpot r c number slot_place → c.z % 8 ≡ 0 → 0 < c.z
     → 1 ≤ number
 unfolding brick_number
-one_before_own r c number index own last some = let in_brick = own.in_brick in omega arith
+one_before_own r c number slot_place own last some = let in_brick = own.in_brick in omega arith
 
-pub spot_left : (r : ℕ) (c : Coord) (d own place number index : ℕ) → IsOwnSpot r c own place → d ≡ 1 → c.x % 8 ≡ 0
-    → 0 < c.x → number + side r * side r ≡ own → index ≡ place + 448 → IsSpotToward r c d number index
-unfolding brick_number word_index
-spot_left r c d own place number index own_spot e last some n i =
+pub spot_left : (r : ℕ) (c : Coord) (d own place number slot_place : ℕ) → IsOwnSpot r c own place → d ≡ 1 → c.x % 8 ≡ 0
+    → 0 < c.x → number + side r * side r ≡ own → slot_place ≡ place + 56 → IsSpotToward r c d number slot_place
+unfolding brick_number word_place
+spot_left r c d own place number slot_place own_spot e last some n i =
     let bricks = brick_inside r c own_spot.within in
     let in_x = bricks.x in
-    let at = own_spot.at_index in
+    let at = own_spot.at_place in
     let before : (c.x - 1) / 8 ≡ c.x / 8 - 1 = omega arith in
     record {
       there = record { x = c.x - 1; y = c.y; z = c.z };
@@ -105,17 +106,17 @@ spot_left r c d own place number index own_spot e last some n i =
       stands = record {
         within = record { x = omega arith; y = bricks.y; z = bricks.z };
         in_brick = ap (λ (k : ℕ). k * side r * side r + c.y / 8 * side r + c.z / 8) before ∙ wall_before (side r) (c.x / 8) (c.y / 8) (c.z / 8) number own (omega arith) n own_spot.in_brick;
-        at_index = omega arith;
+        at_place = omega arith;
       };
     }
 
-pub spot_right : (r : ℕ) (c : Coord) (d own place number index : ℕ) → IsOwnSpot r c own place → d ≡ 2 → c.x % 8 ≡ 7
-    → number ≡ own + side r * side r → index + 448 ≡ place → IsSpotToward r c d number index
-unfolding brick_number word_index side
-spot_right r c d own place number index own_spot e last n i =
+pub spot_right : (r : ℕ) (c : Coord) (d own place number slot_place : ℕ) → IsOwnSpot r c own place → d ≡ 2 → c.x % 8 ≡ 7
+    → number ≡ own + side r * side r → slot_place + 56 ≡ place → IsSpotToward r c d number slot_place
+unfolding brick_number word_place side
+spot_right r c d own place number slot_place own_spot e last n i =
     let bricks = brick_inside r c own_spot.within in
     let along = own_spot.within.x in
-    let at = own_spot.at_index in
+    let at = own_spot.at_place in
     let behind : (c.x + 1) / 8 ≡ c.x / 8 + 1 = omega arith in
     record {
       there = record { x = c.x + 1; y = c.y; z = c.z };
@@ -123,17 +124,17 @@ spot_right r c d own place number index own_spot e last n i =
       stands = record {
         within = record { x = omega arith; y = bricks.y; z = bricks.z };
         in_brick = ap (λ (k : ℕ). k * side r * side r + c.y / 8 * side r + c.z / 8) behind ∙ wall_behind (side r) (c.x / 8) (c.y / 8) (c.z / 8) number own n own_spot.in_brick;
-        at_index = omega arith;
+        at_place = omega arith;
       };
     }
 
-pub spot_under : (r : ℕ) (c : Coord) (d own place number index : ℕ) → IsOwnSpot r c own place → d ≡ 3 → c.y % 8 ≡ 0
-    → 0 < c.y → number + side r ≡ own → index ≡ place + 56 → IsSpotToward r c d number index
-unfolding brick_number word_index
-spot_under r c d own place number index own_spot e last some n i =
+pub spot_under : (r : ℕ) (c : Coord) (d own place number slot_place : ℕ) → IsOwnSpot r c own place → d ≡ 3 → c.y % 8 ≡ 0
+    → 0 < c.y → number + side r ≡ own → slot_place ≡ place + 448 → IsSpotToward r c d number slot_place
+unfolding brick_number word_place
+spot_under r c d own place number slot_place own_spot e last some n i =
     let bricks = brick_inside r c own_spot.within in
     let in_y = bricks.y in
-    let at = own_spot.at_index in
+    let at = own_spot.at_place in
     let before : (c.y - 1) / 8 ≡ c.y / 8 - 1 = omega arith in
     record {
       there = record { x = c.x; y = c.y - 1; z = c.z };
@@ -141,17 +142,17 @@ spot_under r c d own place number index own_spot e last some n i =
       stands = record {
         within = record { x = bricks.x; y = omega arith; z = bricks.z };
         in_brick = ap (λ (k : ℕ). c.x / 8 * side r * side r + k * side r + c.z / 8) before ∙ row_before (side r) (c.x / 8) (c.y / 8) (c.z / 8) number own (omega arith) n own_spot.in_brick;
-        at_index = omega arith;
+        at_place = omega arith;
       };
     }
 
-pub spot_over : (r : ℕ) (c : Coord) (d own place number index : ℕ) → IsOwnSpot r c own place → d ≡ 4 → c.y % 8 ≡ 7
-    → number ≡ own + side r → index + 56 ≡ place → IsSpotToward r c d number index
-unfolding brick_number word_index side
-spot_over r c d own place number index own_spot e last n i =
+pub spot_over : (r : ℕ) (c : Coord) (d own place number slot_place : ℕ) → IsOwnSpot r c own place → d ≡ 4 → c.y % 8 ≡ 7
+    → number ≡ own + side r → slot_place + 448 ≡ place → IsSpotToward r c d number slot_place
+unfolding brick_number word_place side
+spot_over r c d own place number slot_place own_spot e last n i =
     let bricks = brick_inside r c own_spot.within in
     let along = own_spot.within.y in
-    let at = own_spot.at_index in
+    let at = own_spot.at_place in
     let behind : (c.y + 1) / 8 ≡ c.y / 8 + 1 = omega arith in
     record {
       there = record { x = c.x; y = c.y + 1; z = c.z };
@@ -159,36 +160,36 @@ spot_over r c d own place number index own_spot e last n i =
       stands = record {
         within = record { x = bricks.x; y = omega arith; z = bricks.z };
         in_brick = ap (λ (k : ℕ). c.x / 8 * side r * side r + k * side r + c.z / 8) behind ∙ row_behind (side r) (c.x / 8) (c.y / 8) (c.z / 8) number own n own_spot.in_brick;
-        at_index = omega arith;
+        at_place = omega arith;
       };
     }
 
-pub spot_near : (r : ℕ) (c : Coord) (d own place number index : ℕ) → IsOwnSpot r c own place → d ≡ 5 → c.z % 8 ≡ 0
-    → 0 < c.z → number + 1 ≡ own → index ≡ place + 7 → IsSpotToward r c d number index
-unfolding brick_number word_index
-spot_near r c d own place number index own_spot e last some n i =
+pub spot_near : (r : ℕ) (c : Coord) (d own place number slot_place : ℕ) → IsOwnSpot r c own place → d ≡ 5 → c.z % 8 ≡ 0
+    → 0 < c.z → number + 1 ≡ own → slot_place ≡ place + 7 → IsSpotToward r c d number slot_place
+unfolding brick_number word_place
+spot_near r c d own place number slot_place own_spot e last some n i =
     let bricks = brick_inside r c own_spot.within in
     let in_z = bricks.z in
-    let at = own_spot.at_index in
+    let at = own_spot.at_place in
     let in_brick = own_spot.in_brick in
     record {
       there = record { x = c.x; y = c.y; z = c.z - 1 };
       toward = lies_near (e, refl, refl, omega arith);
-      stands = record { within = record { x = bricks.x; y = bricks.y; z = omega arith }; in_brick = omega arith; at_index = omega arith };
+      stands = record { within = record { x = bricks.x; y = bricks.y; z = omega arith }; in_brick = omega arith; at_place = omega arith };
     }
 
-pub spot_far : (r : ℕ) (c : Coord) (d own place number index : ℕ) → IsOwnSpot r c own place → d ≡ 6 → c.z % 8 ≡ 7
-    → number ≡ own + 1 → index + 7 ≡ place → IsSpotToward r c d number index
-unfolding brick_number word_index side
-spot_far r c d own place number index own_spot e last n i =
+pub spot_far : (r : ℕ) (c : Coord) (d own place number slot_place : ℕ) → IsOwnSpot r c own place → d ≡ 6 → c.z % 8 ≡ 7
+    → number ≡ own + 1 → slot_place + 7 ≡ place → IsSpotToward r c d number slot_place
+unfolding brick_number word_place side
+spot_far r c d own place number slot_place own_spot e last n i =
     let bricks = brick_inside r c own_spot.within in
     let along = own_spot.within.z in
-    let at = own_spot.at_index in
+    let at = own_spot.at_place in
     let in_brick = own_spot.in_brick in
     record {
       there = record { x = c.x; y = c.y; z = c.z + 1 };
       toward = lies_far (e, refl, refl, omega arith);
-      stands = record { within = record { x = bricks.x; y = bricks.y; z = omega arith }; in_brick = omega arith; at_index = omega arith };
+      stands = record { within = record { x = bricks.x; y = bricks.y; z = omega arith }; in_brick = omega arith; at_place = omega arith };
     }
 
 -- ---- no neighbour at the border of space
@@ -286,11 +287,11 @@ pub match_so : {A : Type 0} (o : Option A) (N M : Type 0) (P Q : A → Type 0) �
 match_so None N M P Q n k h = n h
 match_so (Some a) N M P Q n k h = k a h
 
--- the word at an index of a brick is that of each voxel that stands there
-pub reads_in_brick : (g : Grid) (number index word : ℕ) (slot : Option ℕ) → IsStore g → slot ≡ slot_at g.table number
-    → word ≡ word_in g.bricks slot index → (q : Coord) → StandsIn g.resolution number index q → word_at g q ≡ word
-reads_in_brick g number index word slot h e k q s =
-    sym (h.words q s.within) ∙ (ap (λ (n : ℕ). word_in g.bricks (slot_at g.table n) (word_index q)) s.in_brick ∙ (ap (λ (j : ℕ). word_in g.bricks (slot_at g.table number) j) s.at_index ∙ (ap (λ (x : Option ℕ). word_in g.bricks x index) (sym e) ∙ sym k)))
+-- the word at a place of a brick is that of each voxel that stands there
+pub reads_in_brick : (g : Grid) (number at word : ℕ) (slot : Option ℕ) → IsStore g → slot ≡ slot_at g.table number
+    → word ≡ word_in g.bricks slot (swapped at) → (q : Coord) → StandsIn g.resolution number at q → word_at g q ≡ word
+reads_in_brick g number at word slot h e k q s =
+    sym (h.words q s.within) ∙ (ap (λ (n : ℕ). word_in g.bricks (slot_at g.table n) (word_index q)) s.in_brick ∙ (ap (λ (j : ℕ). word_in g.bricks (slot_at g.table number) j) (sym (index_there q at (sym s.at_place))) ∙ (ap (λ (x : Option ℕ). word_in g.bricks x (swapped at)) (sym e) ∙ sym k)))
 
 -- where no voxel lies in the direction the word is 0
 pub no_word : (g : Grid) (c : Coord) (d word : ℕ) → ((q : Coord) → 0 < word_at g q → IsInSpace g.resolution q)
@@ -300,9 +301,9 @@ no_word g c d word space none e = record {
   some = λ f. absurd (omega arith);
 }
 
-pub that_word : (g : Grid) (c : Coord) (d number index word : ℕ) → IsSpotToward g.resolution c d number index
-    → ((q : Coord) → StandsIn g.resolution number index q → word_at g q ≡ word) → IsWordToward (word_at g) c d word
-that_word g c d number index word s value = record {
+pub that_word : (g : Grid) (c : Coord) (d number slot_place word : ℕ) → IsSpotToward g.resolution c d number slot_place
+    → ((q : Coord) → StandsIn g.resolution number slot_place q → word_at g q ≡ word) → IsWordToward (word_at g) c d word
+that_word g c d number slot_place word s value = record {
   each = λ q k. ap (word_at g) (one_toward d c q s.there k s.toward) ∙ value s.there s.stands;
   some = λ f. (s.there, s.toward);
 }
@@ -330,12 +331,12 @@ word_there g c d next word space (inr s) value =
     no_word g c d word space s.0 (void_word g s.1.there word space s.1.out (value s.1.there s.1.stands))
 
 pub across_left : (r p t next : ℕ) → t ≡ side r * side r → IsInSpace r (voxel_of (side r) p)
-    → (voxel_of (side r) p).x % 8 ≡ 0 → next + 512 * t ≡ p + 448 → IsSpotAcross r (voxel_of (side r) p) 1 next
+    → (voxel_of (side r) p).x % 8 ≡ 0 → next + 512 * t ≡ p + 56 → IsSpotAcross r (voxel_of (side r) p) 1 next
 unfolding brick_number
 across_left r p t next e within last is =
     let c = voxel_of (side r) p in
     let own = own_spot r p within in
-    let digit : p % 512 / 64 ≡ 0 = sym (digit_x (side r) p) ∙ last in
+    let digit : p % 512 / 8 % 8 ≡ 0 = sym (digit_x (side r) p) ∙ last in
     let bricks = brick_inside r c within in
     elim (cases_lt 0 c.x) [
       | inl some ↦ inl (spot_left r c 1 (p / 512) (p % 512) (next / 512) (next % 512) own refl last some (omega arith) (omega arith))
@@ -343,28 +344,28 @@ across_left r p t next e within last is =
     ]
 
 pub no_left : (r p t : ℕ) → t ≡ side r * side r → IsInSpace r (voxel_of (side r) p)
-    → (voxel_of (side r) p).x % 8 ≡ 0 → (p + 448) / 512 < t → NoneToward r (voxel_of (side r) p) 1
+    → (voxel_of (side r) p).x % 8 ≡ 0 → (p + 56) / 512 < t → NoneToward r (voxel_of (side r) p) 1
 no_left r p t e within last few =
     let c = voxel_of (side r) p in
     let own = own_spot r p within in
-    let digit : p % 512 / 64 ≡ 0 = sym (digit_x (side r) p) ∙ last in
+    let digit : p % 512 / 8 % 8 ≡ 0 = sym (digit_x (side r) p) ∙ last in
     elim (cases_lt 0 c.x) [
       | inl some ↦ let before = wall_before_own r c (p / 512) (p % 512) own last some in absurd (omega arith)
       | inr none ↦ none_left r c 1 refl (omega arith)
     ]
 
 pub across_right : (r p t next : ℕ) → t ≡ side r * side r → IsInSpace r (voxel_of (side r) p)
-    → (voxel_of (side r) p).x % 8 ≡ 7 → next + 448 ≡ p + 512 * t → IsSpotAcross r (voxel_of (side r) p) 2 next
+    → (voxel_of (side r) p).x % 8 ≡ 7 → next + 56 ≡ p + 512 * t → IsSpotAcross r (voxel_of (side r) p) 2 next
 across_right r p t next e within last is =
     let own = own_spot r p within in
-    let digit : p % 512 / 64 ≡ 7 = sym (digit_x (side r) p) ∙ last in
+    let digit : p % 512 / 8 % 8 ≡ 7 = sym (digit_x (side r) p) ∙ last in
     inl (spot_right r (voxel_of (side r) p) 2 (p / 512) (p % 512) (next / 512) (next % 512) own refl last (omega arith) (omega arith))
 
 pub across_over : (r p t next : ℕ) → t ≡ side r → IsInSpace r (voxel_of (side r) p)
-    → (voxel_of (side r) p).y % 8 ≡ 7 → next + 56 ≡ p + 512 * t → IsSpotAcross r (voxel_of (side r) p) 4 next
+    → (voxel_of (side r) p).y % 8 ≡ 7 → next + 448 ≡ p + 512 * t → IsSpotAcross r (voxel_of (side r) p) 4 next
 across_over r p t next e within last is =
     let own = own_spot r p within in
-    let digit : p % 512 / 8 % 8 ≡ 7 = sym (digit_y (side r) p) ∙ last in
+    let digit : p % 512 / 64 ≡ 7 = sym (digit_y (side r) p) ∙ last in
     inl (spot_over r (voxel_of (side r) p) 4 (p / 512) (p % 512) (next / 512) (next % 512) own refl last (omega arith) (omega arith))
 
 pub across_far : (r p next : ℕ) → IsInSpace r (voxel_of (side r) p) → (voxel_of (side r) p).z % 8 ≡ 7
@@ -376,13 +377,13 @@ across_far r p next within last is =
 
 -- the brick before the first of its row lies beyond space
 beyond_row : (r p next : ℕ) → IsInSpace r (voxel_of (side r) p) → (voxel_of (side r) p).y ≡ 0
-    → next + 512 * side r ≡ p + 56 → StandsBeyond r (next / 512) (next % 512)
-unfolding brick_number word_index side
+    → next + 512 * side r ≡ p + 448 → StandsBeyond r (next / 512) (next % 512)
+unfolding brick_number word_place side
 beyond_row r p next within floor is =
     let c = voxel_of (side r) p in
     let own = own_spot r p within in
     let bricks = brick_inside r c within in
-    let digit : p % 512 / 8 % 8 ≡ 0 = sym (digit_y (side r) p) ∙ omega arith in
+    let digit : p % 512 / 64 ≡ 0 = sym (digit_y (side r) p) ∙ omega arith in
     let there : Coord = record { x = c.x - 8; y = 8 * (side r - 1) + 7; z = c.z } in
     let in_x = bricks.x in
     let in_z = bricks.z in
@@ -392,7 +393,7 @@ beyond_row r p next within floor is =
     ] in
     let x_is : (c.x - 8) / 8 ≡ c.x / 8 - 1 = omega arith in
     let y_is : (8 * (side r - 1) + 7) / 8 ≡ side r - 1 = omega arith in
-    let at = own.at_index in
+    let at = own.at_place in
     let row : p / 512 ≡ c.x / 8 * side r * side r + 0 * side r + c.z / 8 = own.in_brick ∙ ap (λ (k : ℕ). c.x / 8 * side r * side r + k * side r + c.z / 8) (omega arith) in
     let number : next / 512 + side r ≡ p / 512 = omega arith in
     record {
@@ -401,27 +402,27 @@ beyond_row r p next within floor is =
       stands = record {
         within = record { x = omega arith; y = omega arith; z = in_z };
         in_brick = ap (λ (k : ℕ). k * side r * side r + (8 * (side r - 1) + 7) / 8 * side r + c.z / 8) x_is ∙ (ap (λ (k : ℕ). (c.x / 8 - 1) * side r * side r + k * side r + c.z / 8) y_is ∙ row_around (side r) (c.x / 8) (c.z / 8) (next / 512) (p / 512) wall (omega arith) number row);
-        at_index = omega arith;
+        at_place = omega arith;
       };
     }
 
 pub across_under : (r p t next : ℕ) → t ≡ side r → IsInSpace r (voxel_of (side r) p)
-    → (voxel_of (side r) p).y % 8 ≡ 0 → next + 512 * t ≡ p + 56 → IsSpotAcross r (voxel_of (side r) p) 3 next
+    → (voxel_of (side r) p).y % 8 ≡ 0 → next + 512 * t ≡ p + 448 → IsSpotAcross r (voxel_of (side r) p) 3 next
 across_under r p t next e within last is =
     let c = voxel_of (side r) p in
     let own = own_spot r p within in
-    let digit : p % 512 / 8 % 8 ≡ 0 = sym (digit_y (side r) p) ∙ last in
+    let digit : p % 512 / 64 ≡ 0 = sym (digit_y (side r) p) ∙ last in
     elim (cases_lt 0 c.y) [
       | inl some ↦ inl (spot_under r c 3 (p / 512) (p % 512) (next / 512) (next % 512) own refl last some (omega arith) (omega arith))
       | inr none ↦ inr (none_under r c 3 refl (omega arith), beyond_row r p next within (omega arith) (omega arith))
     ]
 
 pub no_under : (r p t : ℕ) → t ≡ side r → IsInSpace r (voxel_of (side r) p) → (voxel_of (side r) p).y % 8 ≡ 0
-    → (p + 56) / 512 < t → NoneToward r (voxel_of (side r) p) 3
+    → (p + 448) / 512 < t → NoneToward r (voxel_of (side r) p) 3
 no_under r p t e within last few =
     let c = voxel_of (side r) p in
     let own = own_spot r p within in
-    let digit : p % 512 / 8 % 8 ≡ 0 = sym (digit_y (side r) p) ∙ last in
+    let digit : p % 512 / 64 ≡ 0 = sym (digit_y (side r) p) ∙ last in
     elim (cases_lt 0 c.y) [
       | inl some ↦ let before = row_before_own r c (p / 512) (p % 512) own last some in absurd (omega arith)
       | inr none ↦ none_under r c 3 refl (omega arith)
@@ -430,7 +431,7 @@ no_under r p t e within last few =
 -- the brick before the first of its line lies beyond space
 beyond_line : (r p next : ℕ) → IsInSpace r (voxel_of (side r) p) → (voxel_of (side r) p).z ≡ 0
     → next + 512 ≡ p + 7 → StandsBeyond r (next / 512) (next % 512)
-unfolding brick_number word_index side
+unfolding brick_number word_place side
 beyond_line r p next within first is =
     let c = voxel_of (side r) p in
     let own = own_spot r p within in
@@ -438,7 +439,7 @@ beyond_line r p next within first is =
     let in_x = bricks.x in
     let in_y = bricks.y in
     let digit : p % 512 % 8 ≡ 0 = sym (digit_z (side r) p) ∙ omega arith in
-    let at = own.at_index in
+    let at = own.at_place in
     let z_is : (8 * (side r - 1) + 7) / 8 ≡ side r - 1 = omega arith in
     let number : next / 512 + 1 ≡ p / 512 = omega arith in
     let line : p / 512 ≡ c.x / 8 * side r * side r + c.y / 8 * side r + 0 = own.in_brick ∙ ap (λ (k : ℕ). c.x / 8 * side r * side r + c.y / 8 * side r + k) (omega arith) in
@@ -451,7 +452,7 @@ beyond_line r p next within first is =
             stands = record {
               within = record { x = in_x; y = omega arith; z = omega arith };
               in_brick = ap (λ (j : ℕ). c.x / 8 * side r * side r + j * side r + (8 * (side r - 1) + 7) / 8) y_is ∙ (ap (λ (j : ℕ). c.x / 8 * side r * side r + (c.y / 8 - 1) * side r + j) z_is ∙ line_around (side r) (c.x / 8) (c.y / 8) (next / 512) (p / 512) k (omega arith) number line);
-              at_index = omega arith;
+              at_place = omega arith;
             };
           }
       | inr k ↦
@@ -469,7 +470,7 @@ beyond_line r p next within first is =
             stands = record {
               within = record { x = omega arith; y = omega arith; z = omega arith };
               in_brick = ap (λ (j : ℕ). j * side r * side r + (8 * (side r - 1) + c.y % 8) / 8 * side r + (8 * (side r - 1) + 7) / 8) x_is ∙ (ap (λ (j : ℕ). (c.x / 8 - 1) * side r * side r + j * side r + (8 * (side r - 1) + 7) / 8) y_is ∙ (ap (λ (j : ℕ). (c.x / 8 - 1) * side r * side r + (side r - 1) * side r + j) z_is ∙ wall_around (side r) (c.x / 8) (next / 512) (p / 512) wall (omega arith) number wall_line));
-              at_index = omega arith;
+              at_place = omega arith;
             };
           }
     ]

@@ -5,8 +5,8 @@ use Rattle.vox_geom.specs.declared.coordinate.Coord.{Coord}
 use Rattle.vox_geom.specs.Space.{IsInSpace}
 use Rattle.support_forest.specs.declared.beside.Beside.{Beside}
 use Rattle.support_forest.specs.Directions.{Toward, AreBeside, lies_left, lies_right, lies_under, lies_over, lies_near, lies_far}
-use Rattle.support_forest.specs.Grid.{Grid, StandsAt, brick, brick_number, side, slot_at, slot_of, word_index}
-use Rattle.support_forest.specs.Placing.{AreBesideWords, IsIndexToward, StayAfter}
+use Rattle.support_forest.specs.Grid.{Grid, StandsAt, brick, brick_number, side, slot_at, slot_of, word_place}
+use Rattle.support_forest.specs.Placing.{AreBesideWords, StandsToward, StayAfter}
 use Rattle.support_forest.specs.Words.{IsWritten}
 use Rattle.support_forest.proofs.Sides.{one_direction}
 use Rattle.support_forest.proofs.Store.{brick_inside, same_brick}
@@ -37,66 +37,66 @@ toward_down c q (lies_far h) = absurd (omega arith)
 pub same_slot : (g : Grid) (c d : Coord) (own : Option ℕ) → brick d ≡ brick c → own ≡ slot_of g c → own ≡ slot_of g d
 same_slot g c d own e h = subst (λ (n : ℕ). own ≡ slot_at g.table n) (sym (same_brick g.resolution d c e)) h
 
--- ---- the index of a neighbour's word in the same brick
+-- ---- the place of a neighbour's word in the same brick
 
-pub index_left : (c : Coord) (d index i : ℕ) → d ≡ 1 → index ≡ word_index c → 0 < c.x % 8 → i + 64 ≡ index
-    → IsIndexToward c d i
-unfolding word_index
-index_left c d index i n e h k = record {
+pub stands_left : (c : Coord) (d slot_place i : ℕ) → d ≡ 1 → slot_place ≡ word_place c → 0 < c.x % 8 → i + 8 ≡ slot_place
+    → StandsToward c d i
+unfolding word_place
+stands_left c d slot_place i n e h k = record {
   there = record { x = c.x - 1; y = c.y; z = c.z };
   toward = lies_left (n, omega arith, refl, refl);
   same_brick = let quotient_is : (c.x - 1) / 8 ≡ c.x / 8 = omega arith in λ j. record { x = quotient_is j; y = c.y / 8; z = c.z / 8 };
-  at_index = omega arith;
+  at_place = omega arith;
 }
 
-pub index_right : (c : Coord) (d index i : ℕ) → d ≡ 2 → index ≡ word_index c → c.x % 8 < 7 → i ≡ index + 64
-    → IsIndexToward c d i
-unfolding word_index
-index_right c d index i n e h k = record {
+pub stands_right : (c : Coord) (d slot_place i : ℕ) → d ≡ 2 → slot_place ≡ word_place c → c.x % 8 < 7 → i ≡ slot_place + 8
+    → StandsToward c d i
+unfolding word_place
+stands_right c d slot_place i n e h k = record {
   there = record { x = c.x + 1; y = c.y; z = c.z };
   toward = lies_right (n, omega arith, refl, refl);
   same_brick = let quotient_is : (c.x + 1) / 8 ≡ c.x / 8 = omega arith in λ j. record { x = quotient_is j; y = c.y / 8; z = c.z / 8 };
-  at_index = omega arith;
+  at_place = omega arith;
 }
 
-pub index_under : (c : Coord) (d index i : ℕ) → d ≡ 3 → index ≡ word_index c → 0 < c.y % 8 → i + 8 ≡ index
-    → IsIndexToward c d i
-unfolding word_index
-index_under c d index i n e h k = record {
+pub stands_under : (c : Coord) (d slot_place i : ℕ) → d ≡ 3 → slot_place ≡ word_place c → 0 < c.y % 8 → i + 64 ≡ slot_place
+    → StandsToward c d i
+unfolding word_place
+stands_under c d slot_place i n e h k = record {
   there = record { x = c.x; y = c.y - 1; z = c.z };
   toward = lies_under (n, refl, omega arith, refl);
   same_brick = let quotient_is : (c.y - 1) / 8 ≡ c.y / 8 = omega arith in λ j. record { x = c.x / 8; y = quotient_is j; z = c.z / 8 };
-  at_index = omega arith;
+  at_place = omega arith;
 }
 
-pub index_over : (c : Coord) (d index i : ℕ) → d ≡ 4 → index ≡ word_index c → c.y % 8 < 7 → i ≡ index + 8
-    → IsIndexToward c d i
-unfolding word_index
-index_over c d index i n e h k = record {
+pub stands_over : (c : Coord) (d slot_place i : ℕ) → d ≡ 4 → slot_place ≡ word_place c → c.y % 8 < 7 → i ≡ slot_place + 64
+    → StandsToward c d i
+unfolding word_place
+stands_over c d slot_place i n e h k = record {
   there = record { x = c.x; y = c.y + 1; z = c.z };
   toward = lies_over (n, refl, omega arith, refl);
   same_brick = let quotient_is : (c.y + 1) / 8 ≡ c.y / 8 = omega arith in λ j. record { x = c.x / 8; y = quotient_is j; z = c.z / 8 };
-  at_index = omega arith;
+  at_place = omega arith;
 }
 
-pub index_near : (c : Coord) (d index i : ℕ) → d ≡ 5 → index ≡ word_index c → 0 < c.z % 8 → i + 1 ≡ index
-    → IsIndexToward c d i
-unfolding word_index
-index_near c d index i n e h k = record {
+pub stands_near : (c : Coord) (d slot_place i : ℕ) → d ≡ 5 → slot_place ≡ word_place c → 0 < c.z % 8 → i + 1 ≡ slot_place
+    → StandsToward c d i
+unfolding word_place
+stands_near c d slot_place i n e h k = record {
   there = record { x = c.x; y = c.y; z = c.z - 1 };
   toward = lies_near (n, refl, refl, omega arith);
   same_brick = let quotient_is : (c.z - 1) / 8 ≡ c.z / 8 = omega arith in λ j. record { x = c.x / 8; y = c.y / 8; z = quotient_is j };
-  at_index = omega arith;
+  at_place = omega arith;
 }
 
-pub index_far : (c : Coord) (d index i : ℕ) → d ≡ 6 → index ≡ word_index c → c.z % 8 < 7 → i ≡ index + 1
-    → IsIndexToward c d i
-unfolding word_index
-index_far c d index i n e h k = record {
+pub stands_far : (c : Coord) (d slot_place i : ℕ) → d ≡ 6 → slot_place ≡ word_place c → c.z % 8 < 7 → i ≡ slot_place + 1
+    → StandsToward c d i
+unfolding word_place
+stands_far c d slot_place i n e h k = record {
   there = record { x = c.x; y = c.y; z = c.z + 1 };
   toward = lies_far (n, refl, refl, omega arith);
   same_brick = let quotient_is : (c.z + 1) / 8 ≡ c.z / 8 = omega arith in λ j. record { x = c.x / 8; y = c.y / 8; z = quotient_is j };
-  at_index = omega arith;
+  at_place = omega arith;
 }
 
 -- what follows of the number in an option
@@ -105,12 +105,12 @@ some_so None P Q k h = h
 some_so (Some i) P Q k h = k i h
 
 -- a neighbour in the same brick stands in the same slot
-pub stands_beside : (g : Grid) (c : Coord) (d slot index : ℕ) → IsInSpace g.resolution c → slot_of g c ≡ Some slot
-    → (t : IsIndexToward c d index) → StandsAt g slot index t.there
-stands_beside g c d slot index i e t = record {
+pub stands_beside : (g : Grid) (c : Coord) (d slot slot_place : ℕ) → IsInSpace g.resolution c → slot_of g c ≡ Some slot
+    → (t : StandsToward c d slot_place) → StandsAt g slot slot_place t.there
+stands_beside g c d slot slot_place i e t = record {
   within = subst (λ (b : Coord). IsInSpace (side g.resolution) b) (sym t.same_brick) (brick_inside g.resolution c i);
   in_slot = sym (same_slot g c t.there (Some slot) t.same_brick (sym e));
-  at_index = t.at_index;
+  at_place = t.at_place;
 }
 
 -- where the table stays a brick keeps its slot

@@ -49,10 +49,6 @@ can_row g q c slot index word same h r o a l ls w = record {
   written = w;
 }
 
-pub row_fits : (c : Coord) (index : ℕ) → c.z % 8 + 8 ≤ 8 → index ≡ word_index c → index + 8 ≤ 512
-unfolding word_index
-row_fits c index r e = omega arith
-
 -- what is so after k words
 record IsRowed (g : Grid) (c : Coord) (slot index word k : ℕ) : Type 0 where
   store : IsStore (rowed g slot index word k)

@@ -6,17 +6,17 @@ use Rattle.std.proofs.lemmas.List.{get_or_default}
 use Rattle.vox_geom.specs.declared.coordinate.Coord.{Coord}
 use Rattle.vox_geom.specs.Space.{IsInSpace}
 use Rattle.support_forest.specs.Directions.{Toward, lies_left, lies_right, lies_under, lies_over, lies_near, lies_far}
-use Rattle.brick_arena.specs.Slots.{HasSlot, start_in_chunk, words_of}
+use Rattle.brick_arena.specs.Slots.{HasSlot, start_in_chunk, swapped, words_of}
 use Rattle.support_forest.specs.Access.{LieInBrick}
-use Rattle.support_forest.specs.Grid.{Grid, IsStore, StandsAt, StandsIn, brick, side, slot_at, slot_of, word_at, word_in, word_index}
-use Rattle.support_forest.specs.Placing.{IsIndexToward, IsSpotAcross, IsWordToward, NoneToward}
+use Rattle.support_forest.specs.Grid.{Grid, IsStore, StandsAt, StandsIn, brick, side, slot_at, slot_of, word_at, word_in, word_index, word_place}
+use Rattle.support_forest.specs.Placing.{StandsToward, IsSpotAcross, IsWordToward, NoneToward}
 use Rattle.support_forest.specs.Stretches.{EndsAreFree, LieInRow, IsStretch, RowHangsNot, RowIsFree, SideHangsNot, SidesAreFree, WordsHangNot, further, whole_row_start}
 use Rattle.support_forest.specs.Taking.{HangsNot}
 use Rattle.support_forest.specs.Words.{AreExact}
 use Rattle.support_forest.proofs.Nearby.{same_slot, stands_beside}
 use Rattle.support_forest.proofs.Sides.{one_toward}
-use Rattle.support_forest.proofs.Store.{brick_inside, index_below}
-use Rattle.support_forest.proofs.Writes.{reads_index}
+use Rattle.support_forest.proofs.Store.{brick_inside, slot_place_below}
+use Rattle.support_forest.proofs.Writes.{reads_place}
 
 -- ---- where a stretch begins
 
@@ -98,56 +98,61 @@ pub row_slot : (g : Grid) (c : Coord) (n k : ℕ) (own : Option ℕ) → LieInRo
     → own ≡ slot_of g (further c k)
 row_slot g c n k own h l e = same_slot g c (further c k) own (row_brick c n k h.row l) e
 
+pub row_place : (c : Coord) (n k at : ℕ) → c.z % 8 + n ≤ 8 → k < n → at ≡ word_place c
+    → word_place (further c k) ≡ at + k
+unfolding word_place
+row_place c n k at r l e = omega arith
+
 pub row_index : (c : Coord) (n k index : ℕ) → c.z % 8 + n ≤ 8 → k < n → index ≡ word_index c
     → word_index (further c k) ≡ index + k
 unfolding word_index
 row_index c n k index r l e = omega arith
 
 -- the words of a row stand in the chunk that has its slot
-pub row_in_chunk : (g : Grid) (chunk : List ℕ) (slot index from n : ℕ) (c : Coord) → HasSlot g.bricks slot chunk
-    → index ≡ word_index c → c.z % 8 + n ≤ 8 → from ≡ start_in_chunk slot + index → from + n ≤ length chunk
-unfolding word_index
-row_in_chunk g chunk slot index from n c h e r f = let full = h.full in omega arith
+pub row_in_chunk : (g : Grid) (chunk : List ℕ) (slot slot_place from n : ℕ) (c : Coord) → HasSlot g.bricks slot chunk
+    → slot_place ≡ word_place c → c.z % 8 + n ≤ 8 → from ≡ start_in_chunk slot + slot_place → from + n ≤ length chunk
+unfolding word_place
+row_in_chunk g chunk slot slot_place from n c h e r f = let full = h.full in omega arith
 
 -- what holds of the words of the chunk holds of those of the row, which may lie beyond space
-pub row_in_slot : (g : Grid) (chunk : List ℕ) (slot index from n : ℕ) (c : Coord) (P : ℕ → Type 0) → IsStore g
+pub row_in_slot : (g : Grid) (chunk : List ℕ) (slot slot_place from n : ℕ) (c : Coord) (P : ℕ → Type 0) → IsStore g
     → IsInSpace (side g.resolution) (brick c) → c.z % 8 + n ≤ 8 → slot_of g c ≡ Some slot → HasSlot g.bricks slot chunk
-    → index ≡ word_index c → from ≡ start_in_chunk slot + index → ((k : ℕ) → k < n → P (get_or chunk (from + k) 0))
+    → slot_place ≡ word_place c → from ≡ start_in_chunk slot + slot_place → ((k : ℕ) → k < n → P (get_or chunk (from + k) 0))
     → (k : ℕ) → k < n → P (word_at g (further c k))
-row_in_slot g chunk slot index from n c P s b r e h i f w k l =
+row_in_slot g chunk slot slot_place from n c P s b r e h i f w k l =
     let same : brick (further c k) ≡ brick c = row_brick c n k r l in
-    let at : word_index (further c k) ≡ index + k = row_index c n k index r l i in
-    let below : index + k < 512 = let below_512 = index_below (further c k) in omega arith in
-    let stands : StandsAt g slot (index + k) (further c k) = record {
+    let at : word_place (further c k) ≡ slot_place + k = row_place c n k slot_place r l i in
+    let below : slot_place + k < 512 = let below_512 = slot_place_below (further c k) in omega arith in
+    let stands : StandsAt g slot (slot_place + k) (further c k) = record {
       within = subst (λ (x : Coord). IsInSpace (side g.resolution) x) (sym same) b;
       in_slot = sym (same_slot g c (further c k) (Some slot) same (sym e));
-      at_index = at;
+      at_place = at;
     } in
-    let place : from + k ≡ start_in_chunk slot + (index + k) = omega arith in
-    let read : word_at g (further c k) ≡ get_or (words_of g.bricks slot) (index + k) 0 = reads_index g (further c k) slot (index + k) (get_or (words_of g.bricks slot) (index + k) 0) s stands refl in
-    let here : get_or chunk (from + k) 0 ≡ get_or (words_of g.bricks slot) (index + k) 0 = ap (λ (j : ℕ). get_or chunk j 0) place ∙ h.each (index + k) below in
+    let place : from + k ≡ start_in_chunk slot + (slot_place + k) = omega arith in
+    let read : word_at g (further c k) ≡ get_or (words_of g.bricks slot) (swapped (slot_place + k)) 0 = reads_place g (further c k) slot (slot_place + k) (get_or (words_of g.bricks slot) (swapped (slot_place + k)) 0) s stands refl in
+    let here : get_or chunk (from + k) 0 ≡ get_or (words_of g.bricks slot) (swapped (slot_place + k)) 0 = ap (λ (j : ℕ). get_or chunk j 0) place ∙ h.each (slot_place + k) below in
     subst P (here ∙ sym read) (w k l)
 
--- the place of a row in its line of a brick, by its index
-pub row_part : (q : Coord) (index n : ℕ) → word_index q ≡ index → index % 8 + n ≤ 8 → q.z % 8 + n ≤ 8
-unfolding word_index
-row_part q index n e r = omega arith
+-- the place of a row in its line of a brick, by that in its slot
+pub row_part : (q : Coord) (slot_place n : ℕ) → word_place q ≡ slot_place → slot_place % 8 + n ≤ 8 → q.z % 8 + n ≤ 8
+unfolding word_place
+row_part q slot_place n e r = omega arith
 
 -- the words of a row that stands in a brick of the table, which may lie beyond space
-pub standing_row : (g : Grid) (chunk : List ℕ) (slot number index from n : ℕ) (q : Coord) (P : ℕ → Type 0) → IsStore g
-    → StandsIn g.resolution number index q → index % 8 + n ≤ 8 → Some slot ≡ slot_at g.table number
-    → HasSlot g.bricks slot chunk → from ≡ start_in_chunk slot + index
+pub standing_row : (g : Grid) (chunk : List ℕ) (slot number slot_place from n : ℕ) (q : Coord) (P : ℕ → Type 0) → IsStore g
+    → StandsIn g.resolution number slot_place q → slot_place % 8 + n ≤ 8 → Some slot ≡ slot_at g.table number
+    → HasSlot g.bricks slot chunk → from ≡ start_in_chunk slot + slot_place
     → ((k : ℕ) → k < n → P (get_or chunk (from + k) 0)) → (k : ℕ) → k < n → P (word_at g (further q k))
-standing_row g chunk slot number index from n q P store s r e h f w =
-    row_in_slot g chunk slot index from n q P store s.within (row_part q index n s.at_index r)
-    (ap (λ (k : ℕ). slot_at g.table k) s.in_brick ∙ sym e) h (sym s.at_index) f w
+standing_row g chunk slot number slot_place from n q P store s r e h f w =
+    row_in_slot g chunk slot slot_place from n q P store s.within (row_part q slot_place n s.at_place r)
+    (ap (λ (k : ℕ). slot_at g.table k) s.in_brick ∙ sym e) h (sym s.at_place) f w
 
 -- a row that stands in a brick without a slot is void
-pub standing_void : (g : Grid) (number index n toward : ℕ) (q : Coord) → IsStore g
-    → StandsIn g.resolution number index q → index % 8 + n ≤ 8 → None ≡ slot_at g.table number
+pub standing_void : (g : Grid) (number slot_place n toward : ℕ) (q : Coord) → IsStore g
+    → StandsIn g.resolution number slot_place q → slot_place % 8 + n ≤ 8 → None ≡ slot_at g.table number
     → RowHangsNot (word_at g) q n toward
-standing_void g number index n toward q store s r e k l f =
-    let same : brick (further q k) ≡ brick q = row_brick q n k (row_part q index n s.at_index r) l in
+standing_void g number slot_place n toward q store s r e k l f =
+    let same : brick (further q k) ≡ brick q = row_brick q n k (row_part q slot_place n s.at_place r) l in
     let slot : None ≡ slot_of g (further q k) = same_slot g q (further q k) None same (e ∙ ap (λ (j : ℕ). slot_at g.table j) (sym s.in_brick)) in
     let word_is : 0 ≡ word_at g (further q k) = ap (λ (o : Option ℕ). word_in g.bricks o (word_index (further q k))) slot
     ∙ store.words (further q k) (subst (λ (b : Coord). IsInSpace (side g.resolution) b) (sym same) s.within) in
@@ -197,21 +202,21 @@ side_none g c n d toward own b h none k p l t f m =
     none (record { x = p.x; y = p.y; z = c.z }) (side_back d k c p b.1 t) (record { x = space_here.x; y = space_here.y; z = within_z })
 
 -- a side in the brick at hand
-pub side_in_slot : (g : Grid) (chunk : List ℕ) (slot index from n d toward : ℕ) (c : Coord) → (0 < d) × (d ≤ 4)
-    → IsStore g → LieInBrick g c slot → c.z % 8 + n ≤ 8 → HasSlot g.bricks slot chunk → IsIndexToward c d index
-    → from ≡ start_in_chunk slot + index → WordsHangNot chunk from n toward → SideHangsNot (word_at g) c n d toward
-side_in_slot g chunk slot index from n d toward c r s b row h t f w =
-    let at : StandsAt g slot index t.there = stands_beside g c d slot index b.within b.slot t in
+pub side_in_slot : (g : Grid) (chunk : List ℕ) (slot slot_place from n d toward : ℕ) (c : Coord) → (0 < d) × (d ≤ 4)
+    → IsStore g → LieInBrick g c slot → c.z % 8 + n ≤ 8 → HasSlot g.bricks slot chunk → StandsToward c d slot_place
+    → from ≡ start_in_chunk slot + slot_place → WordsHangNot chunk from n toward → SideHangsNot (word_at g) c n d toward
+side_in_slot g chunk slot slot_place from n d toward c r s b row h t f w =
+    let at : StandsAt g slot slot_place t.there = stands_beside g c d slot slot_place b.within b.slot t in
     let same_z : t.there.z ≡ c.z = same_height d c t.there r.1 t.toward in
     side_free (word_at g) c t.there n d toward r t.toward
-    (row_in_slot g chunk slot index from n t.there (λ v. HangsNot v toward) s at.within (omega arith) at.in_slot h (sym at.at_index) f w)
+    (row_in_slot g chunk slot slot_place from n t.there (λ v. HangsNot v toward) s at.within (omega arith) at.in_slot h (sym at.at_place) f w)
 
-pub side_in_chunk : (g : Grid) (chunk : List ℕ) (slot index from n d : ℕ) (c : Coord) → d ≤ 4 → c.z % 8 + n ≤ 8
-    → HasSlot g.bricks slot chunk → IsIndexToward c d index → from ≡ start_in_chunk slot + index
+pub side_in_chunk : (g : Grid) (chunk : List ℕ) (slot slot_place from n d : ℕ) (c : Coord) → d ≤ 4 → c.z % 8 + n ≤ 8
+    → HasSlot g.bricks slot chunk → StandsToward c d slot_place → from ≡ start_in_chunk slot + slot_place
     → from + n ≤ length chunk
-side_in_chunk g chunk slot index from n d c r row h t f =
+side_in_chunk g chunk slot slot_place from n d c r row h t f =
     let same_z : t.there.z ≡ c.z = same_height d c t.there r t.toward in
-    row_in_chunk g chunk slot index from n t.there h (sym t.at_index) (omega arith) f
+    row_in_chunk g chunk slot slot_place from n t.there h (sym t.at_place) (omega arith) f
 
 -- a side over the border of the brick: what stands at its spot is the row beside, or none lies in space
 pub side_across : (g : Grid) (c : Coord) (n d toward next own : ℕ) → (0 < d) × (d ≤ 4) → LieInBrick g c own
@@ -282,13 +287,13 @@ whole_row_brick : (c : Coord) → brick (whole_row_start c) ≡ brick c
 whole_row_brick c = let product_is : c.z / 8 * 8 / 8 ≡ c.z / 8 = omega arith in λ j. record { x = c.x / 8; y = c.y / 8; z = product_is j }
 
 -- what holds of the words of the whole row in the chunk holds of those of its voxels, which may lie beyond space
-pub whole_row_in_slot : (g : Grid) (chunk : List ℕ) (slot index from : ℕ) (c : Coord) (P : ℕ → Type 0) → IsStore g
+pub whole_row_in_slot : (g : Grid) (chunk : List ℕ) (slot slot_place from : ℕ) (c : Coord) (P : ℕ → Type 0) → IsStore g
     → IsInSpace g.resolution c → slot_of g c ≡ Some slot → HasSlot g.bricks slot chunk
-    → index ≡ word_index (whole_row_start c) → from ≡ start_in_chunk slot + index
+    → slot_place ≡ word_place (whole_row_start c) → from ≡ start_in_chunk slot + slot_place
     → ((k : ℕ) → k < 8 → P (get_or chunk (from + k) 0)) → (k : ℕ) → k < 8
     → P (word_at g (further (whole_row_start c) k))
-whole_row_in_slot g chunk slot index from c P s w e h i f v =
-    row_in_slot g chunk slot index from 8 (whole_row_start c) P s
+whole_row_in_slot g chunk slot slot_place from c P s w e h i f v =
+    row_in_slot g chunk slot slot_place from 8 (whole_row_start c) P s
     (subst (λ (x : Coord). IsInSpace (side g.resolution) x) (sym (whole_row_brick c)) (brick_inside g.resolution c w)) (omega arith)
     (sym (same_slot g c (whole_row_start c) (Some slot) (whole_row_brick c) (sym e))) h i f v
 

@@ -8,11 +8,11 @@ use Rattle.vox_geom.specs.Space.{IsInSpace, coordinate_at, place}
 use Rattle.vox_geom.proofs.Firsts.{place_below}
 use Rattle.vox_geom.proofs.Places.{coordinate_at-place, place-coordinate_at}
 use Rattle.vox_geom.proofs.Tests.{test_equal, test_unequal}
-use Rattle.support_forest.specs.Grid.{Grid, IsStore, StandsIn, brick, brick_number, side, slot_at, slot_of, word_index}
+use Rattle.support_forest.specs.Grid.{Grid, IsStore, StandsIn, brick, brick_number, side, slot_at, slot_of, word_place}
 use Rattle.support_forest.specs.Placing.{IsOwnSpot}
 use Rattle.support_forest.specs.Spots.{spot_of, voxel_of, voxel_in, voxel_of_brick}
 use Rattle.support_forest.specs.Stretches.{further, whole_row_start}
-use Rattle.support_forest.proofs.Store.{brick_inside, cube_of_bricks, few_bricks, index_below}
+use Rattle.support_forest.proofs.Store.{brick_inside, cube_of_bricks, few_bricks, slot_place_below}
 
 high : (b i : ℕ) → i < 8 → (8 * b + i) / 8 ≡ b
 high b i h = omega arith
@@ -24,25 +24,25 @@ low b i h = omega arith
 pub brick_at : (s p : ℕ) → brick (voxel_of s p) ≡ coordinate_at s (p / 512)
 unfolding voxel_of
 brick_at s p =
-    let x_is = high (p / 512 / (s * s)) (p % 512 / 64) (omega arith) in
-    let y_is = high (p / 512 / s % s) (p % 512 / 8 % 8) (omega arith) in
+    let x_is = high (p / 512 / (s * s)) (p % 512 / 8 % 8) (omega arith) in
+    let y_is = high (p / 512 / s % s) (p % 512 / 64) (omega arith) in
     let z_is = high (p / 512 % s) (p % 512 % 8) (omega arith) in
     λ j. record { x = x_is j; y = y_is j; z = z_is j }
 
 -- its digits in the brick
-pub digit_x : (s p : ℕ) → (voxel_of s p).x % 8 ≡ p % 512 / 64
+pub digit_x : (s p : ℕ) → (voxel_of s p).x % 8 ≡ p % 512 / 8 % 8
 unfolding voxel_of
-digit_x s p = low (p / 512 / (s * s)) (p % 512 / 64) (omega arith)
+digit_x s p = low (p / 512 / (s * s)) (p % 512 / 8 % 8) (omega arith)
 
-pub digit_y : (s p : ℕ) → (voxel_of s p).y % 8 ≡ p % 512 / 8 % 8
+pub digit_y : (s p : ℕ) → (voxel_of s p).y % 8 ≡ p % 512 / 64
 unfolding voxel_of
-digit_y s p = low (p / 512 / s % s) (p % 512 / 8 % 8) (omega arith)
+digit_y s p = low (p / 512 / s % s) (p % 512 / 64) (omega arith)
 
 pub digit_z : (s p : ℕ) → (voxel_of s p).z % 8 ≡ p % 512 % 8
 unfolding voxel_of
 digit_z s p = low (p / 512 % s) (p % 512 % 8) (omega arith)
 
--- a spot is a number of a brick and an index
+-- a spot is a number of a brick and a place in its slot
 pub place_at : (s p : ℕ) → place s (brick (voxel_of s p)) ≡ p / 512
 place_at s p = ap (place s) (brick_at s p) ∙ place-coordinate_at s (p / 512)
 
@@ -50,24 +50,24 @@ pub number_at : (r p : ℕ) → brick_number r (voxel_of (side r) p) ≡ p / 512
 unfolding brick_number
 number_at r p = place_at (side r) p
 
-pub index_at : (s p : ℕ) → word_index (voxel_of s p) ≡ p % 512
-unfolding word_index
-index_at s p =
+pub slot_place_at : (s p : ℕ) → word_place (voxel_of s p) ≡ p % 512
+unfolding word_place
+slot_place_at s p =
     let x_is = digit_x s p in
     let y_is = digit_y s p in
     let z_is = digit_z s p in
     omega arith
 
-of_brick : (c : Coord) → voxel_of_brick (brick c) (word_index c) ≡ c
-unfolding word_index
+of_brick : (c : Coord) → voxel_of_brick (brick c) (word_place c) ≡ c
+unfolding word_place
 of_brick c =
-    let x_is : 8 * (c.x / 8) + (64 * (c.x % 8) + 8 * (c.y % 8) + c.z % 8) / 64 ≡ c.x = omega arith in
-    let y_is : 8 * (c.y / 8) + (64 * (c.x % 8) + 8 * (c.y % 8) + c.z % 8) / 8 % 8 ≡ c.y = omega arith in
-    let z_is : 8 * (c.z / 8) + (64 * (c.x % 8) + 8 * (c.y % 8) + c.z % 8) % 8 ≡ c.z = omega arith in
+    let x_is : 8 * (c.x / 8) + (64 * (c.y % 8) + 8 * (c.x % 8) + c.z % 8) / 8 % 8 ≡ c.x = omega arith in
+    let y_is : 8 * (c.y / 8) + (64 * (c.y % 8) + 8 * (c.x % 8) + c.z % 8) / 64 ≡ c.y = omega arith in
+    let z_is : 8 * (c.z / 8) + (64 * (c.y % 8) + 8 * (c.x % 8) + c.z % 8) % 8 ≡ c.z = omega arith in
     λ j. record { x = x_is j; y = y_is j; z = z_is j }
 
--- the voxel at a voxel's spot, and at any that has its brick and its index
-pub voxel_is : (s p : ℕ) (c : Coord) → IsInSpace s (brick c) → place s (brick c) ≡ p / 512 → word_index c ≡ p % 512
+-- the voxel at a voxel's spot, and at any that has its brick and its place there
+pub voxel_is : (s p : ℕ) (c : Coord) → IsInSpace s (brick c) → place s (brick c) ≡ p / 512 → word_place c ≡ p % 512
     → voxel_of s p ≡ c
 unfolding voxel_of
 voxel_is s p c h n i =
@@ -76,23 +76,23 @@ voxel_is s p c h n i =
     ∙ (ap (voxel_of_brick (brick c)) (sym i) ∙ of_brick c))
 
 pub voxel_there : (r p : ℕ) (c : Coord) → IsInSpace (side r) (brick c) → brick_number r c ≡ p / 512
-    → word_index c ≡ p % 512 → voxel_of (side r) p ≡ c
+    → word_place c ≡ p % 512 → voxel_of (side r) p ≡ c
 unfolding brick_number
 voxel_there r p c h n i = voxel_is (side r) p c h n i
 
 pub voxel_at_spot : (r : ℕ) (c : Coord) → IsInSpace (side r) (brick c) → voxel_of (side r) (spot_of r c) ≡ c
 unfolding spot_of
 voxel_at_spot r c h =
-    let below = index_below c in
-    voxel_there r (512 * brick_number r c + word_index c) c h (omega arith) (omega arith)
+    let below = slot_place_below c in
+    voxel_there r (512 * brick_number r c + word_place c) c h (omega arith) (omega arith)
 
 -- the voxel at a spot stands there
 pub stands_there : (r p : ℕ) → IsInSpace (side r) (brick (voxel_of (side r) p))
     → StandsIn r (p / 512) (p % 512) (voxel_of (side r) p)
-stands_there r p h = record { within = h; in_brick = number_at r p; at_index = index_at (side r) p }
+stands_there r p h = record { within = h; in_brick = number_at r p; at_place = slot_place_at (side r) p }
 
 pub own_spot : (r p : ℕ) → IsInSpace r (voxel_of (side r) p) → IsOwnSpot r (voxel_of (side r) p) (p / 512) (p % 512)
-own_spot r p h = record { within = h; in_brick = sym (number_at r p); at_index = sym (index_at (side r) p) }
+own_spot r p h = record { within = h; in_brick = sym (number_at r p); at_place = sym (slot_place_at (side r) p) }
 
 -- the number of a brick in the table
 pub number_below : (r p : ℕ) → IsInSpace r (voxel_of (side r) p) → p / 512 < side r * side r * side r
@@ -132,20 +132,20 @@ pub voxel_further : (s p k : ℕ) → p % 8 + k < 8 → voxel_of s (p + k) ≡ f
 unfolding voxel_of
 voxel_further s p k r =
     let number : (p + k) / 512 ≡ p / 512 = omega arith in
-    let x_is : (p + k) % 512 / 64 ≡ p % 512 / 64 = omega arith in
-    let y_is : (p + k) % 512 / 8 % 8 ≡ p % 512 / 8 % 8 = omega arith in
+    let x_is : (p + k) % 512 / 8 % 8 ≡ p % 512 / 8 % 8 = omega arith in
+    let y_is : (p + k) % 512 / 64 ≡ p % 512 / 64 = omega arith in
     let z_is : (p + k) % 512 % 8 ≡ p % 512 % 8 + k = omega arith in
     let same : voxel_of_brick (coordinate_at s ((p + k) / 512)) ((p + k) % 512) ≡ voxel_of_brick (coordinate_at s (p / 512)) ((p + k) % 512) = ap (λ (n : ℕ). voxel_of_brick (coordinate_at s n) ((p + k) % 512)) number in
     let brick_is = coordinate_at s (p / 512) in
     let sum_is : 8 * brick_is.z + (p % 512 % 8 + k) ≡ 8 * brick_is.z + p % 512 % 8 + k = omega arith in
-    same ∙ (λ j. record { x = 8 * brick_is.x + x_is j; y = 8 * brick_is.y + y_is j; z = 8 * brick_is.z + z_is j }) ∙ (λ j. record { x = 8 * brick_is.x + p % 512 / 64; y = 8 * brick_is.y + p % 512 / 8 % 8; z = sum_is j })
+    same ∙ (λ j. record { x = 8 * brick_is.x + x_is j; y = 8 * brick_is.y + y_is j; z = 8 * brick_is.z + z_is j }) ∙ (λ j. record { x = 8 * brick_is.x + p % 512 / 8 % 8; y = 8 * brick_is.y + p % 512 / 64; z = sum_is j })
 
 pub whole_row_there : (s p : ℕ) → voxel_of s (p / 8 * 8) ≡ whole_row_start (voxel_of s p)
 unfolding voxel_of
 whole_row_there s p =
     let number : p / 8 * 8 / 512 ≡ p / 512 = omega arith in
-    let x_is : p / 8 * 8 % 512 / 64 ≡ p % 512 / 64 = omega arith in
-    let y_is : p / 8 * 8 % 512 / 8 % 8 ≡ p % 512 / 8 % 8 = omega arith in
+    let x_is : p / 8 * 8 % 512 / 8 % 8 ≡ p % 512 / 8 % 8 = omega arith in
+    let y_is : p / 8 * 8 % 512 / 64 ≡ p % 512 / 64 = omega arith in
     let brick_is = coordinate_at s (p / 512) in
     let z_is : 8 * brick_is.z + p / 8 * 8 % 512 % 8 ≡ (8 * brick_is.z + p % 512 % 8) / 8 * 8 = omega arith in
     ap (λ (n : ℕ). voxel_of_brick (coordinate_at s n) (p / 8 * 8 % 512)) number
@@ -155,7 +155,7 @@ whole_row_there s p =
 
 pub voxel_along : (r line : ℕ) (c : Coord) → line ≡ spot_of r (record { x = c.x; y = c.y; z = 0 }) → IsInSpace r c
     → voxel_of (side r) (line + 512 * (c.z / 8) + c.z % 8) ≡ c
-unfolding spot_of brick_number word_index
+unfolding spot_of brick_number word_place
 voxel_along r line c e h =
     let bricks = brick_inside r c h in
     voxel_there r (line + 512 * (c.z / 8) + c.z % 8) c bricks (omega arith) (omega arith)
@@ -173,13 +173,13 @@ pub some_side : (r : ℕ) → 0 < side r
 unfolding side
 some_side r = omega arith
 
-pub floor_there : (s p : ℕ) → p / 8 % 8 ≡ 0 → (p / 512 / s % s == 0) ≡ ((voxel_of s p).y == 0)
+pub floor_there : (s p : ℕ) → p / 64 % 8 ≡ 0 → (p / 512 / s % s == 0) ≡ ((voxel_of s p).y == 0)
 unfolding voxel_of
 floor_there s p e = elim (cases_eq (p / 512 / s % s) 0) [
-  | inl f ↦ test_equal (p / 512 / s % s) 0 f ∙ sym (test_equal (8 * (p / 512 / s % s) + p % 512 / 8 % 8) 0 (omega arith))
-  | inr n ↦ test_unequal (p / 512 / s % s) 0 n ∙ sym (test_unequal (8 * (p / 512 / s % s) + p % 512 / 8 % 8) 0 (λ k. n (omega arith)))
+  | inl f ↦ test_equal (p / 512 / s % s) 0 f ∙ sym (test_equal (8 * (p / 512 / s % s) + p % 512 / 64) 0 (omega arith))
+  | inr n ↦ test_unequal (p / 512 / s % s) 0 n ∙ sym (test_unequal (8 * (p / 512 / s % s) + p % 512 / 64) 0 (λ k. n (omega arith)))
 ]
 
-pub raised_there : (s p : ℕ) → (p / 8 % 8 ≡ 0 → ⊥) → (p / 8 % 8 == 0) ≡ ((voxel_of s p).y == 0)
+pub raised_there : (s p : ℕ) → (p / 64 % 8 ≡ 0 → ⊥) → (p / 64 % 8 == 0) ≡ ((voxel_of s p).y == 0)
 unfolding voxel_of
-raised_there s p n = test_unequal (p / 8 % 8) 0 n ∙ sym (test_unequal (8 * (p / 512 / s % s) + p % 512 / 8 % 8) 0 (λ k. n (omega arith)))
+raised_there s p n = test_unequal (p / 64 % 8) 0 n ∙ sym (test_unequal (8 * (p / 512 / s % s) + p % 512 / 64) 0 (λ k. n (omega arith)))

@@ -7,24 +7,24 @@ use Rattle.support_forest.specs.Grid.{Grid, IsStore, StandsIn, side, word_at}
 use Rattle.support_forest.specs.Placing.{EndsBrick, IsPlaceToward, IsWordToward}
 use Rattle.support_forest.specs.Spots.{IsReadAt, voxel_of, voxel_in}
 use Rattle.support_forest.proofs.Across.{ends_far, ends_left, ends_near, ends_over, ends_right, ends_under}
-use Rattle.support_forest.proofs.Nearby.{index_far, index_left, index_near, index_over, index_right, index_under, stands_beside}
+use Rattle.support_forest.proofs.Nearby.{stands_far, stands_left, stands_near, stands_over, stands_right, stands_under, stands_beside}
 use Rattle.support_forest.proofs.Sides.{one_toward}
-use Rattle.support_forest.proofs.Store.{brick_inside, index_below, same_brick}
-use Rattle.support_forest.proofs.Voxels.{digit_x, digit_y, digit_z, index_at, number_at}
-use Rattle.support_forest.proofs.Writes.{reads_index}
+use Rattle.support_forest.proofs.Store.{brick_inside, slot_place_below, same_brick}
+use Rattle.support_forest.proofs.Voxels.{digit_x, digit_y, digit_z, slot_place_at, number_at}
+use Rattle.support_forest.proofs.Writes.{reads_place}
 
 -- ---- the last of its brick
 
-pub last_left : (s p d : ℕ) → d ≡ 1 → p % 512 < 64 → EndsBrick (voxel_of s p) d
+pub last_left : (s p d : ℕ) → d ≡ 1 → p % 64 < 8 → EndsBrick (voxel_of s p) d
 last_left s p d e h = let digit = digit_x s p in ends_left (voxel_of s p) d e (omega arith)
 
-pub last_right : (s p d : ℕ) → d ≡ 2 → 448 ≤ p % 512 → EndsBrick (voxel_of s p) d
+pub last_right : (s p d : ℕ) → d ≡ 2 → 56 ≤ p % 64 → EndsBrick (voxel_of s p) d
 last_right s p d e h = let digit = digit_x s p in ends_right (voxel_of s p) d e (omega arith)
 
-pub last_under : (s p d : ℕ) → d ≡ 3 → p % 64 < 8 → EndsBrick (voxel_of s p) d
+pub last_under : (s p d : ℕ) → d ≡ 3 → p % 512 < 64 → EndsBrick (voxel_of s p) d
 last_under s p d e h = let digit = digit_y s p in ends_under (voxel_of s p) d e (omega arith)
 
-pub last_over : (s p d : ℕ) → d ≡ 4 → 56 ≤ p % 64 → EndsBrick (voxel_of s p) d
+pub last_over : (s p d : ℕ) → d ≡ 4 → 448 ≤ p % 512 → EndsBrick (voxel_of s p) d
 last_over s p d e h = let digit = digit_y s p in ends_over (voxel_of s p) d e (omega arith)
 
 pub last_near : (s p d : ℕ) → d ≡ 5 → p % 8 < 1 → EndsBrick (voxel_of s p) d
@@ -35,41 +35,41 @@ last_far s p d e h = let digit = digit_z s p in ends_far (voxel_of s p) d e (ome
 
 -- ---- the place of the neighbour's word
 
-pub place_left : (s p d at place : ℕ) → d ≡ 1 → p % 512 ≤ at → 64 ≤ p % 512 → place + 64 ≡ at
+pub place_left : (s p d at place : ℕ) → d ≡ 1 → p % 512 ≤ at → 8 ≤ p % 64 → place + 8 ≡ at
     → IsPlaceToward (voxel_of s p) d (p % 512) at place
 place_left s p d at place e own inner is =
     let digit = digit_x s p in
-    record { index = p % 512 - 64; toward = index_left (voxel_of s p) d (p % 512) (p % 512 - 64) e (sym (index_at s p)) (omega arith) (omega arith); moved = omega arith }
+    record { in_slot = p % 512 - 8; toward = stands_left (voxel_of s p) d (p % 512) (p % 512 - 8) e (sym (slot_place_at s p)) (omega arith) (omega arith); moved = omega arith }
 
-pub place_right : (s p d at place : ℕ) → d ≡ 2 → p % 512 < 448 → place ≡ at + 64
+pub place_right : (s p d at place : ℕ) → d ≡ 2 → p % 64 < 56 → place ≡ at + 8
     → IsPlaceToward (voxel_of s p) d (p % 512) at place
 place_right s p d at place e inner is =
     let digit = digit_x s p in
-    record { index = p % 512 + 64; toward = index_right (voxel_of s p) d (p % 512) (p % 512 + 64) e (sym (index_at s p)) (omega arith) (omega arith); moved = omega arith }
+    record { in_slot = p % 512 + 8; toward = stands_right (voxel_of s p) d (p % 512) (p % 512 + 8) e (sym (slot_place_at s p)) (omega arith) (omega arith); moved = omega arith }
 
-pub place_under : (s p d at place : ℕ) → d ≡ 3 → p % 512 ≤ at → 8 ≤ p % 64 → place + 8 ≡ at
+pub place_under : (s p d at place : ℕ) → d ≡ 3 → p % 512 ≤ at → 64 ≤ p % 512 → place + 64 ≡ at
     → IsPlaceToward (voxel_of s p) d (p % 512) at place
 place_under s p d at place e own inner is =
     let digit = digit_y s p in
-    record { index = p % 512 - 8; toward = index_under (voxel_of s p) d (p % 512) (p % 512 - 8) e (sym (index_at s p)) (omega arith) (omega arith); moved = omega arith }
+    record { in_slot = p % 512 - 64; toward = stands_under (voxel_of s p) d (p % 512) (p % 512 - 64) e (sym (slot_place_at s p)) (omega arith) (omega arith); moved = omega arith }
 
-pub place_over : (s p d at place : ℕ) → d ≡ 4 → p % 64 < 56 → place ≡ at + 8
+pub place_over : (s p d at place : ℕ) → d ≡ 4 → p % 512 < 448 → place ≡ at + 64
     → IsPlaceToward (voxel_of s p) d (p % 512) at place
 place_over s p d at place e inner is =
     let digit = digit_y s p in
-    record { index = p % 512 + 8; toward = index_over (voxel_of s p) d (p % 512) (p % 512 + 8) e (sym (index_at s p)) (omega arith) (omega arith); moved = omega arith }
+    record { in_slot = p % 512 + 64; toward = stands_over (voxel_of s p) d (p % 512) (p % 512 + 64) e (sym (slot_place_at s p)) (omega arith) (omega arith); moved = omega arith }
 
 pub place_near : (s p d at place : ℕ) → d ≡ 5 → p % 512 ≤ at → 1 ≤ p % 8 → place + 1 ≡ at
     → IsPlaceToward (voxel_of s p) d (p % 512) at place
 place_near s p d at place e own inner is =
     let digit = digit_z s p in
-    record { index = p % 512 - 1; toward = index_near (voxel_of s p) d (p % 512) (p % 512 - 1) e (sym (index_at s p)) (omega arith) (omega arith); moved = omega arith }
+    record { in_slot = p % 512 - 1; toward = stands_near (voxel_of s p) d (p % 512) (p % 512 - 1) e (sym (slot_place_at s p)) (omega arith) (omega arith); moved = omega arith }
 
 pub place_far : (s p d at place : ℕ) → d ≡ 6 → p % 8 < 7 → place ≡ at + 1
     → IsPlaceToward (voxel_of s p) d (p % 512) at place
 place_far s p d at place e inner is =
     let digit = digit_z s p in
-    record { index = p % 512 + 1; toward = index_far (voxel_of s p) d (p % 512) (p % 512 + 1) e (sym (index_at s p)) (omega arith) (omega arith); moved = omega arith }
+    record { in_slot = p % 512 + 1; toward = stands_far (voxel_of s p) d (p % 512) (p % 512 + 1) e (sym (slot_place_at s p)) (omega arith) (omega arith); moved = omega arith }
 
 -- ---- the word there
 
@@ -78,13 +78,13 @@ pub stands_within : (g : Grid) (p d next : ℕ) → IsInSpace g.resolution (voxe
     → (t : IsPlaceToward (voxel_in g p) d (p % 512) p next)
     → StandsIn g.resolution (next / 512) (next % 512) t.toward.there
 stands_within g p d next within t =
-    let below = index_below t.toward.there in
-    let at_index = t.toward.at_index in
+    let below = slot_place_below t.toward.there in
+    let at_place = t.toward.at_place in
     let moved = t.moved in
     record {
       within = subst (λ (b : Coord). IsInSpace (side g.resolution) b) (sym t.toward.same_brick) (brick_inside g.resolution (voxel_in g p) within);
       in_brick = same_brick g.resolution t.toward.there (voxel_in g p) t.toward.same_brick ∙ (number_at g.resolution p ∙ omega arith);
-      at_index = omega arith;
+      at_place = omega arith;
     }
 
 pub word_within : (g : Grid) (p d next word : ℕ) → IsInSpace g.resolution (voxel_in g p)
@@ -98,16 +98,16 @@ word_within g p d next word within t value = record {
 
 -- its place in the chunk
 pub place_is : (g : Grid) (p own d at place : ℕ) (words : List ℕ) → IsReadAt g p own words at
-    → (t : IsPlaceToward (voxel_in g p) d (p % 512) at place) → place ≡ start_in_chunk own + t.index
+    → (t : IsPlaceToward (voxel_in g p) d (p % 512) at place) → place ≡ start_in_chunk own + t.in_slot
 place_is g p own d at place words read t = let moved = t.moved in let start = read.at in omega arith
 
 pub word_in_chunk : (g : Grid) (p own d at place word : ℕ) (words : List ℕ) → IsStore g → IsReadAt g p own words at
     → IsPlaceToward (voxel_in g p) d (p % 512) at place → word ≡ get_or words place 0
     → IsWordToward (word_at g) (voxel_in g p) d word
 word_in_chunk g p own d at place word words store read t is =
-    let below : t.index < 512 = let below_512 = index_below t.toward.there in let same = t.toward.at_index in omega arith in
-    let read_is = is ∙ (ap (λ (k : ℕ). get_or words k 0) (place_is g p own d at place words read t) ∙ read.chunk.each t.index below) in
-    let index_read = reads_index g t.toward.there own t.index word store (stands_beside g (voxel_in g p) d own t.index read.within read.slot t.toward) read_is in
+    let below : t.in_slot < 512 = let below_512 = slot_place_below t.toward.there in let same = t.toward.at_place in omega arith in
+    let read_is = is ∙ (ap (λ (k : ℕ). get_or words k 0) (place_is g p own d at place words read t) ∙ read.chunk.each t.in_slot below) in
+    let index_read = reads_place g t.toward.there own t.in_slot word store (stands_beside g (voxel_in g p) d own t.in_slot read.within read.slot t.toward) read_is in
     record {
       each = λ q k. ap (word_at g) (one_toward d (voxel_in g p) q t.toward.there k t.toward.toward) ∙ index_read;
       some = λ f. (t.toward.there, t.toward.toward);

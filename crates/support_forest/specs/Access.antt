@@ -2,7 +2,7 @@
 use Rattle.std.specs.Prelude.{◌≡◌, ℕ, ◌+◌, ◌<◌, ◌≤◌, Some}
 use Rattle.vox_geom.specs.declared.coordinate.Coord.{Coord}
 use Rattle.vox_geom.specs.Space.{IsInSpace}
-use Rattle.support_forest.specs.Grid.{Grid, slot_of, word_at, word_index}
+use Rattle.support_forest.specs.Grid.{Grid, slot_of, word_at, word_place}
 use Rattle.support_forest.specs.Placing.{IsWordToward}
 use Rattle.support_forest.specs.Spots.{voxel_in}
 use Rattle.support_forest.specs.Words.{IsWritten}
@@ -18,11 +18,11 @@ pub record LieInBrick (g : Grid) (c : Coord) (own : ℕ) : Type 0 where
   pub slot : slot_of g c ≡ Some own
   pub space : (q : Coord) → 0 < word_at g q → IsInSpace g.resolution q
 
--- the voxel lies in space, and its word is that at an index of the slot of its brick
+-- the voxel lies in space, and its word is that at a place of the slot of its brick
 pub record IsWordIn (g : Grid) (own at word : ℕ) (c : Coord) : Type 0 where
   pub within : IsInSpace g.resolution c
   pub slot : slot_of g c ≡ Some own
-  pub index : at ≡ word_index c
+  pub place : at ≡ word_place c
   pub stands : word ≡ word_at g c
 
 -- the word of the voxel was written, by one touch

@@ -6,7 +6,7 @@ use Rattle.vox_geom.specs.Space.{IsInSpace}
 use Rattle.support_forest.specs.declared.beside.Beside.{Beside}
 use Rattle.support_forest.specs.declared.place.Around.{Around}
 use Rattle.support_forest.specs.Directions.{Toward, AreBeside}
-use Rattle.support_forest.specs.Grid.{Grid, StandsIn, brick, brick_number, slot_of, word_at, word_index}
+use Rattle.support_forest.specs.Grid.{Grid, StandsIn, brick, brick_number, slot_of, word_at, word_place}
 use Rattle.support_forest.specs.Waiting.{CanAdd}
 use Rattle.support_forest.specs.Words.{height, AreExact, IsSound}
 
@@ -33,18 +33,18 @@ pub record IsWordToward (w : Coord → ℕ) (c : Coord) (d word : ℕ) : Type 0 
 abbrev pub StayAfter : (Coord → ℕ) → (Coord → ℕ) → Coord → ℕ → Type 0
 StayAfter w v c d = (k word : ℕ) → d < k → IsWordToward w c k word → IsWordToward v c k word
 
--- the neighbour in the direction lies in the same brick, and its word is at that index
-pub record IsIndexToward (c : Coord) (d index : ℕ) : Type 0 where
+-- the neighbour in the direction lies in the same brick, and its word stands at that place of the slot
+pub record StandsToward (c : Coord) (d at : ℕ) : Type 0 where
   pub there : Coord
   pub toward : Toward d c there
   pub same_brick : brick there ≡ brick c
-  pub at_index : word_index there ≡ index
+  pub at_place : word_place there ≡ at
 
--- the same where the voxel's own index stands at another place, and so does the neighbour's
+-- the same where the place of the voxel's own word is counted from elsewhere, and so is the neighbour's
 pub record IsPlaceToward (c : Coord) (d own at place : ℕ) : Type 0 where
-  pub index : ℕ
-  pub toward : IsIndexToward c d index
-  pub moved : place + own ≡ at + index
+  pub in_slot : ℕ
+  pub toward : StandsToward c d in_slot
+  pub moved : place + own ≡ at + in_slot
 
 -- the voxel is the last of its brick in the direction
 pub record EndsBrick (c : Coord) (d : ℕ) : Type 0 where
@@ -55,27 +55,27 @@ pub record EndsBrick (c : Coord) (d : ℕ) : Type 0 where
   pub near : d ≡ 5 → c.z % 8 ≡ 0
   pub far : d ≡ 6 → c.z % 8 ≡ 7
 
--- the voxel is in space, and its word stands at that index of the brick of that number
-pub record IsOwnSpot (r : ℕ) (c : Coord) (number index : ℕ) : Type 0 where
+-- the voxel is in space, and its word stands at that place in the slot of the brick of that number
+pub record IsOwnSpot (r : ℕ) (c : Coord) (number at : ℕ) : Type 0 where
   pub within : IsInSpace r c
   pub in_brick : number ≡ brick_number r c
-  pub at_index : index ≡ word_index c
+  pub at_place : at ≡ word_place c
 
--- the neighbour in the direction stands at that index of the brick of that number
-pub record IsSpotToward (r : ℕ) (c : Coord) (d number index : ℕ) : Type 0 where
+-- the neighbour in the direction stands at that place in the slot of the brick of that number
+pub record IsSpotToward (r : ℕ) (c : Coord) (d number at : ℕ) : Type 0 where
   pub there : Coord
   pub toward : Toward d c there
-  pub stands : StandsIn r number index there
+  pub stands : StandsIn r number at there
 
 -- no neighbour in the direction is in space
 abbrev pub NoneToward : ℕ → Coord → ℕ → Type 0
 NoneToward r c d = (q : Coord) → Toward d c q → IsInSpace r q → ⊥
 
--- what stands at that index of the brick of that number lies beyond space
-pub record StandsBeyond (r number index : ℕ) : Type 0 where
+-- what stands at that place in the slot of the brick of that number lies beyond space
+pub record StandsBeyond (r number at : ℕ) : Type 0 where
   pub there : Coord
   pub out : IsInSpace r there → ⊥
-  pub stands : StandsIn r number index there
+  pub stands : StandsIn r number at there
 
 -- the neighbour in the direction is at the spot, or none lies in space and what is at the spot neither
 abbrev pub IsSpotAcross : ℕ → Coord → ℕ → ℕ → Type 0

@@ -1,20 +1,20 @@
--- Spots: where the words of voxels stand. In a store a spot is the number of a brick times 512, and an index in the
--- brick.
+-- Spots: where the words of voxels stand. In a store a spot is the number of a brick times 512, and a place in its
+-- slot.
 use Rattle.std.specs.Prelude.{◌≡◌, ℕ, ◌+◌, ◌*◌, ◌/◌, ◌%◌, ◌<◌, List, Some}
 use Rattle.brick_arena.specs.Slots.{HasSlot, start_in_chunk}
 use Rattle.vox_geom.specs.declared.coordinate.Coord.{Coord}
 use Rattle.vox_geom.specs.Space.{IsInSpace, coordinate_at}
 use Rattle.support_forest.specs.Directions.{Toward}
-use Rattle.support_forest.specs.Grid.{Grid, brick, brick_number, side, slot_of, word_at, word_index}
+use Rattle.support_forest.specs.Grid.{Grid, brick, brick_number, side, slot_of, word_at, word_place}
 
 -- the spot of a voxel
 unfoldable pub spot_of : ℕ → Coord → ℕ
-spot_of r c = 512 * brick_number r c + word_index c
+spot_of r c = 512 * brick_number r c + word_place c
 
--- the voxel of a brick whose word has the index
+-- the voxel of a brick whose word has the place
 abbrev pub voxel_of_brick : Coord → ℕ → Coord
-voxel_of_brick brick index =
-    record { x = 8 * brick.x + index / 64; y = 8 * brick.y + index / 8 % 8; z = 8 * brick.z + index % 8 }
+voxel_of_brick brick at =
+    record { x = 8 * brick.x + at / 8 % 8; y = 8 * brick.y + at / 64; z = 8 * brick.z + at % 8 }
 
 -- the voxel at a spot, where so many bricks lie along an axis
 unfoldable pub voxel_of : ℕ → ℕ → Coord

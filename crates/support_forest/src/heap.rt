@@ -13,7 +13,7 @@ ghost use Rattle.vox_geom.specs.Point.{below as under_of};
 ghost use Rattle.vox_planes.specs.Places.{voxel_at};
 
 use crate::add::add_cells;
-use crate::cells::{BRICK_SIDE, Cells, word_index};
+use crate::cells::{BRICK_SIDE, Cells, word_place};
 use crate::lists::Lists;
 use crate::spots::{ends_brick, spot_along};
 use crate::toward::spot_across;
@@ -113,7 +113,7 @@ fn row_stands<L: Ledger>(
     };
     match below {
         Some(slot) => {
-            let from = start_in_chunk(slot) + usize::from(word_index(under));
+            let from = start_in_chunk(slot) + usize::from(word_place(under));
             words_are_full(cells.chunk(slot), from, count, steps)
         }
         None => false,

@@ -255,7 +255,7 @@ fn stand_in<L: Ledger>(cells: &mut Cells, spot: u32, slot: u32, steps: &mut Step
     requires { CanPlaceIn cells.old (voxel_in cells.old spot) slot }
     ensures { StandsOrStays result cells.old cells.new (voxel_in cells.old spot) steps.old steps.new }
 {
-    if spot % 64 < 8 {
+    if spot % 512 < 64 {
         return stand_lowest(cells, spot, slot, steps);
     }
     stand_by(cells, spot, slot, steps)

@@ -12,10 +12,10 @@ pub fn ends_brick<const D: u8>(spot: u32) -> bool
     ensures { (side : ℕ) → MatchBool result (EndsBrick (voxel_of side spot) D) (StaysInBrick (voxel_of side spot) D) }
 {
     match D {
-        1 => spot % 512 < 64,
-        2 => spot % 512 >= 448,
-        3 => spot % 64 < 8,
-        4 => spot % 64 >= 56,
+        1 => spot % 64 < 8,
+        2 => spot % 64 >= 56,
+        3 => spot % 512 < 64,
+        4 => spot % 512 >= 448,
         5 => spot % 8 < 1,
         _ => spot % 8 >= 7,
     }
@@ -62,10 +62,10 @@ pub fn spot_toward<const D: u8>(spot: u32, side: u16) -> u32
     let row = u32::from(side);
     let wall = row * row;
     match D {
-        1 => spot_before(spot, spot % 512, 64, wall),
-        2 => spot_behind(spot, spot % 512, 64, wall),
-        3 => spot_before(spot, spot % 64, 8, row),
-        4 => spot_behind(spot, spot % 64, 8, row),
+        1 => spot_before(spot, spot % 64, 8, wall),
+        2 => spot_behind(spot, spot % 64, 8, wall),
+        3 => spot_before(spot, spot % 512, 64, row),
+        4 => spot_behind(spot, spot % 512, 64, row),
         5 => spot_before(spot, spot % 8, 1, 1),
         _ => spot_behind(spot, spot % 8, 1, 1),
     }

@@ -69,7 +69,7 @@ fn is_parent<L: Ledger>(cells: &Cells, spot: u32, slot: u32, steps: &mut Steps<L
     requires { LieInBrick cells.now (voxel_in cells.now spot) slot }
     ensures { TellsParent result cells.now (voxel_in cells.now spot) steps.old steps.new }
 {
-    if spot % 64 >= 56 {
+    if spot % 512 >= 448 {
         return is_parent_highest(cells, spot, slot, steps);
     }
     is_parent_in(cells, spot, slot, steps)

@@ -7,7 +7,7 @@ ghost use Rattle.support_forest.specs.Grid.{slot_of, word_at};
 ghost use Rattle.support_forest.specs.Placing.{EndsBrick, IsPlaceToward, IsSpotAcross, IsWordToward, NoneToward};
 ghost use Rattle.support_forest.specs.Spots.{IsReadAt, voxel_of, voxel_in};
 
-use crate::cells::{BRICK_SIDE, BRICK_WORDS, Cells, word_index};
+use crate::cells::{BRICK_LAYER, BRICK_WORDS, Cells, word_place};
 use brick_arena::Chunk;
 use std::sync::ledger::Ledger;
 use vox_geom::{Coord, Steps};
@@ -46,10 +46,10 @@ pub fn place_toward<const D: u8>(spot: u32, at: usize) -> Option<usize>
         (IsPlaceToward (voxel_of side spot) D (spot % 512) at) }
 {
     match D {
-        1 => place_below((spot % 512) as usize, at, 64),
-        2 => place_above((spot % 512) as usize, at, 64),
-        3 => place_below((spot % 64) as usize, at, 8),
-        4 => place_above((spot % 64) as usize, at, 8),
+        1 => place_below((spot % 64) as usize, at, 8),
+        2 => place_above((spot % 64) as usize, at, 8),
+        3 => place_below((spot % 512) as usize, at, 64),
+        4 => place_above((spot % 512) as usize, at, 64),
         5 => place_below((spot % 8) as usize, at, 1),
         _ => place_above((spot % 8) as usize, at, 1),
     }
@@ -82,10 +82,10 @@ pub fn spot_across<const D: u8>(cells: &Cells, spot: u32) -> Option<u32>
     let row = u32::from(cells.side());
     let wall = row * row;
     match D {
-        1 => spot_less(spot + 448, wall),
-        2 => Some(spot - 448 + BRICK_WORDS * wall),
-        3 => spot_less(spot + 56, row),
-        4 => Some(spot - 56 + BRICK_WORDS * row),
+        1 => spot_less(spot + 56, wall),
+        2 => Some(spot - 56 + BRICK_WORDS * wall),
+        3 => spot_less(spot + 448, row),
+        4 => Some(spot - 448 + BRICK_WORDS * row),
         5 => spot_less(spot + 7, 1),
         _ => Some(spot - 7 + BRICK_WORDS),
     }
@@ -186,5 +186,5 @@ pub fn word_over_floor<L: Ledger>(cells: &Cells, c: Coord, slot: u32, steps: &mu
     ensures touch { steps.new ≤ steps.old + 1 }
 {
     cells.recall();
-    cells.word_of(slot, word_index(c) + BRICK_SIDE, steps)
+    cells.word_of(slot, word_place(c) + BRICK_LAYER, steps)
 }

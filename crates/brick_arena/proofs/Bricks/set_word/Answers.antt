@@ -1,42 +1,19 @@
-use Rattle.std.proofs.Common.{[], get_or, set, unwrap_or, refl, ap, subst, ◌∙◌, arith}
-use Rattle.std.proofs.lemmas.List.{get_or-set_same}
+use Rattle.std.proofs.Common.{◌≡◌, ◌∙◌, ap, arith, get_or, set, sym}
 use Rattle.std.specs.FinMap.{insert}
-use Rattle.brick_arena.specs.Slots.{words_of, AreSlots}
-use Rattle.brick_arena.proofs.LiveSlots.{get-insert_here}
-use Rattle.brick_arena.proofs.Standing.{live_at, are_slots}
-use Rattle.brick_arena.proofs.Written.{view_written, arena_written}
+use Rattle.brick_arena.specs.Slots.{swapped, words_of}
+use Rattle.brick_arena.proofs.SlotWords.{swapped_below, swapped_twice}
 use Rattle.brick_arena.proofs.Bricks.set_word.Goals as goal
 
-pub store-requires-clause-inside : goal.store-requires-clause-inside
-store-requires-clause-inside g c =
-    let inside = c.self.inside in
-    let at = live_at inside.chunks.items inside.first_vacant inside.vacant inside.reached c.self.invariant c.args.self.now c.self.view_is c.args.slot c.requires.live in
-    omega (arith, at.2, c.requires.index, c.place.ensures)
-
-pub invariant_of-self : goal.invariant_of-self
-invariant_of-self g c =
-    let inside = c.self.inside in let slot = c.args.slot in let index = c.args.index in
-    let at = live_at inside.chunks.items inside.first_vacant inside.vacant inside.reached c.self.invariant c.args.self.now c.self.view_is slot c.requires.live in
-    arena_written inside.chunks.items c.store.new.chunks.items inside.first_vacant inside.vacant inside.reached slot index c.args.word c.place.result c.self.invariant c.store.ensures c.place.ensures c.requires.index at.0 at.1
+pub set_word_at-requires-clause-place : goal.set_word_at-requires-clause-place
+set_word_at-requires-clause-place g c = let below = swapped_below c.args.index c.requires.index in let place = c.swapped.ensures in omega arith
 
 pub returns-clause-value : goal.returns-clause-value
 returns-clause-value g c =
-    let inside = c.self.inside in let slot = c.args.slot in let index = c.args.index in
-    let at = live_at inside.chunks.items inside.first_vacant inside.vacant inside.reached c.self.invariant c.args.self.now c.self.view_is slot c.requires.live in
-    view_written inside.chunks.items c.store.new.chunks.items inside.first_vacant inside.vacant inside.reached slot index c.args.word c.place.result c.self.invariant c.store.ensures c.place.ensures c.requires.index at.0 at.1
-    ∙ ap (λ v. insert v slot (set (words_of v slot) index c.args.word)) c.self.view_is
-
-pub returns-clause-slots : goal.returns-clause-slots
-returns-clause-slots g c =
-    let inside = c.self.inside in are_slots c.store.new.chunks.items inside.first_vacant inside.vacant inside.reached (invariant_of-self g c)
+    let index : swapped c.swapped.result ≡ c.args.index = ap swapped c.swapped.ensures ∙ swapped_twice c.args.index c.requires.index in
+    c.set_word_at.ensures.value
+    ∙ ap (λ i. insert c.args.self.now c.args.slot (set (words_of c.args.self.now c.args.slot) i c.args.word)) index
 
 pub returns-clause-written : goal.returns-clause-written
 returns-clause-written g c =
-    let inside = c.self.inside in
-    let slot = c.args.slot in
-    let index = c.args.index in
-    let old = c.args.self.now in
-    let slots = subst AreSlots c.self.view_is (are_slots inside.chunks.items inside.first_vacant inside.vacant inside.reached c.self.invariant) in
-    ap (λ v. get_or (words_of v slot) index 0) (returns-clause-value g c)
-    ∙ ap (λ o. get_or (unwrap_or o []) index 0) (get-insert_here old slot (set (words_of old slot) index c.args.word) slot refl)
-    ∙ get_or-set_same (words_of old slot) index c.args.word 0 (let long = slots.lengths slot c.requires.live in omega (arith, long, c.requires.index))
+    let index : swapped c.swapped.result ≡ c.args.index = ap swapped c.swapped.ensures ∙ swapped_twice c.args.index c.requires.index in
+    ap (λ i. get_or (words_of c.set_word_at.new.self c.args.slot) i 0) (sym index) ∙ c.set_word_at.ensures.written

@@ -1,26 +1,12 @@
-use Rattle.std.proofs.Common.{◌≡◌, ◌+◌, ◌*◌, get_or, sym, ap, subst, ◌∙◌, arith}
-use Rattle.brick_arena.specs.Chunks.{chunk_word}
-use Rattle.brick_arena.specs.Slots.{words_of, AreSlots}
-use Rattle.brick_arena.proofs.Rows.{get-row}
-use Rattle.brick_arena.proofs.Standing.{words-live, live_at, are_slots}
+use Rattle.std.proofs.Common.{◌∙◌, ap, arith, get_or}
+use Rattle.brick_arena.specs.Slots.{swapped, words_of}
+use Rattle.brick_arena.proofs.SlotWords.{swapped_below, swapped_twice}
 use Rattle.brick_arena.proofs.Bricks.word.Goals as goal
 
-pub load-requires-clause-inside : goal.load-requires-clause-inside
-load-requires-clause-inside g c =
-    let inside = c.self.inside in
-    let at = live_at inside.chunks.items inside.first_vacant inside.vacant inside.reached c.self.invariant c.args.self.now c.self.view_is c.args.slot c.requires.live in
-    omega (arith, at.2, c.requires.index, c.place.ensures)
+pub word_at-requires-clause-place : goal.word_at-requires-clause-place
+word_at-requires-clause-place g c = let below = swapped_below c.args.index c.requires.index in let place = c.swapped.ensures in omega arith
 
 pub returns-clause-value : goal.returns-clause-value
 returns-clause-value g c =
-    let inside = c.self.inside in let slot = c.args.slot in let index = c.args.index in let chunk_word_here = chunk_word inside.chunks.items in
-    let at = live_at inside.chunks.items inside.first_vacant inside.vacant inside.reached c.self.invariant c.args.self.now c.self.view_is slot c.requires.live in
-    let place : c.place.result ≡ 512 * slot + index = omega (arith, c.place.ensures) in
-    c.load.ensures ∙ ap chunk_word_here place ∙ sym (get-row chunk_word_here (512 * slot) 512 index 0 c.requires.index)
-    ∙ sym (ap (λ words. get_or words index 0) (words-live inside.chunks.items inside.first_vacant inside.vacant inside.reached c.self.invariant slot at.0 at.1))
-    ∙ ap (λ v. get_or (words_of v slot) index 0) c.self.view_is
-
-pub returns-clause-slots : goal.returns-clause-slots
-returns-clause-slots g c =
-    let inside = c.self.inside in
-    subst AreSlots c.self.view_is (are_slots inside.chunks.items inside.first_vacant inside.vacant inside.reached c.self.invariant)
+    c.word_at.ensures.value
+    ∙ ap (λ i. get_or (words_of c.args.self.now c.args.slot) i 0) (ap swapped c.swapped.ensures ∙ swapped_twice c.args.index c.requires.index)

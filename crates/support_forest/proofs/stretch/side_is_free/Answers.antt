@@ -11,7 +11,7 @@ use Rattle.support_forest.proofs.stretch.side_is_free.Goals as goal
 pub words_hang_not-requires-clause-within : goal.words_hang_not-requires-clause-within
 words_hang_not-requires-clause-within g c =
     let place = c.in-Some.ensures (side c.args.cells.now.resolution) in
-    side_in_chunk c.args.cells.now c.args.chunk.now c.args.own place.index c.in-Some.from c.args.count g.row.D (voxel_in c.args.cells.now c.args.spot) c.requires.direction.1
+    side_in_chunk c.args.cells.now c.args.chunk.now c.args.own place.in_slot c.in-Some.from c.args.count g.row.D (voxel_in c.args.cells.now c.args.spot) c.requires.direction.1
     (part_of_row (side c.args.cells.now.resolution) c.args.spot c.args.count c.requires.row) c.requires.read.chunk place.toward
     (place_is c.args.cells.now c.args.spot c.args.own g.row.D c.args.at c.in-Some.from c.args.chunk.now c.requires.read place)
 
@@ -19,7 +19,7 @@ pub returns-in-Some-clause-none : goal.returns-in-Some-clause-none
 returns-in-Some-clause-none g c t =
     let place = c.in-Some.ensures (side c.args.cells.now.resolution) in
     let lies : LieInBrick c.args.cells.now (voxel_in c.args.cells.now c.args.spot) c.args.own = record { within = c.requires.read.within; slot = c.requires.read.slot; space = c.requires.read.space } in
-    side_in_slot c.args.cells.now c.args.chunk.now c.args.own place.index c.in-Some.from c.args.count g.row.D c.args.toward (voxel_in c.args.cells.now c.args.spot) c.requires.direction
+    side_in_slot c.args.cells.now c.args.chunk.now c.args.own place.in_slot c.in-Some.from c.args.count g.row.D c.args.toward (voxel_in c.args.cells.now c.args.spot) c.requires.direction
     c.recall.ensures.store lies (part_of_row (side c.args.cells.now.resolution) c.args.spot c.args.count c.requires.row) c.requires.read.chunk place.toward
     (place_is c.args.cells.now c.args.spot c.args.own g.row.D c.args.at c.in-Some.from c.args.chunk.now c.requires.read place) (c.words_hang_not.ensures.none t)
 

@@ -4,7 +4,7 @@ use Rattle.support_forest.specs.Spots.{voxel_in}
 use Rattle.support_forest.specs.Taking.{HangsNot}
 use Rattle.support_forest.proofs.Store.{brick_inside}
 use Rattle.support_forest.proofs.Stretches.{row_in_slot}
-use Rattle.support_forest.proofs.Voxels.{index_at, part_of_row}
+use Rattle.support_forest.proofs.Voxels.{slot_place_at, part_of_row}
 use Rattle.support_forest.proofs.stretch.sides_are_free.Goals as goal
 
 pub chunk-chunk-requires : goal.chunk-chunk-requires
@@ -21,5 +21,5 @@ returns-clause-free g c t = record {
   right = c.side_is_free-4.ensures.none c.if-not-side_is_free-4.false;
   own = row_in_slot c.args.cells.now c.chunk-chunk.result.now c.args.own (c.args.spot % 512) c.place_in_chunk-at.result c.args.count (voxel_in c.args.cells.now c.args.spot) (λ v. HangsNot v 6)
       c.recall.ensures.store (brick_inside c.args.cells.now.resolution (voxel_in c.args.cells.now c.args.spot) c.requires.brick.within) (part_of_row (side c.args.cells.now.resolution) c.args.spot c.args.count c.requires.row) c.requires.brick.slot c.chunk-chunk.ensures
-      (sym (index_at (side c.args.cells.now.resolution) c.args.spot)) c.place_in_chunk-at.ensures (c.words_hang_not.ensures.none t);
+      (sym (slot_place_at (side c.args.cells.now.resolution) c.args.spot)) c.place_in_chunk-at.ensures (c.words_hang_not.ensures.none t);
 }

@@ -44,8 +44,8 @@ returns-in-2-clause-across g c =
     let wall : c.from-row.result * c.from-row.result ≡ side r * side r = ap (λ (k : ℕ). k * k) row in
     let last = c.requires.last.right direction in
     let digit = digit_x (side r) c.args.spot in
-    subst (λ (d : ℕ). IsSpotAcross r (voxel_in c.args.cells.now c.args.spot) d (c.args.spot - 448 + 512 * (c.from-row.result * c.from-row.result))) (sym direction)
-    (across_right r c.args.spot (c.from-row.result * c.from-row.result) (c.args.spot - 448 + 512 * (c.from-row.result * c.from-row.result)) wall c.requires.within last (omega arith))
+    subst (λ (d : ℕ). IsSpotAcross r (voxel_in c.args.cells.now c.args.spot) d (c.args.spot - 56 + 512 * (c.from-row.result * c.from-row.result))) (sym direction)
+    (across_right r c.args.spot (c.from-row.result * c.from-row.result) (c.args.spot - 56 + 512 * (c.from-row.result * c.from-row.result)) wall c.requires.within last (omega arith))
 
 pub returns-in-2-clause-line : goal.returns-in-2-clause-line
 returns-in-2-clause-line g c = λ few.
@@ -87,8 +87,8 @@ returns-in-4-clause-across g c =
     let row : c.from-row.result ≡ side r = c.from-row.ensures ∙ c.side.ensures.value in
     let last = c.requires.last.over direction in
     let digit = digit_y (side r) c.args.spot in
-    subst (λ (d : ℕ). IsSpotAcross r (voxel_in c.args.cells.now c.args.spot) d (c.args.spot - 56 + 512 * c.from-row.result)) (sym direction)
-    (across_over r c.args.spot c.from-row.result (c.args.spot - 56 + 512 * c.from-row.result) row c.requires.within last (omega arith))
+    subst (λ (d : ℕ). IsSpotAcross r (voxel_in c.args.cells.now c.args.spot) d (c.args.spot - 448 + 512 * c.from-row.result)) (sym direction)
+    (across_over r c.args.spot c.from-row.result (c.args.spot - 448 + 512 * c.from-row.result) row c.requires.within last (omega arith))
 
 pub returns-in-4-clause-line : goal.returns-in-4-clause-line
 returns-in-4-clause-line g c = λ few.

@@ -1,6 +1,6 @@
 use Rattle.std.proofs.Common.{arith}
 use Rattle.support_forest.specs.Grid.{side}
-use Rattle.support_forest.proofs.Store.{index_below}
+use Rattle.support_forest.proofs.Store.{slot_place_below}
 use Rattle.support_forest.proofs.Voxels.{number_below, spot_small}
 use Rattle.support_forest.proofs.Within.{word_within}
 use Rattle.support_forest.proofs.toward.word_beyond.Goals as goal
@@ -12,16 +12,16 @@ pub overflow_cast-next : goal.overflow_cast-next
 overflow_cast-next g c =
     let place = c.in-Some.ensures (side c.args.cells.now.resolution) in
     let small = spot_small c.args.cells.now.resolution c.args.spot c.recall.ensures.few c.requires.inside.within in
-    let below = index_below place.toward.there in
-    omega (arith, place.moved, place.toward.at_index)
+    let below = slot_place_below place.toward.there in
+    omega (arith, place.moved, place.toward.at_place)
 
 pub word_at_spot-requires : goal.word_at_spot-requires
 word_at_spot-requires g c =
     let place = c.in-Some.ensures (side c.args.cells.now.resolution) in
     let number = number_below c.args.cells.now.resolution c.args.spot c.requires.inside.within in
-    let below = index_below place.toward.there in
+    let below = slot_place_below place.toward.there in
     let bricks = c.recall.ensures.store.bricks in
-    omega (arith, place.moved, place.toward.at_index)
+    omega (arith, place.moved, place.toward.at_place)
 
 pub returns-in-Some : goal.returns-in-Some
 returns-in-Some g c = record {

@@ -10,8 +10,8 @@ returns-in-Some-clause-value g c =
     let old : Grid = record { resolution = inside.resolution; table = inside.table.items; bricks = inside.bricks } in
     let below : (c.args.spot / 512) < length inside.table.items = subst (λ (x : Grid). (c.args.spot / 512) < length x.table) (sym c.self.view_is) c.requires in
     let slot : Some c.in-Some.slot ≡ slot_at inside.table.items (c.args.spot / 512) = sym (get_or_default inside.table.items (c.args.spot / 512) None c.index.result.now below ∙ (sym c.index.ensures ∙ c.in-Some.is)) in
-    λ q h. subst (λ (x : Grid). word_at x q ≡ c.word.result) c.self.view_is
-    (reads_in_brick old (c.args.spot / 512) (c.args.spot % 512) c.word.result _ c.self.invariant.1.0 slot c.word.ensures.value q (subst (λ (x : Grid). StandsIn x.resolution (c.args.spot / 512) (c.args.spot % 512) q) (sym c.self.view_is) h))
+    λ q h. subst (λ (x : Grid). word_at x q ≡ c.word_at.result) c.self.view_is
+    (reads_in_brick old (c.args.spot / 512) (c.args.spot % 512) c.word_at.result _ c.self.invariant.1.0 slot c.word_at.ensures.value q (subst (λ (x : Grid). StandsIn x.resolution (c.args.spot / 512) (c.args.spot % 512) q) (sym c.self.view_is) h))
 
 pub returns-in-None-clause-value : goal.returns-in-None-clause-value
 returns-in-None-clause-value g c =

@@ -1,7 +1,7 @@
 use Rattle.support_forest.proofs.cells.Cells.write.Goals as goal
 
-pub write_index-requires : goal.write_index-requires
-write_index-requires g c = (c.args.at, record { within = c.requires.within; slot = c.requires.slot; index = c.word_index.ensures.value; stands = c.requires.stands })
+pub write_place-requires : goal.write_place-requires
+write_place-requires g c = (c.args.at, record { within = c.requires.within; slot = c.requires.slot; place = c.word_place.ensures.value; stands = c.requires.stands })
 
 pub returns : goal.returns
-returns g c = c.write_index.ensures c.args.at (record { within = c.requires.within; slot = c.requires.slot; index = c.word_index.ensures.value; stands = c.requires.stands })
+returns g c = c.write_place.ensures c.args.at (record { within = c.requires.within; slot = c.requires.slot; place = c.word_place.ensures.value; stands = c.requires.stands })
