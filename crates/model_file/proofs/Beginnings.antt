@@ -7,7 +7,7 @@ use Rattle.std.proofs.lemmas.Bool.{cases_lt}
 use Rattle.vox_geom.specs.declared.coordinate.Coord.{Coord}
 use Rattle.vox_geom.specs.Point.{are_adjacent}
 use Rattle.vox_geom.specs.Space.{IsInSpace}
-use Rattle.vox_geom.proofs.Adjacent.{adjacent-sym, adjacent_by}
+use Rattle.vox_geom.proofs.Adjacent.{Side, above, adjacent-sym, adjacent_by, ahead, behind, below, left, right, side_of}
 use Rattle.vox_geom.proofs.Truths.{anything_by, not_is_true, true_by_false}
 use Rattle.nano_spec.specs.Grounded.{Grounded}
 use Rattle.nano_spec.specs.Matrix.{Matrix, is_full}
@@ -70,6 +70,25 @@ pub looks_none : (m : Matrix) (area : Coord → Type 0) (a : Flood)
     → ((c d : Coord) → area c → IsTaken m a.remaining c → IsTrue (are_adjacent c d) → is_full a.remaining d ≡ false)
     → LooksAround m area a a
 looks_none m area a bare = record { takes = takes_none (Grounded m) a a refl (λ d. refl) refl; bare = bare }
+
+-- a coordinate beside another lies in its layer or in one beside that
+pub near_layers : (a b : Coord) → IsTrue (are_adjacent a b) → (a.y ≤ b.y + 1) × (b.y ≤ a.y + 1)
+near_layers a b h = by (side_of a b h)
+  where
+    by : Side a b → (a.y ≤ b.y + 1) × (b.y ≤ a.y + 1)
+    by (right e f g) = (omega arith, omega arith)
+    by (above e f g) = (omega arith, omega arith)
+    by (ahead e f g) = (omega arith, omega arith)
+    by (left e f g) = (omega arith, omega arith)
+    by (below e f g) = (omega arith, omega arith)
+    by (behind e f g) = (omega arith, omega arith)
+
+-- of a layer where none is left there and beside it
+pub looks_bare_layer : (m : Matrix) (a : Flood) (y : ℕ)
+    → ((d : Coord) → y ≤ d.y + 1 → d.y ≤ y + 1 → is_full a.remaining d ≡ false) → LooksAround m (λ d. d.y ≡ y) a a
+looks_bare_layer m a y bare = looks_none m (λ d. d.y ≡ y) a (λ c d area t n.
+    let near = near_layers c d n in
+    bare d (omega (arith, near.0)) (omega (arith, near.1)))
 
 pub looks_then : (m : Matrix) (one two both : Coord → Type 0) (a b c : Flood)
     → ((d : Coord) → IsInSpace m.resolution d → both d → one d ⊎ two d) → LooksAround m one a b → LooksAround m two b c

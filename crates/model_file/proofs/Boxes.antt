@@ -1,5 +1,5 @@
 -- Which coordinates are in the whole matrix, in its faces and in the legal box.
-use Rattle.std.proofs.Common.{◌≡◌, ℕ, ◌+◌, ◌<◌, ◌≤◌, refl, sym, ◌∙◌, ap, subst, arith, Bool, true, false, ◌&&◌, ◌||◌, not, pos, min, max, find, Option, Some, None}
+use Rattle.std.proofs.Common.{◌≡◌, ℕ, ◌+◌, ◌-◌, ◌<◌, ◌≤◌, refl, sym, ◌∙◌, ap, subst, arith, Bool, true, false, ◌&&◌, ◌||◌, not, pos, min, max, find, Option, Some, None, is_some}
 use Rattle.std.specs.Prelude.{nat_le, nat_lt}
 use Rattle.std.proofs.lemmas.Bool.Decides.{nat_tests}
 use Rattle.vox_geom.specs.declared.coordinate.Coord.{Coord}
@@ -11,6 +11,7 @@ use Rattle.vox_geom.proofs.Firsts.{first_of}
 use Rattle.vox_geom.proofs.Truths.{and_by_second}
 use Rattle.nano_spec.specs.Legal.{in_legal_box}
 use Rattle.nano_spec.specs.Matrix.{Matrix, all_of, is_full}
+use Rattle.model_file.proofs.Floods.{full_within}
 
 -- tests that agree in space have one least
 pub least_same : (r : ℕ) (f g : Coord → Bool) → ((c : Coord) → IsInSpace r c → f c ≡ g c) → (o : Option Coord)
@@ -63,6 +64,44 @@ pub least_of_all : (m : Matrix) (k : Corners) (e : ℕ) (o : Option Coord) → e
 least_of_all m k e o h c found =
     least_same m.resolution (λ c. is_full m c && in_box zero_corner (end_corner e) c) (is_full m) (λ c i. and_by_second (is_full m c) (in_box zero_corner (end_corner e) c) (in_all m.resolution e c i h)) o
     (box_least m k zero_corner (end_corner e) o c (omega arith) (omega arith) (omega arith) found)
+
+-- ---- a layer and those beside it
+
+near_layer : (y v e r : ℕ) → v < r → e + 1 ≡ r → y ≤ v + 1 → v ≤ y + 1
+    → (nat_le (max y 1 - 1) v && nat_le v (min (y + 1) e)) ≡ true
+near_layer y v e r l h f t = grind (arith, nat_tests)
+
+abbrev pub under_corner : ℕ → Coord
+under_corner y = record { x = 0; y = max y 1 - 1; z = 0 }
+
+abbrev pub over_corner : ℕ → ℕ → Coord
+over_corner y e = record { x = e; y = min (y + 1) e; z = e }
+
+in_layers : (y e r : ℕ) (c : Coord) → IsInSpace r c → e + 1 ≡ r → y ≤ c.y + 1 → c.y ≤ y + 1
+    → in_box (under_corner y) (over_corner y e) c ≡ true
+unfolding in_box
+in_layers y e r c i h f t = rw (up_to c.x e r i.x h, near_layer y c.y e r i.y h f t, up_to c.z e r i.z h) refl
+
+pub no_answer : (o : Option Coord) → is_some o ≡ false → o ≡ None
+no_answer None e = refl
+no_answer (Some c) e = cc
+
+-- where a search of the layers finds none, none of their voxels is full
+pub none_in_layers : (m : Matrix) (k : Corners) (y e : ℕ) (o : Option Coord) → y < m.resolution → e + 1 ≡ m.resolution
+    → k ≡ corners (under_corner y) (over_corner y e)
+    → o ≡ find (λ c. is_full m c && is_within (span k) (point c)) (all_of m) → o ≡ None
+    → (d : Coord) → y ≤ d.y + 1 → d.y ≤ y + 1 → is_full m d ≡ false
+none_in_layers m k y e o l h c found none d from to = by (is_full m d) refl
+  where
+    nothing : LeastOf m.resolution (λ q. is_full m q && in_box (under_corner y) (over_corner y e) q) None
+    nothing = subst (λ (p : Option Coord). LeastOf m.resolution (λ q. is_full m q && in_box (under_corner y) (over_corner y e) q) p) none
+        (box_least m k (under_corner y) (over_corner y e) o c (omega arith) (omega arith) (omega arith) found)
+
+    by : (b : Bool) → is_full m d ≡ b → is_full m d ≡ false
+    by false q = q
+    by true q =
+        let inside = full_within m d q in
+        sym (and_by_second (is_full m d) (in_box (under_corner y) (over_corner y e) d) (in_layers y e m.resolution d inside h from to)) ∙ nothing d inside
 
 -- ---- the faces that are outside the legal box
 

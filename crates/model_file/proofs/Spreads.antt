@@ -21,7 +21,7 @@ use Rattle.nano_spec.proofs.ForgeLegal.{one_more}
 use Rattle.model_file.specs.declared.flood.Flood.{Flood}
 use Rattle.model_file.specs.declared.flood.Stretch.{Stretch}
 use Rattle.vox_geom.proofs.Adjacent.{adjacent-sym}
-use Rattle.vox_geom.proofs.Truths.{anything_by, first_of_two as left, true_by_false}
+use Rattle.vox_geom.proofs.Truths.{anything_by, true_by_false}
 use Rattle.vox_geom.proofs.Points.{coordinate_by_test}
 use Rattle.model_file.proofs.Stretches.{is_one, moved, near_moved, one_of}
 use Rattle.model_file.proofs.Floods.{fewer_in_row, full_within, row_asked, row_taken, row_was, has_cases, has_last, has_more, has_same}

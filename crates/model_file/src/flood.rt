@@ -1,5 +1,5 @@
 //! A search from the floor, many voxels at a time, which takes all that it reaches out of a copy of the planes.
-ghost use Rattle.std.specs.Prelude.{◌≡◌, ◌<◌, ◌%◌, ◌≤◌, ◌++◌, ◌∷◌, [], All, IfOk, false};
+ghost use Rattle.std.specs.Prelude.{◌≡◌, ◌+◌, ◌<◌, ◌%◌, ◌≤◌, ◌++◌, ◌∷◌, [], All, IfOk, false, true};
 ghost use Rattle.vox_geom.specs.Counting.{IsBlankOf};
 ghost use Rattle.vox_geom.specs.declared.coordinate.Coord.{Coord as Coordinate};
 ghost use Rattle.vox_geom.specs.Space.{IsInSpace};
@@ -12,7 +12,7 @@ use crate::least::least_full;
 use std::alloc::Global;
 use std::marker::Brand;
 use std::sync::ledger::{Blank, Ledger};
-use vox_geom::{Coord, MOST_R, Memory, Steps};
+use vox_geom::{Coord, MOST_R, Memory, Region, Steps};
 use vox_planes::Planes;
 
 /// Voxels of one row: those, of 64 from a coordinate on, for which a bit is 1.
@@ -247,6 +247,28 @@ impl Flood {
         Ok(())
     }
 
+    /// Whether no voxel of a layer is left, nor one of those under and over it.
+    fn is_bare_at<L: Ledger>(&self, y: u16, steps: &mut Steps<L>) -> bool
+        requires { y < self.now.remaining.resolution }
+        ensures { result ≡ true → (d : Coordinate) → y ≤ d.y + 1 → d.y ≤ y + 1
+            → is_full self.now.remaining d ≡ false }
+    {
+        let end = self.remaining.resolution() - 1;
+        let low = Coord {
+            x: 0,
+            y: y.max(1) - 1,
+            z: 0,
+        };
+        let high = Coord {
+            x: end,
+            y: (y + 1).min(end),
+            z: end,
+        };
+        self.remaining
+            .region_full(&Region::of(low, high), steps)
+            .is_none()
+    }
+
     /// Takes out the voxels that are beside those of a layer that are out already.
     fn take_beside_layer<L: Ledger>(
         &mut self,
@@ -259,6 +281,9 @@ impl Flood {
         requires begun { IsBegun planes.now self.old }
         ensures { IfOk result (λ _. LooksAround planes.now (λ d. d.y ≡ y) self.old self.new) }
     {
+        if self.is_bare_at(y, steps) {
+            return Ok(());
+        }
         for x in 0..planes.resolution() {
             self.take_beside_row(planes, x, y, steps)?;
         }

@@ -2,8 +2,11 @@ use Rattle.std.proofs.Common.{◌≡◌, ◌+◌, ◌<◌, ◌⊎◌, inl, inr, 
 use Rattle.std.proofs.lemmas.Bool.{cases_lt}
 use Rattle.vox_geom.specs.declared.coordinate.Coord.{Coord}
 use Rattle.vox_geom.specs.Space.{IsInSpace}
-use Rattle.model_file.proofs.Beginnings.{begun_still, looks_none, looks_then, looks_wider}
+use Rattle.model_file.proofs.Beginnings.{begun_still, looks_bare_layer, looks_none, looks_then, looks_wider}
 use Rattle.model_file.proofs.flood.Flood.take_beside_layer.Goals as goal
+
+pub returns-then-is_bare_at : goal.returns-then-is_bare_at
+returns-then-is_bare_at g c = looks_bare_layer c.args.planes.now c.args.self.now c.args.y (c.is_bare_at.ensures c.if-is_bare_at.true)
 
 pub loop-x-init : goal.loop-x-init
 loop-x-init g c = looks_none c.args.planes.now (λ d. (d.y ≡ c.args.y) × (d.x < 0)) c.args.self.now (λ d e area t n. absurd (omega (arith, area.1)))
