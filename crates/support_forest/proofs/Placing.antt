@@ -331,6 +331,13 @@ pub placed_over : (old new : Grid) (c : Coord) (b : Beside) (before mid after : 
     → new.resolution ≡ old.resolution → mid ≤ before + 6 → after ≡ mid + 1 → HavePlaced old new c before after
 placed_over old new c b before mid after e s z i m k r l t = placed_with old new c (8 * (b.under / 8) + 11) before mid after e s z (fits_over old.resolution (word_at old) c b i m) k r l t
 
+-- a voxel that fits became full
+pub placed_fit : (old new : Grid) (c : Coord) (word before mid after : ℕ) → AreExact old.resolution (word_at old)
+    → IsInSpace old.resolution c → word_at old c ≡ 0 → Fits old.resolution (word_at old) c word
+    → IsWritten (word_at old) (word_at new) c word → new.resolution ≡ old.resolution → mid ≤ before + 6
+    → after ≡ mid + 1 → HavePlaced old new c before after
+placed_fit old new c word before mid after e s z f k r l t = placed_with old new c word before mid after e s z f k r l t
+
 pub placed_on_floor : (old new : Grid) (c : Coord) (over before mid after : ℕ) → AreExact old.resolution (word_at old)
     → IsInSpace old.resolution c → word_at old c ≡ 0 → c.y ≡ 0 → IsWordToward (word_at old) c 4 over → MayLieUnder over
     → IsWritten (word_at old) (word_at new) c 8 → new.resolution ≡ old.resolution → mid ≤ before + 1 → after ≡ mid + 1

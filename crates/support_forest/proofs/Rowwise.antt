@@ -1,22 +1,17 @@
 -- A whole row of a brick that gets one word.
 use Rattle.std.proofs.Common.{◌≡◌, ℕ, zero, suc, ◌+◌, ◌-◌, ◌%◌, ◌<◌, ◌≤◌, inl, inr, refl, sym, ◌∙◌, ap, subst, arith, false, get_or, Some}
-use Rattle.std.specs.Prelude.{◌≢◌, ◌==◌}
+use Rattle.std.specs.Prelude.{◌==◌}
 use Rattle.std.proofs.lemmas.Bool.{cases_eq, cases_lt}
-use Rattle.std.proofs.lemmas.Bool.Decides.{nat_tests}
 use Rattle.vox_geom.specs.declared.coordinate.Coord.{Coord}
-use Rattle.vox_geom.specs.Space.{IsInSpace, place}
-use Rattle.vox_geom.proofs.Firsts.{place_below}
-use Rattle.vox_geom.proofs.Places.{coordinate_at-place}
-use Rattle.nano_spec.specs.Model.{volume}
+use Rattle.vox_geom.specs.Space.{IsInSpace}
 use Rattle.brick_arena.specs.Slots.{Slots, with_row, words_of}
 use Rattle.support_forest.specs.Directions.{Toward, lies_left, lies_right, lies_under, lies_over, lies_near, lies_far}
-use Rattle.support_forest.specs.Grid.{Grid, IsStore, NoneFloatsBelow, floating_count, slot_of, word_at, word_index}
+use Rattle.support_forest.specs.Grid.{Grid, IsStore, count_words, floating_count, slot_of, word_at, word_index}
 use Rattle.support_forest.specs.Stretches.{AreCleared, AreWritten, LieInRow, RowIsFree, further}
-use Rattle.support_forest.specs.Words.{AreExact, IsWritten}
+use Rattle.support_forest.specs.Words.{AreExact, IsWritten, leans}
 use Rattle.support_forest.proofs.Clearing.{in_row}
-use Rattle.support_forest.proofs.Counts.{tally}
 use Rattle.support_forest.proofs.Stretches.{row_index, row_slot, row_space}
-use Rattle.support_forest.proofs.Writes.{count_written, keeps, sets}
+use Rattle.support_forest.proofs.Writes.{keeps, sets, still_counted, straight_not_one}
 
 -- ---- the store
 
@@ -30,13 +25,14 @@ pub record CanRow (g : Grid) (c : Coord) (slot index word : ℕ) : Type 0 where
   pub row : LieInRow g c 8
   pub own : slot_of g c ≡ Some slot
   pub at : index ≡ word_index c
-  pub level : word ≢ 1
-  pub levels : (k : ℕ) → k < 8 → word_at g (further c k) ≢ 1
+  pub level : leans word ≡ false
+  pub levels : (k : ℕ) → k < 8 → leans (word_at g (further c k)) ≡ false
   pub written : (k : ℕ) → k < 8
       → get_or (words_of (with_row g.bricks slot index (k + 1) word) slot) (index + k) 0 ≡ word
 
 pub can_row : (g q : Grid) (c : Coord) (slot index word : ℕ) → g ≡ q → IsStore g → LieInRow q c 8
-    → slot_of q c ≡ Some slot → index ≡ word_index c → word ≢ 1 → ((k : ℕ) → k < 8 → word_at q (further c k) ≢ 1)
+    → slot_of q c ≡ Some slot → index ≡ word_index c → leans word ≡ false
+    → ((k : ℕ) → k < 8 → leans (word_at q (further c k)) ≡ false)
     → ((k : ℕ) → k < 8 → get_or (words_of (with_row g.bricks slot index (k + 1) word) slot) (index + k) 0 ≡ word)
     → CanRow g c slot index word
 can_row g q c slot index word same h r o a l ls w = record {
@@ -45,18 +41,16 @@ can_row g q c slot index word same h r o a l ls w = record {
   own = subst (λ (x : Grid). slot_of x c ≡ Some slot) (sym same) o;
   at = a;
   level = l;
-  levels = λ k m e. ls k m (ap (λ (x : Grid). word_at x (further c k)) (sym same) ∙ e);
+  levels = λ k m. ap (λ (x : Grid). leans (word_at x (further c k))) same ∙ ls k m;
   written = w;
 }
 
 -- what is so after k words
 record IsRowed (g : Grid) (c : Coord) (slot index word k : ℕ) : Type 0 where
   store : IsStore (rowed g slot index word k)
-  count : floating_count (rowed g slot index word k) ≡ floating_count g
+  floating : floating_count (rowed g slot index word k) ≡ floating_count g
+  leaning : count_words leans (rowed g slot index word k) ≡ count_words leans g
   later : (j : ℕ) → k ≤ j → word_at (rowed g slot index word k) (further c j) ≡ word_at g (further c j)
-
-not_one : (n : ℕ) → n ≢ 1 → tally (n == 1) ≡ 0
-not_one n h = let other_n : (n == 1) ≡ false = grind (arith, nat_tests) in ap tally other_n
 
 one_more : (g : Grid) (c : Coord) (slot index word k : ℕ) → CanRow g c slot index word
     → IsStore (rowed g slot index word k) → k < 8
@@ -77,26 +71,27 @@ one_more g c slot index word k h s l =
 is_rowed : (g : Grid) (c : Coord) (slot index word k : ℕ) → CanRow g c slot index word → k ≤ 8
     → IsRowed g c slot index word k
 unfolding with_row
-is_rowed g c slot index word zero h l = record { store = h.store; count = refl; later = λ j m. refl }
+is_rowed g c slot index word zero h l = record { store = h.store; floating = refl; leaning = refl; later = λ j m. refl }
 is_rowed g c slot index word (suc k) h l =
     let rowed_here = is_rowed g c slot index word k h (omega arith) in
     let k_below_8 : k < 8 = omega arith in
     let one_more_here = one_more g c slot index word k h rowed_here.store k_below_8 in
-    let old : word_at (rowed g slot index word k) (further c k) ≢ 1 = λ e. h.levels k k_below_8 (sym (rowed_here.later k (omega arith)) ∙ e) in
-    let written_count = count_written (rowed g slot index word k) (rowed g slot index word (suc k)) (further c k) (word_at (rowed g slot index word k) (further c k)) word refl (row_space g c 8 k h.row k_below_8) refl one_more_here.0 in
-    let tally_zero : tally (word == 1) ≡ 0 = not_one word h.level in
-    let tally_is_zero : tally (word_at (rowed g slot index word k) (further c k) == 1) ≡ 0 = not_one (word_at (rowed g slot index word k) (further c k)) old in
-    let before = rowed_here.count in
+    let now : Grid = rowed g slot index word k in
+    let next : Grid = rowed g slot index word (suc k) in
+    let stood : leans (word_at now (further c k)) ≡ false = ap leans (rowed_here.later k (omega arith)) ∙ h.levels k k_below_8 in
+    let within = row_space g c 8 k h.row k_below_8 in
     record {
       store = one_more_here.1;
-      count = omega arith;
+      floating = still_counted (λ n. n == 1) now next (further c k) word refl within one_more_here.0 (straight_not_one (word_at now (further c k)) stood) (straight_not_one word h.level) ∙ rowed_here.floating;
+      leaning = still_counted leans now next (further c k) word refl within one_more_here.0 stood h.level ∙ rowed_here.leaning;
       later = λ j m. one_more_here.0.kept (further c j) (λ e. let sum_is : c.z + j ≡ c.z + k = ap (λ (x : Coord). x.z) e in omega arith) ∙ rowed_here.later j (omega arith);
     }
 
 -- what a row that is written leaves
 pub record WroteRow (g : Grid) (v : Slots) (c : Coord) (word : ℕ) : Type 0 where
   pub store : IsStore (record { resolution = g.resolution; table = g.table; bricks = v })
-  pub count : floating_count (record { resolution = g.resolution; table = g.table; bricks = v }) ≡ floating_count g
+  pub floating : floating_count (record { resolution = g.resolution; table = g.table; bricks = v }) ≡ floating_count g
+  pub leaning : count_words leans (record { resolution = g.resolution; table = g.table; bricks = v }) ≡ count_words leans g
   pub written : AreWritten g (record { resolution = g.resolution; table = g.table; bricks = v }) c word
 
 pub wrote_row : (g : Grid) (v : Slots) (c : Coord) (slot index word : ℕ) → CanRow g c slot index word
@@ -106,7 +101,8 @@ wrote_row g v c slot index word h e =
     let rowed_here = is_rowed g c slot index word 8 h (omega arith) in
     subst (λ (u : Slots). WroteRow g u c word) (sym e) (record {
       store = rowed_here.store;
-      count = rowed_here.count;
+      floating = rowed_here.floating;
+      leaning = rowed_here.leaning;
       written = record {
         after = λ k. rowed g slot index word k;
         first = refl;
@@ -212,10 +208,3 @@ row_voided old new c before after e f w a =
       within = omega arith;
       cost = omega arith;
     }
-
--- no word of the row is 1 where none is
-pub none_is_one : (g : Grid) (c : Coord) (k : ℕ) → LieInRow g c 8 → NoneFloatsBelow g (volume g.resolution) → k < 8
-    → word_at g (further c k) ≢ 1
-none_is_one g c k h none l e =
-    let in_space : IsInSpace g.resolution (further c k) = row_space g c 8 k h l in
-    none (place g.resolution (further c k)) (place_below g.resolution (further c k) in_space) (ap (word_at g) (coordinate_at-place g.resolution (further c k) in_space) ∙ e)

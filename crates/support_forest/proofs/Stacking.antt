@@ -398,12 +398,15 @@ piled m old new c word h w rest i = subst (λ (g : Grid). IsHeaped m g (place m.
 
 -- what is not seen yet is void
 pub void_to_come : (m : Matrix) (old : Grid) (c : Coord) (k : ℕ) → IsSomeHeap m old (place m.resolution c)
-    → word_at old (further c k) ≡ 1 → ⊥
-void_to_come m old c k h e =
-    let seen = h.is.seen (further c k) (omega arith) in
-    let below_place : place m.resolution (further c k) < place m.resolution c = seen.before in
-    let place_sum : place m.resolution (further c k) ≡ place m.resolution c + k = omega arith in
-    omega arith
+    → word_at old (further c k) ≡ 0
+void_to_come m old c k h = elim (cases_lt 0 (word_at old (further c k))) [
+  | inl f ↦
+      let seen = h.is.seen (further c k) f in
+      let below_place : place m.resolution (further c k) < place m.resolution c = seen.before in
+      let place_sum : place m.resolution (further c k) ≡ place m.resolution c + k = omega arith in
+      absurd (omega arith)
+  | inr f ↦ omega arith
+]
 
 -- ---- the whole matrix
 

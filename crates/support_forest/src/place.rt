@@ -4,6 +4,7 @@ ghost use Rattle.vox_geom.specs.declared.coordinate.Coord.{Coord};
 ghost use Rattle.support_forest.specs.Grid.{word_at};
 ghost use Rattle.support_forest.specs.Placing.{AreBesideWords, CanPlace, CanPlaceIn, IsAround, IsWordToward, LeavesRoom, MayLieUnder, MayStand, PlacesOrStays, StandsOrStays};
 ghost use Rattle.support_forest.specs.Spots.{voxel_in};
+ghost use Rattle.support_forest.specs.Words.{IsStraight};
 
 use crate::beside::{Beside, place_in_chunk, words_beside, words_beyond};
 use crate::cells::Cells;
@@ -261,6 +262,25 @@ fn stand_in<L: Ledger>(cells: &mut Cells, spot: u32, slot: u32, steps: &mut Step
     stand_by(cells, spot, slot, steps)
 }
 
+/// [`stand`] above the floor, where each full voxel stands on the floor or hangs on the one under it: then each has the level of its y,
+/// and the one under the voxel is all that is to be read.
+#[inline(always)]
+fn stand_straight<L: Ledger>(cells: &mut Cells, spot: u32, slot: u32, steps: &mut Steps<L>) -> bool
+    requires can { CanPlaceIn cells.old (voxel_in cells.old spot) slot }
+    requires straight { IsStraight (word_at cells.old) }
+    ensures { StandsOrStays result cells.old cells.new (voxel_in cells.old spot) steps.old steps.new }
+{
+    cells.recall();
+    let chunk = cells.chunk(slot);
+    let at = place_in_chunk(slot, spot);
+    let under = word_beside::<3, L>(cells, spot, slot, chunk, at, steps);
+    if under == 0 {
+        return false;
+    }
+    cells.write_straight(slot, spot, 8 * (under / 8) + 11, steps);
+    true
+}
+
 /// Makes a void voxel full that stands on the floor or on the one under it, where no other level changes by it, and tells whether it
 /// did: otherwise all stays.
 #[inline(always)]
@@ -274,6 +294,9 @@ pub fn stand<L: Ledger>(cells: &mut Cells, c: Coord, steps: &mut Steps<L>) -> bo
     };
     if c.y == 0 {
         return place_on_floor(cells, c, slot, steps);
+    }
+    if cells.is_straight() {
+        return stand_straight(cells, spot, slot, steps);
     }
     stand_in(cells, spot, slot, steps)
 }

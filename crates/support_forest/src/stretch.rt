@@ -141,6 +141,9 @@ fn sides_are_free<L: Ledger>(
     if !side_is_free::<4, L>(cells, spot, own, chunk, at, count, 3, steps) {
         return false;
     }
+    if cells.is_straight() {
+        return true;
+    }
     if !side_is_free::<3, L>(cells, spot, own, chunk, at, count, 4, steps) {
         return false;
     }
@@ -166,6 +169,9 @@ fn ends_are_free<L: Ledger>(
     ensures free { result ≡ true → EndsAreFree (word_at cells.now) (voxel_in cells.now spot) count }
     ensures touches { steps.new ≤ steps.old + 2 }
 {
+    if cells.is_straight() {
+        return true;
+    }
     cells.recall();
     let chunk = cells.chunk(own);
     let at = place_in_chunk(own, spot);
@@ -289,7 +295,7 @@ fn clear_voxels<L: Ledger>(cells: &mut Cells, own: u32, spot: u32, count: u16, s
     }
 }
 
-/// Makes the voxels of the row from a spot on void at once, where it is a whole one and no voxel floats: whether it did. Otherwise
+/// Makes the voxels of the row from a spot on void at once, where it is a whole one and no voxel leans: whether it did. Otherwise
 /// all stays.
 #[inline(always)]
 fn clear_at_once<L: Ledger>(
@@ -307,7 +313,7 @@ fn clear_at_once<L: Ledger>(
     if count < BRICK_SIDE {
         return false;
     }
-    if cells.floating() != 0 {
+    if !cells.is_straight() {
         return false;
     }
     cells.write_row(own, spot, 0, steps);

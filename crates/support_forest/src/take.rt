@@ -1,8 +1,9 @@
 //! Takes away a voxel on which no other hangs.
 ghost use Rattle.std.specs.Prelude.{◌≡◌, Some, false};
 ghost use Rattle.support_forest.specs.Access.{LieInBrick};
-ghost use Rattle.support_forest.specs.Grid.{slot_of};
+ghost use Rattle.support_forest.specs.Grid.{slot_of, word_at};
 ghost use Rattle.support_forest.specs.Spots.{voxel_in};
+ghost use Rattle.support_forest.specs.Words.{IsStraight};
 ghost use Rattle.support_forest.specs.Taking.{CanTake, HangsNot, TakesOrStays, TellsParent};
 
 use crate::beside::place_in_chunk;
@@ -106,6 +107,26 @@ fn take_from_air<L: Ledger>(cells: &mut Cells, spot: u32, slot: u32, steps: &mut
     true
 }
 
+/// [`take`] above the floor, where each full voxel stands on the floor or hangs on the one under it: that over the voxel is the only
+/// one that can hang on it.
+#[inline(always)]
+fn take_straight<L: Ledger>(cells: &mut Cells, spot: u32, slot: u32, steps: &mut Steps<L>) -> bool
+    requires can { CanTake cells.old (voxel_in cells.old spot) }
+    requires slot { slot_of cells.old (voxel_in cells.old spot) ≡ Some slot }
+    requires straight { IsStraight (word_at cells.old) }
+    ensures { TakesOrStays result cells.old cells.new (voxel_in cells.old spot) steps.old steps.new }
+{
+    cells.recall();
+    let chunk = cells.chunk(slot);
+    let at = place_in_chunk(slot, spot);
+    let over = word_beside::<4, L>(cells, spot, slot, chunk, at, steps);
+    if over != 0 {
+        return false;
+    }
+    cells.write_straight(slot, spot, 0, steps);
+    true
+}
+
 /// Makes a full voxel void, where it is no other's parent, and tells whether it did: otherwise all stays.
 #[inline(always)]
 pub fn take<L: Ledger>(cells: &mut Cells, c: Coord, steps: &mut Steps<L>) -> bool
@@ -118,6 +139,9 @@ pub fn take<L: Ledger>(cells: &mut Cells, c: Coord, steps: &mut Steps<L>) -> boo
     };
     if c.y == 0 {
         return take_from_floor(cells, c, slot, steps);
+    }
+    if cells.is_straight() {
+        return take_straight(cells, spot, slot, steps);
     }
     take_from_air(cells, spot, slot, steps)
 }

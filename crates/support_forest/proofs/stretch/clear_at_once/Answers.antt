@@ -1,9 +1,8 @@
-use Rattle.std.proofs.Common.{◌≡◌, ℕ, ◌∙◌, arith, subst, sym}
+use Rattle.std.proofs.Common.{◌≡◌, ℕ, arith, subst, sym}
 use Rattle.support_forest.specs.Grid.{word_at}
 use Rattle.support_forest.specs.Spots.{voxel_in}
-use Rattle.support_forest.specs.Stretches.{AreCleared, LieInRow, RowIsFree}
-use Rattle.support_forest.proofs.Rowwise.{none_is_one, row_voided}
-use Rattle.support_forest.proofs.Standing.{none_floats}
+use Rattle.support_forest.specs.Stretches.{AreCleared, LieInRow, RowIsFree, further}
+use Rattle.support_forest.proofs.Rowwise.{row_voided}
 use Rattle.support_forest.proofs.stretch.clear_at_once.Goals as goal
 
 pub write_row-requires-clause-row : goal.write_row-requires-clause-row
@@ -13,8 +12,7 @@ write_row-requires-clause-row g c =
     subst (λ (k : ℕ). LieInRow c.args.cells.now (voxel_in c.args.cells.now c.args.spot) k) count_is row_required
 
 pub write_row-requires-clause-levels : goal.write_row-requires-clause-levels
-write_row-requires-clause-levels g c k l e =
-    none_is_one c.args.cells.now (voxel_in c.args.cells.now c.args.spot) k (write_row-requires-clause-row g c) (none_floats c.args.cells.now (sym c.floating.ensures ∙ c.if-floating-ne0.false)) l e
+write_row-requires-clause-levels g c k l = c.is_straight.ensures c.if-not-is_straight.false (further (voxel_in c.args.cells.now c.args.spot) k)
 
 pub returns-clause-cleared : goal.returns-clause-cleared
 returns-clause-cleared g c t =

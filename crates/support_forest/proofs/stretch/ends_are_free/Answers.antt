@@ -5,6 +5,7 @@ use Rattle.support_forest.specs.Grid.{side, slot_of, word_at}
 use Rattle.support_forest.specs.Placing.{IsWordToward}
 use Rattle.support_forest.specs.Spots.{voxel_in}
 use Rattle.support_forest.specs.Stretches.{further}
+use Rattle.support_forest.proofs.Straight.{ends_straight}
 use Rattle.support_forest.proofs.Stretches.{end_free, far_free, row_slot, row_space}
 use Rattle.support_forest.proofs.Voxels.{part_there, spot_small, voxel_further}
 use Rattle.support_forest.proofs.stretch.ends_are_free.Goals as goal
@@ -37,6 +38,9 @@ word_toward-far-requires-clause-read g c =
       chunk = c.chunk-chunk.ensures;
       at = omega (arith, c.place_in_chunk-at.ensures, c.from-2.ensures);
     }
+
+pub returns-then-is_straight-clause-free : goal.returns-then-is_straight-clause-free
+returns-then-is_straight-clause-free g c t = ends_straight (word_at c.args.cells.now) (voxel_in c.args.cells.now c.args.spot) c.args.count (c.is_straight.ensures c.if-is_straight.true)
 
 pub returns-clause-free : goal.returns-clause-free
 returns-clause-free g c t =

@@ -1,8 +1,9 @@
 use Rattle.std.proofs.Common.{◌%◌, arith, sym}
-use Rattle.support_forest.specs.Grid.{side}
+use Rattle.support_forest.specs.Grid.{side, word_at}
 use Rattle.support_forest.specs.Spots.{voxel_in}
 use Rattle.support_forest.specs.Taking.{HangsNot}
 use Rattle.support_forest.proofs.Store.{brick_inside}
+use Rattle.support_forest.proofs.Straight.{sides_straight}
 use Rattle.support_forest.proofs.Stretches.{row_in_slot}
 use Rattle.support_forest.proofs.Voxels.{slot_place_at, part_of_row}
 use Rattle.support_forest.proofs.stretch.sides_are_free.Goals as goal
@@ -12,6 +13,11 @@ chunk-chunk-requires g c = c.recall.ensures.store.live _ c.args.own c.requires.b
 
 pub words_hang_not-requires-clause-within : goal.words_hang_not-requires-clause-within
 words_hang_not-requires-clause-within g c = let full = c.chunk-chunk.ensures.full in let at = c.place_in_chunk-at.ensures in let row = c.requires.row in omega arith
+
+pub returns-then-is_straight-clause-free : goal.returns-then-is_straight-clause-free
+returns-then-is_straight-clause-free g c t =
+    let straight = c.is_straight.ensures c.if-is_straight.true in
+    sides_straight (word_at c.args.cells.now) (voxel_in c.args.cells.now c.args.spot) c.args.count straight (c.side_is_free.ensures.none c.if-not-side_is_free.false)
 
 pub returns-clause-free : goal.returns-clause-free
 returns-clause-free g c t = record {

@@ -24,7 +24,7 @@ invariant_of-self g c =
     let row_written = wrote_row old c.set_row.new.self first c.args.slot (swapped (c.args.spot % 512)) c.args.word
     (can_row old c.args.self.now first c.args.slot (swapped (c.args.spot % 512)) c.args.word c.self.view_is c.self.invariant.1.0 c.requires.row c.requires.slot index c.requires.level c.requires.levels c.set_row.ensures.written)
     c.set_row.ensures.value in
-    (c.self.invariant.0, (row_written.store, c.self.invariant.1.1 ∙ sym row_written.count))
+    (c.self.invariant.0, (row_written.store, (c.self.invariant.1.1.0 ∙ sym row_written.floating, c.self.invariant.1.1.1 ∙ sym row_written.leaning)))
 
 pub returns-clause-written : goal.returns-clause-written
 returns-clause-written g c =
