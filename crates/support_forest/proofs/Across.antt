@@ -8,7 +8,7 @@ use Rattle.vox_geom.specs.declared.coordinate.Coord.{Coord}
 use Rattle.vox_geom.specs.Space.{IsInSpace, place}
 use Rattle.vox_geom.proofs.Firsts.{place_below}
 use Rattle.support_forest.specs.Directions.{lies_left, lies_right, lies_under, lies_over, lies_near, lies_far}
-use Rattle.support_forest.specs.Grid.{Grid, IsStore, StandsIn, brick, brick_number, side, slot_at, word_at, word_in, word_index, word_place}
+use Rattle.support_forest.specs.Grid.{Grid, IsStore, StandsIn, brick, brick_number, place_in_slot, side, slot_at, word_at, word_in, word_index}
 use Rattle.support_forest.specs.Placing.{EndsBrick, IsOwnSpot, IsSpotAcross, IsSpotToward, IsWordToward, NoneToward, StandsBeyond}
 use Rattle.support_forest.specs.Spots.{voxel_of}
 use Rattle.support_forest.proofs.Sides.{goes, one_toward}
@@ -94,7 +94,7 @@ one_before_own r c number slot_place own last some = let in_brick = own.in_brick
 
 pub spot_left : (r : ℕ) (c : Coord) (d own place number slot_place : ℕ) → IsOwnSpot r c own place → d ≡ 1 → c.x % 8 ≡ 0
     → 0 < c.x → number + side r * side r ≡ own → slot_place ≡ place + 56 → IsSpotToward r c d number slot_place
-unfolding brick_number word_place
+unfolding brick_number place_in_slot
 spot_left r c d own place number slot_place own_spot e last some n i =
     let bricks = brick_inside r c own_spot.within in
     let in_x = bricks.x in
@@ -112,7 +112,7 @@ spot_left r c d own place number slot_place own_spot e last some n i =
 
 pub spot_right : (r : ℕ) (c : Coord) (d own place number slot_place : ℕ) → IsOwnSpot r c own place → d ≡ 2 → c.x % 8 ≡ 7
     → number ≡ own + side r * side r → slot_place + 56 ≡ place → IsSpotToward r c d number slot_place
-unfolding brick_number word_place side
+unfolding brick_number place_in_slot side
 spot_right r c d own place number slot_place own_spot e last n i =
     let bricks = brick_inside r c own_spot.within in
     let along = own_spot.within.x in
@@ -130,7 +130,7 @@ spot_right r c d own place number slot_place own_spot e last n i =
 
 pub spot_under : (r : ℕ) (c : Coord) (d own place number slot_place : ℕ) → IsOwnSpot r c own place → d ≡ 3 → c.y % 8 ≡ 0
     → 0 < c.y → number + side r ≡ own → slot_place ≡ place + 448 → IsSpotToward r c d number slot_place
-unfolding brick_number word_place
+unfolding brick_number place_in_slot
 spot_under r c d own place number slot_place own_spot e last some n i =
     let bricks = brick_inside r c own_spot.within in
     let in_y = bricks.y in
@@ -148,7 +148,7 @@ spot_under r c d own place number slot_place own_spot e last some n i =
 
 pub spot_over : (r : ℕ) (c : Coord) (d own place number slot_place : ℕ) → IsOwnSpot r c own place → d ≡ 4 → c.y % 8 ≡ 7
     → number ≡ own + side r → slot_place + 448 ≡ place → IsSpotToward r c d number slot_place
-unfolding brick_number word_place side
+unfolding brick_number place_in_slot side
 spot_over r c d own place number slot_place own_spot e last n i =
     let bricks = brick_inside r c own_spot.within in
     let along = own_spot.within.y in
@@ -166,7 +166,7 @@ spot_over r c d own place number slot_place own_spot e last n i =
 
 pub spot_near : (r : ℕ) (c : Coord) (d own place number slot_place : ℕ) → IsOwnSpot r c own place → d ≡ 5 → c.z % 8 ≡ 0
     → 0 < c.z → number + 1 ≡ own → slot_place ≡ place + 7 → IsSpotToward r c d number slot_place
-unfolding brick_number word_place
+unfolding brick_number place_in_slot
 spot_near r c d own place number slot_place own_spot e last some n i =
     let bricks = brick_inside r c own_spot.within in
     let in_z = bricks.z in
@@ -180,7 +180,7 @@ spot_near r c d own place number slot_place own_spot e last some n i =
 
 pub spot_far : (r : ℕ) (c : Coord) (d own place number slot_place : ℕ) → IsOwnSpot r c own place → d ≡ 6 → c.z % 8 ≡ 7
     → number ≡ own + 1 → slot_place + 7 ≡ place → IsSpotToward r c d number slot_place
-unfolding brick_number word_place side
+unfolding brick_number place_in_slot side
 spot_far r c d own place number slot_place own_spot e last n i =
     let bricks = brick_inside r c own_spot.within in
     let along = own_spot.within.z in
@@ -378,7 +378,7 @@ across_far r p next within last is =
 -- the brick before the first of its row lies beyond space
 beyond_row : (r p next : ℕ) → IsInSpace r (voxel_of (side r) p) → (voxel_of (side r) p).y ≡ 0
     → next + 512 * side r ≡ p + 448 → StandsBeyond r (next / 512) (next % 512)
-unfolding brick_number word_place side
+unfolding brick_number place_in_slot side
 beyond_row r p next within floor is =
     let c = voxel_of (side r) p in
     let own = own_spot r p within in
@@ -431,7 +431,7 @@ no_under r p t e within last few =
 -- the brick before the first of its line lies beyond space
 beyond_line : (r p next : ℕ) → IsInSpace r (voxel_of (side r) p) → (voxel_of (side r) p).z ≡ 0
     → next + 512 ≡ p + 7 → StandsBeyond r (next / 512) (next % 512)
-unfolding brick_number word_place side
+unfolding brick_number place_in_slot side
 beyond_line r p next within first is =
     let c = voxel_of (side r) p in
     let own = own_spot r p within in

@@ -5,7 +5,7 @@ use Rattle.vox_geom.specs.declared.coordinate.Coord.{Coord}
 use Rattle.vox_geom.specs.Space.{IsInSpace}
 use Rattle.support_forest.specs.declared.beside.Beside.{Beside}
 use Rattle.support_forest.specs.Directions.{Toward, AreBeside, lies_left, lies_right, lies_under, lies_over, lies_near, lies_far}
-use Rattle.support_forest.specs.Grid.{Grid, StandsAt, brick, brick_number, side, slot_at, slot_of, word_place}
+use Rattle.support_forest.specs.Grid.{Grid, StandsAt, brick, brick_number, place_in_slot, side, slot_at, slot_of}
 use Rattle.support_forest.specs.Placing.{AreBesideWords, StandsToward, StayAfter}
 use Rattle.support_forest.specs.Words.{IsWritten}
 use Rattle.support_forest.proofs.Sides.{one_direction}
@@ -39,9 +39,9 @@ same_slot g c d own e h = subst (λ (n : ℕ). own ≡ slot_at g.table n) (sym (
 
 -- ---- the place of a neighbour's word in the same brick
 
-pub stands_left : (c : Coord) (d slot_place i : ℕ) → d ≡ 1 → slot_place ≡ word_place c → 0 < c.x % 8 → i + 8 ≡ slot_place
+pub stands_left : (c : Coord) (d slot_place i : ℕ) → d ≡ 1 → slot_place ≡ place_in_slot c → 0 < c.x % 8 → i + 8 ≡ slot_place
     → StandsToward c d i
-unfolding word_place
+unfolding place_in_slot
 stands_left c d slot_place i n e h k = record {
   there = record { x = c.x - 1; y = c.y; z = c.z };
   toward = lies_left (n, omega arith, refl, refl);
@@ -49,9 +49,9 @@ stands_left c d slot_place i n e h k = record {
   at_place = omega arith;
 }
 
-pub stands_right : (c : Coord) (d slot_place i : ℕ) → d ≡ 2 → slot_place ≡ word_place c → c.x % 8 < 7 → i ≡ slot_place + 8
+pub stands_right : (c : Coord) (d slot_place i : ℕ) → d ≡ 2 → slot_place ≡ place_in_slot c → c.x % 8 < 7 → i ≡ slot_place + 8
     → StandsToward c d i
-unfolding word_place
+unfolding place_in_slot
 stands_right c d slot_place i n e h k = record {
   there = record { x = c.x + 1; y = c.y; z = c.z };
   toward = lies_right (n, omega arith, refl, refl);
@@ -59,9 +59,9 @@ stands_right c d slot_place i n e h k = record {
   at_place = omega arith;
 }
 
-pub stands_under : (c : Coord) (d slot_place i : ℕ) → d ≡ 3 → slot_place ≡ word_place c → 0 < c.y % 8 → i + 64 ≡ slot_place
+pub stands_under : (c : Coord) (d slot_place i : ℕ) → d ≡ 3 → slot_place ≡ place_in_slot c → 0 < c.y % 8 → i + 64 ≡ slot_place
     → StandsToward c d i
-unfolding word_place
+unfolding place_in_slot
 stands_under c d slot_place i n e h k = record {
   there = record { x = c.x; y = c.y - 1; z = c.z };
   toward = lies_under (n, refl, omega arith, refl);
@@ -69,9 +69,9 @@ stands_under c d slot_place i n e h k = record {
   at_place = omega arith;
 }
 
-pub stands_over : (c : Coord) (d slot_place i : ℕ) → d ≡ 4 → slot_place ≡ word_place c → c.y % 8 < 7 → i ≡ slot_place + 64
+pub stands_over : (c : Coord) (d slot_place i : ℕ) → d ≡ 4 → slot_place ≡ place_in_slot c → c.y % 8 < 7 → i ≡ slot_place + 64
     → StandsToward c d i
-unfolding word_place
+unfolding place_in_slot
 stands_over c d slot_place i n e h k = record {
   there = record { x = c.x; y = c.y + 1; z = c.z };
   toward = lies_over (n, refl, omega arith, refl);
@@ -79,9 +79,9 @@ stands_over c d slot_place i n e h k = record {
   at_place = omega arith;
 }
 
-pub stands_near : (c : Coord) (d slot_place i : ℕ) → d ≡ 5 → slot_place ≡ word_place c → 0 < c.z % 8 → i + 1 ≡ slot_place
+pub stands_near : (c : Coord) (d slot_place i : ℕ) → d ≡ 5 → slot_place ≡ place_in_slot c → 0 < c.z % 8 → i + 1 ≡ slot_place
     → StandsToward c d i
-unfolding word_place
+unfolding place_in_slot
 stands_near c d slot_place i n e h k = record {
   there = record { x = c.x; y = c.y; z = c.z - 1 };
   toward = lies_near (n, refl, refl, omega arith);
@@ -89,9 +89,9 @@ stands_near c d slot_place i n e h k = record {
   at_place = omega arith;
 }
 
-pub stands_far : (c : Coord) (d slot_place i : ℕ) → d ≡ 6 → slot_place ≡ word_place c → c.z % 8 < 7 → i ≡ slot_place + 1
+pub stands_far : (c : Coord) (d slot_place i : ℕ) → d ≡ 6 → slot_place ≡ place_in_slot c → c.z % 8 < 7 → i ≡ slot_place + 1
     → StandsToward c d i
-unfolding word_place
+unfolding place_in_slot
 stands_far c d slot_place i n e h k = record {
   there = record { x = c.x; y = c.y; z = c.z + 1 };
   toward = lies_far (n, refl, refl, omega arith);

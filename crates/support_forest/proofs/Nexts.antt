@@ -5,7 +5,7 @@ use Rattle.vox_geom.specs.declared.coordinate.Coord.{Coord}
 use Rattle.vox_geom.specs.Space.{IsInSpace}
 use Rattle.vox_geom.proofs.Tests.{less_by_test, not_less_by_test}
 use Rattle.support_forest.specs.Directions.{Toward}
-use Rattle.support_forest.specs.Grid.{brick, word_place}
+use Rattle.support_forest.specs.Grid.{brick, place_in_slot}
 use Rattle.support_forest.specs.Placing.{EndsBrick}
 use Rattle.support_forest.specs.Spots.{IsBrickBeside, StaysInBrick, voxel_of}
 use Rattle.support_forest.proofs.Across.{ends_far, ends_left, ends_near, ends_over, ends_right, ends_under, row_before, row_behind, row_fits, wall_before, wall_behind, wall_fits}
@@ -131,7 +131,7 @@ fits_near s p d e b h =
 pub next_left : (s p d wall next : ℕ) → d ≡ 1 → wall ≡ s * s → (8 ≤ p % 64 → next + 8 ≡ p)
     → (p % 64 < 8 → next + 512 * wall ≡ p + 56) → (q : Coord) → Toward d (voxel_of s p) q
     → IsInSpace s (brick q) → voxel_of s next ≡ q
-unfolding word_place
+unfolding place_in_slot
 next_left s p d wall next e f within over q t inside =
     let c = voxel_of s p in
     let moved = sums 1 c q (subst (λ (k : ℕ). Toward k c q) e t) in
@@ -150,7 +150,7 @@ next_left s p d wall next e f within over q t inside =
 pub next_right : (s p d wall next : ℕ) → d ≡ 2 → wall ≡ s * s → (p % 64 < 56 → next ≡ p + 8)
     → (56 ≤ p % 64 → next + 56 ≡ p + 512 * wall) → (q : Coord) → Toward d (voxel_of s p) q
     → IsInSpace s (brick q) → voxel_of s next ≡ q
-unfolding word_place
+unfolding place_in_slot
 next_right s p d wall next e f within over q t inside =
     let c = voxel_of s p in
     let moved = sums 2 c q (subst (λ (k : ℕ). Toward k c q) e t) in
@@ -169,7 +169,7 @@ next_right s p d wall next e f within over q t inside =
 pub next_under : (s p d next : ℕ) → d ≡ 3 → (64 ≤ p % 512 → next + 64 ≡ p)
     → (p % 512 < 64 → next + 512 * s ≡ p + 448) → (q : Coord) → Toward d (voxel_of s p) q
     → IsInSpace s (brick q) → voxel_of s next ≡ q
-unfolding word_place
+unfolding place_in_slot
 next_under s p d next e within over q t inside =
     let c = voxel_of s p in
     let moved = sums 3 c q (subst (λ (k : ℕ). Toward k c q) e t) in
@@ -188,7 +188,7 @@ next_under s p d next e within over q t inside =
 pub next_over : (s p d next : ℕ) → d ≡ 4 → (p % 512 < 448 → next ≡ p + 64)
     → (448 ≤ p % 512 → next + 448 ≡ p + 512 * s) → (q : Coord) → Toward d (voxel_of s p) q
     → IsInSpace s (brick q) → voxel_of s next ≡ q
-unfolding word_place
+unfolding place_in_slot
 next_over s p d next e within over q t inside =
     let c = voxel_of s p in
     let moved = sums 4 c q (subst (λ (k : ℕ). Toward k c q) e t) in
@@ -207,7 +207,7 @@ next_over s p d next e within over q t inside =
 pub next_near : (s p d next : ℕ) → d ≡ 5 → (1 ≤ p % 8 → next + 1 ≡ p)
     → (p % 8 < 1 → next + 512 ≡ p + 7) → (q : Coord) → Toward d (voxel_of s p) q
     → IsInSpace s (brick q) → voxel_of s next ≡ q
-unfolding word_place
+unfolding place_in_slot
 next_near s p d next e within over q t inside =
     let c = voxel_of s p in
     let moved = sums 5 c q (subst (λ (k : ℕ). Toward k c q) e t) in
@@ -226,7 +226,7 @@ next_near s p d next e within over q t inside =
 pub next_far : (s p d next : ℕ) → d ≡ 6 → (p % 8 < 7 → next ≡ p + 1)
     → (7 ≤ p % 8 → next + 7 ≡ p + 512) → (q : Coord) → Toward d (voxel_of s p) q
     → IsInSpace s (brick q) → voxel_of s next ≡ q
-unfolding word_place
+unfolding place_in_slot
 next_far s p d next e within over q t inside =
     let c = voxel_of s p in
     let moved = sums 6 c q (subst (λ (k : ℕ). Toward k c q) e t) in

@@ -8,7 +8,7 @@ use Rattle.vox_geom.specs.Space.{IsInSpace}
 use Rattle.support_forest.specs.Directions.{Toward, lies_left, lies_right, lies_under, lies_over, lies_near, lies_far}
 use Rattle.brick_arena.specs.Slots.{HasSlot, start_in_chunk, swapped, words_of}
 use Rattle.support_forest.specs.Access.{LieInBrick}
-use Rattle.support_forest.specs.Grid.{Grid, IsStore, StandsAt, StandsIn, brick, side, slot_at, slot_of, word_at, word_in, word_index, word_place}
+use Rattle.support_forest.specs.Grid.{Grid, IsStore, StandsAt, StandsIn, brick, place_in_slot, side, slot_at, slot_of, word_at, word_in, word_index}
 use Rattle.support_forest.specs.Placing.{StandsToward, IsSpotAcross, IsWordToward, NoneToward}
 use Rattle.support_forest.specs.Stretches.{EndsAreFree, LieInRow, IsStretch, RowHangsNot, RowIsFree, SideHangsNot, SidesAreFree, WordsHangNot, further, whole_row_start}
 use Rattle.support_forest.specs.Taking.{HangsNot}
@@ -98,9 +98,9 @@ pub row_slot : (g : Grid) (c : Coord) (n k : ℕ) (own : Option ℕ) → LieInRo
     → own ≡ slot_of g (further c k)
 row_slot g c n k own h l e = same_slot g c (further c k) own (row_brick c n k h.row l) e
 
-pub row_place : (c : Coord) (n k at : ℕ) → c.z % 8 + n ≤ 8 → k < n → at ≡ word_place c
-    → word_place (further c k) ≡ at + k
-unfolding word_place
+pub row_place : (c : Coord) (n k at : ℕ) → c.z % 8 + n ≤ 8 → k < n → at ≡ place_in_slot c
+    → place_in_slot (further c k) ≡ at + k
+unfolding place_in_slot
 row_place c n k at r l e = omega arith
 
 pub row_index : (c : Coord) (n k index : ℕ) → c.z % 8 + n ≤ 8 → k < n → index ≡ word_index c
@@ -110,18 +110,18 @@ row_index c n k index r l e = omega arith
 
 -- the words of a row stand in the chunk that has its slot
 pub row_in_chunk : (g : Grid) (chunk : List ℕ) (slot slot_place from n : ℕ) (c : Coord) → HasSlot g.bricks slot chunk
-    → slot_place ≡ word_place c → c.z % 8 + n ≤ 8 → from ≡ start_in_chunk slot + slot_place → from + n ≤ length chunk
-unfolding word_place
+    → slot_place ≡ place_in_slot c → c.z % 8 + n ≤ 8 → from ≡ start_in_chunk slot + slot_place → from + n ≤ length chunk
+unfolding place_in_slot
 row_in_chunk g chunk slot slot_place from n c h e r f = let full = h.full in omega arith
 
 -- what holds of the words of the chunk holds of those of the row, which may lie beyond space
 pub row_in_slot : (g : Grid) (chunk : List ℕ) (slot slot_place from n : ℕ) (c : Coord) (P : ℕ → Type 0) → IsStore g
     → IsInSpace (side g.resolution) (brick c) → c.z % 8 + n ≤ 8 → slot_of g c ≡ Some slot → HasSlot g.bricks slot chunk
-    → slot_place ≡ word_place c → from ≡ start_in_chunk slot + slot_place → ((k : ℕ) → k < n → P (get_or chunk (from + k) 0))
+    → slot_place ≡ place_in_slot c → from ≡ start_in_chunk slot + slot_place → ((k : ℕ) → k < n → P (get_or chunk (from + k) 0))
     → (k : ℕ) → k < n → P (word_at g (further c k))
 row_in_slot g chunk slot slot_place from n c P s b r e h i f w k l =
     let same : brick (further c k) ≡ brick c = row_brick c n k r l in
-    let at : word_place (further c k) ≡ slot_place + k = row_place c n k slot_place r l i in
+    let at : place_in_slot (further c k) ≡ slot_place + k = row_place c n k slot_place r l i in
     let below : slot_place + k < 512 = let below_512 = slot_place_below (further c k) in omega arith in
     let stands : StandsAt g slot (slot_place + k) (further c k) = record {
       within = subst (λ (x : Coord). IsInSpace (side g.resolution) x) (sym same) b;
@@ -134,8 +134,8 @@ row_in_slot g chunk slot slot_place from n c P s b r e h i f w k l =
     subst P (here ∙ sym read) (w k l)
 
 -- the place of a row in its line of a brick, by that in its slot
-pub row_part : (q : Coord) (slot_place n : ℕ) → word_place q ≡ slot_place → slot_place % 8 + n ≤ 8 → q.z % 8 + n ≤ 8
-unfolding word_place
+pub row_part : (q : Coord) (slot_place n : ℕ) → place_in_slot q ≡ slot_place → slot_place % 8 + n ≤ 8 → q.z % 8 + n ≤ 8
+unfolding place_in_slot
 row_part q slot_place n e r = omega arith
 
 -- the words of a row that stands in a brick of the table, which may lie beyond space
@@ -289,7 +289,7 @@ whole_row_brick c = let product_is : c.z / 8 * 8 / 8 ≡ c.z / 8 = omega arith i
 -- what holds of the words of the whole row in the chunk holds of those of its voxels, which may lie beyond space
 pub whole_row_in_slot : (g : Grid) (chunk : List ℕ) (slot slot_place from : ℕ) (c : Coord) (P : ℕ → Type 0) → IsStore g
     → IsInSpace g.resolution c → slot_of g c ≡ Some slot → HasSlot g.bricks slot chunk
-    → slot_place ≡ word_place (whole_row_start c) → from ≡ start_in_chunk slot + slot_place
+    → slot_place ≡ place_in_slot (whole_row_start c) → from ≡ start_in_chunk slot + slot_place
     → ((k : ℕ) → k < 8 → P (get_or chunk (from + k) 0)) → (k : ℕ) → k < 8
     → P (word_at g (further (whole_row_start c) k))
 whole_row_in_slot g chunk slot slot_place from c P s w e h i f v =

@@ -8,7 +8,7 @@ use Rattle.vox_geom.specs.Space.{IsInSpace, coordinate_at, place}
 use Rattle.vox_geom.proofs.Firsts.{place_below}
 use Rattle.vox_geom.proofs.Places.{coordinate_at-place, place-coordinate_at}
 use Rattle.vox_geom.proofs.Tests.{test_equal, test_unequal}
-use Rattle.support_forest.specs.Grid.{Grid, IsStore, StandsIn, brick, brick_number, side, slot_at, slot_of, word_place}
+use Rattle.support_forest.specs.Grid.{Grid, IsStore, StandsIn, brick, brick_number, place_in_slot, side, slot_at, slot_of}
 use Rattle.support_forest.specs.Placing.{IsOwnSpot}
 use Rattle.support_forest.specs.Spots.{spot_of, voxel_of, voxel_in, voxel_of_brick}
 use Rattle.support_forest.specs.Stretches.{further, whole_row_start}
@@ -50,16 +50,16 @@ pub number_at : (r p : ℕ) → brick_number r (voxel_of (side r) p) ≡ p / 512
 unfolding brick_number
 number_at r p = place_at (side r) p
 
-pub slot_place_at : (s p : ℕ) → word_place (voxel_of s p) ≡ p % 512
-unfolding word_place
+pub slot_place_at : (s p : ℕ) → place_in_slot (voxel_of s p) ≡ p % 512
+unfolding place_in_slot
 slot_place_at s p =
     let x_is = digit_x s p in
     let y_is = digit_y s p in
     let z_is = digit_z s p in
     omega arith
 
-of_brick : (c : Coord) → voxel_of_brick (brick c) (word_place c) ≡ c
-unfolding word_place
+of_brick : (c : Coord) → voxel_of_brick (brick c) (place_in_slot c) ≡ c
+unfolding place_in_slot
 of_brick c =
     let x_is : 8 * (c.x / 8) + (64 * (c.y % 8) + 8 * (c.x % 8) + c.z % 8) / 8 % 8 ≡ c.x = omega arith in
     let y_is : 8 * (c.y / 8) + (64 * (c.y % 8) + 8 * (c.x % 8) + c.z % 8) / 64 ≡ c.y = omega arith in
@@ -67,7 +67,7 @@ of_brick c =
     λ j. record { x = x_is j; y = y_is j; z = z_is j }
 
 -- the voxel at a voxel's spot, and at any that has its brick and its place there
-pub voxel_is : (s p : ℕ) (c : Coord) → IsInSpace s (brick c) → place s (brick c) ≡ p / 512 → word_place c ≡ p % 512
+pub voxel_is : (s p : ℕ) (c : Coord) → IsInSpace s (brick c) → place s (brick c) ≡ p / 512 → place_in_slot c ≡ p % 512
     → voxel_of s p ≡ c
 unfolding voxel_of
 voxel_is s p c h n i =
@@ -76,7 +76,7 @@ voxel_is s p c h n i =
     ∙ (ap (voxel_of_brick (brick c)) (sym i) ∙ of_brick c))
 
 pub voxel_there : (r p : ℕ) (c : Coord) → IsInSpace (side r) (brick c) → brick_number r c ≡ p / 512
-    → word_place c ≡ p % 512 → voxel_of (side r) p ≡ c
+    → place_in_slot c ≡ p % 512 → voxel_of (side r) p ≡ c
 unfolding brick_number
 voxel_there r p c h n i = voxel_is (side r) p c h n i
 
@@ -84,7 +84,7 @@ pub voxel_at_spot : (r : ℕ) (c : Coord) → IsInSpace (side r) (brick c) → v
 unfolding spot_of
 voxel_at_spot r c h =
     let below = slot_place_below c in
-    voxel_there r (512 * brick_number r c + word_place c) c h (omega arith) (omega arith)
+    voxel_there r (512 * brick_number r c + place_in_slot c) c h (omega arith) (omega arith)
 
 -- the voxel at a spot stands there
 pub stands_there : (r p : ℕ) → IsInSpace (side r) (brick (voxel_of (side r) p))
@@ -155,7 +155,7 @@ whole_row_there s p =
 
 pub voxel_along : (r line : ℕ) (c : Coord) → line ≡ spot_of r (record { x = c.x; y = c.y; z = 0 }) → IsInSpace r c
     → voxel_of (side r) (line + 512 * (c.z / 8) + c.z % 8) ≡ c
-unfolding spot_of brick_number word_place
+unfolding spot_of brick_number place_in_slot
 voxel_along r line c e h =
     let bricks = brick_inside r c h in
     voxel_there r (line + 512 * (c.z / 8) + c.z % 8) c bricks (omega arith) (omega arith)

@@ -2,7 +2,7 @@
 use Rattle.std.specs.Prelude.{◌≡◌, ℕ, ◌+◌, ◌<◌, ◌≤◌, Some}
 use Rattle.vox_geom.specs.declared.coordinate.Coord.{Coord}
 use Rattle.vox_geom.specs.Space.{IsInSpace}
-use Rattle.support_forest.specs.Grid.{Grid, slot_of, word_at, word_place}
+use Rattle.support_forest.specs.Grid.{Grid, place_in_slot, slot_of, word_at}
 use Rattle.support_forest.specs.Placing.{IsWordToward}
 use Rattle.support_forest.specs.Spots.{voxel_in}
 use Rattle.support_forest.specs.Words.{IsWritten}
@@ -22,7 +22,7 @@ pub record LieInBrick (g : Grid) (c : Coord) (own : ℕ) : Type 0 where
 pub record IsWordIn (g : Grid) (own at word : ℕ) (c : Coord) : Type 0 where
   pub within : IsInSpace g.resolution c
   pub slot : slot_of g c ≡ Some own
-  pub place : at ≡ word_place c
+  pub place : at ≡ place_in_slot c
   pub stands : word ≡ word_at g c
 
 -- the word of the voxel was written, by one touch

@@ -6,7 +6,7 @@ use Rattle.vox_geom.specs.Space.{IsInSpace}
 use Rattle.support_forest.specs.declared.beside.Beside.{Beside}
 use Rattle.support_forest.specs.declared.place.Around.{Around}
 use Rattle.support_forest.specs.Directions.{Toward, AreBeside}
-use Rattle.support_forest.specs.Grid.{Grid, StandsIn, brick, brick_number, slot_of, word_at, word_place}
+use Rattle.support_forest.specs.Grid.{Grid, StandsIn, brick, brick_number, place_in_slot, slot_of, word_at}
 use Rattle.support_forest.specs.Waiting.{CanAdd}
 use Rattle.support_forest.specs.Words.{height, AreExact, IsSound}
 
@@ -38,7 +38,7 @@ pub record StandsToward (c : Coord) (d at : ℕ) : Type 0 where
   pub there : Coord
   pub toward : Toward d c there
   pub same_brick : brick there ≡ brick c
-  pub at_place : word_place there ≡ at
+  pub at_place : place_in_slot there ≡ at
 
 -- the same where the place of the voxel's own word is counted from elsewhere, and so is the neighbour's
 pub record IsPlaceToward (c : Coord) (d own at place : ℕ) : Type 0 where
@@ -59,7 +59,7 @@ pub record EndsBrick (c : Coord) (d : ℕ) : Type 0 where
 pub record IsOwnSpot (r : ℕ) (c : Coord) (number at : ℕ) : Type 0 where
   pub within : IsInSpace r c
   pub in_brick : number ≡ brick_number r c
-  pub at_place : at ≡ word_place c
+  pub at_place : at ≡ place_in_slot c
 
 -- the neighbour in the direction stands at that place in the slot of the brick of that number
 pub record IsSpotToward (r : ℕ) (c : Coord) (d number at : ℕ) : Type 0 where

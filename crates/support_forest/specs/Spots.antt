@@ -5,11 +5,11 @@ use Rattle.brick_arena.specs.Slots.{HasSlot, start_in_chunk}
 use Rattle.vox_geom.specs.declared.coordinate.Coord.{Coord}
 use Rattle.vox_geom.specs.Space.{IsInSpace, coordinate_at}
 use Rattle.support_forest.specs.Directions.{Toward}
-use Rattle.support_forest.specs.Grid.{Grid, brick, brick_number, side, slot_of, word_at, word_place}
+use Rattle.support_forest.specs.Grid.{Grid, brick, brick_number, place_in_slot, side, slot_of, word_at}
 
 -- the spot of a voxel
 unfoldable pub spot_of : ℕ → Coord → ℕ
-spot_of r c = 512 * brick_number r c + word_place c
+spot_of r c = 512 * brick_number r c + place_in_slot c
 
 -- the voxel of a brick whose word has the place
 abbrev pub voxel_of_brick : Coord → ℕ → Coord

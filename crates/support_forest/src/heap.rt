@@ -13,7 +13,7 @@ ghost use Rattle.vox_geom.specs.Point.{below as under_of};
 ghost use Rattle.vox_planes.specs.Places.{voxel_at};
 
 use crate::add::add_cells;
-use crate::cells::{BRICK_SIDE, Cells, word_place};
+use crate::cells::{BRICK_SIDE, Cells, place_in_slot};
 use crate::lists::Lists;
 use crate::spots::{ends_brick, spot_along};
 use crate::toward::spot_across;
@@ -113,7 +113,7 @@ fn row_stands<L: Ledger>(
     };
     match below {
         Some(slot) => {
-            let from = start_in_chunk(slot) + usize::from(word_place(under));
+            let from = start_in_chunk(slot) + usize::from(place_in_slot(under));
             words_are_full(cells.chunk(slot), from, count, steps)
         }
         None => false,

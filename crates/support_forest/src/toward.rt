@@ -7,7 +7,7 @@ ghost use Rattle.support_forest.specs.Grid.{slot_of, word_at};
 ghost use Rattle.support_forest.specs.Placing.{EndsBrick, IsPlaceToward, IsSpotAcross, IsWordToward, NoneToward};
 ghost use Rattle.support_forest.specs.Spots.{IsReadAt, voxel_of, voxel_in};
 
-use crate::cells::{BRICK_LAYER, BRICK_WORDS, Cells, word_place};
+use crate::cells::{BRICK_LAYER, BRICK_WORDS, Cells, place_in_slot};
 use brick_arena::Chunk;
 use std::sync::ledger::Ledger;
 use vox_geom::{Coord, Steps};
@@ -186,5 +186,5 @@ pub fn word_over_floor<L: Ledger>(cells: &Cells, c: Coord, slot: u32, steps: &mu
     ensures touch { steps.new ≤ steps.old + 1 }
 {
     cells.recall();
-    cells.word_of(slot, word_place(c) + BRICK_LAYER, steps)
+    cells.word_of(slot, place_in_slot(c) + BRICK_LAYER, steps)
 }

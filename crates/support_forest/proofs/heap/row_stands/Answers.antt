@@ -12,7 +12,7 @@ pub words_are_full-requires-clause-within : goal.words_are_full-requires-clause-
 words_are_full-requires-clause-within g c =
     let start_in_chunk_ensured = c.start_in_chunk.ensures in
     let from_ensured = c.from.ensures in
-    row_in_chunk c.args.cells.now c.chunk.result.now c.in-Some.slot c.word_place.result (c.start_in_chunk.result + c.from.result) c.args.count (under c.args.first) c.chunk.ensures c.word_place.ensures.value c.requires.row.row (omega arith)
+    row_in_chunk c.args.cells.now c.chunk.result.now c.in-Some.slot c.place_in_slot.result (c.start_in_chunk.result + c.from.result) c.args.count (under c.args.first) c.chunk.ensures c.place_in_slot.ensures.value c.requires.row.row (omega arith)
 
 pub returns-in-Some-clause-stands : goal.returns-in-Some-clause-stands
 returns-in-Some-clause-stands g c t =
@@ -21,5 +21,5 @@ returns-in-Some-clause-stands g c t =
     let from_ensured = c.from.ensures in
     let within_required = c.requires.row.within in
     let within : IsInSpace c.args.cells.now.resolution (under c.args.first) = record { x = within_required.x; y = let along_y = within_required.y in omega arith; z = within_required.z } in
-    inr (row_in_slot c.args.cells.now c.chunk.result.now c.in-Some.slot c.word_place.result (c.start_in_chunk.result + c.from.result) c.args.count (under c.args.first) (λ v. 0 < v)
-    c.recall.ensures.store (brick_inside c.args.cells.now.resolution (under c.args.first) within) c.requires.row.row (sym (c.requires.below (omega arith)) ∙ c.in-Some.is) c.chunk.ensures c.word_place.ensures.value (omega arith) (c.words_are_full.ensures.full t))
+    inr (row_in_slot c.args.cells.now c.chunk.result.now c.in-Some.slot c.place_in_slot.result (c.start_in_chunk.result + c.from.result) c.args.count (under c.args.first) (λ v. 0 < v)
+    c.recall.ensures.store (brick_inside c.args.cells.now.resolution (under c.args.first) within) c.requires.row.row (sym (c.requires.below (omega arith)) ∙ c.in-Some.is) c.chunk.ensures c.place_in_slot.ensures.value (omega arith) (c.words_are_full.ensures.full t))

@@ -11,15 +11,15 @@ word_of-requires-clause-live g c = c.recall.ensures.store.live _ c.args.slot c.r
 
 pub word_of-requires-clause-place : goal.word_of-requires-clause-place
 word_of-requires-clause-place g c =
-    let over : StandsToward c.args.c 4 (c.word_place.result + 64) = stands_over c.args.c 4 c.word_place.result (c.word_place.result + 64) refl c.word_place.ensures.value (let floor = c.requires.floor in omega arith) refl in
+    let over : StandsToward c.args.c 4 (c.place_in_slot.result + 64) = stands_over c.args.c 4 c.place_in_slot.result (c.place_in_slot.result + 64) refl c.place_in_slot.ensures.value (let floor = c.requires.floor in omega arith) refl in
     let below = slot_place_below over.there in
     let same = over.at_place in
     omega arith
 
 pub returns-clause-word : goal.returns-clause-word
 returns-clause-word g c =
-    let over : StandsToward c.args.c 4 (c.word_place.result + 64) = stands_over c.args.c 4 c.word_place.result (c.word_place.result + 64) refl c.word_place.ensures.value (let floor = c.requires.floor in omega arith) refl in
-    let word_of_value = c.word_of.ensures.value over.there (stands_beside c.args.cells.now c.args.c 4 c.args.slot (c.word_place.result + 64) c.requires.within c.requires.slot over) in
+    let over : StandsToward c.args.c 4 (c.place_in_slot.result + 64) = stands_over c.args.c 4 c.place_in_slot.result (c.place_in_slot.result + 64) refl c.place_in_slot.ensures.value (let floor = c.requires.floor in omega arith) refl in
+    let word_of_value = c.word_of.ensures.value over.there (stands_beside c.args.cells.now c.args.c 4 c.args.slot (c.place_in_slot.result + 64) c.requires.within c.requires.slot over) in
     record {
       each = λ q k. ap (word_at c.args.cells.now) (one_toward 4 c.args.c q over.there k over.toward) ∙ word_of_value;
       some = λ f. (over.there, over.toward);
