@@ -1,8 +1,8 @@
 -- Voxels of a heap, and the full voxels of a matrix that are stacked or listed one after another.
 use Rattle.std.proofs.Common.{◌≡◌, ℕ, zero, suc, ◌+◌, ◌-◌, ◌*◌, ◌/◌, ◌%◌, ◌^◌, ◌<◌, ◌≤◌, ◌⊎◌, inl, inr, refl, sym, ◌∙◌, ap, subst, arith, Bool, true, false, List, [], ◌∷◌, ◌++◌, length, length-append, get_or, Option, Some, ext_get_or}
-use Rattle.std.specs.Prelude.{◌==◌, IsTrue, IsFalse, nat_lt}
+use Rattle.std.specs.Prelude.{◌==◌, ◌&&◌, IsTrue, IsFalse, cond, nat_lt}
 use Rattle.std.specs.List.{Contains}
-use Rattle.std.proofs.Math.Nat.{div-add-mod, div-div-eq-div-mul}
+use Rattle.std.proofs.Math.Nat.{div-add-mod, div-div-eq-div-mul, zero-div}
 use Rattle.std.proofs.lemmas.Bool.{cases_lt}
 use Rattle.std.proofs.lemmas.Bool.Decides.{nat_tests}
 use Rattle.std.proofs.lemmas.List.Elements.{Contains-append_left, Contains-push, Contains-push_cases}
@@ -11,14 +11,14 @@ use Rattle.vox_geom.specs.declared.coordinate.Coord.{Coord}
 use Rattle.vox_geom.specs.Space.{IsInSpace, place, coordinate_at}
 use Rattle.vox_geom.proofs.Firsts.{at_in_space}
 use Rattle.vox_geom.proofs.Places.{coordinate_at-place, place-coordinate_at}
-use Rattle.nano_spec.specs.Matrix.{Matrix, matrix_where}
-use Rattle.nano_spec.specs.Model.{volume}
+use Rattle.nano_spec.specs.Matrix.{Matrix, is_full, matrix_where}
+use Rattle.nano_spec.specs.Model.{bit, volume}
 use Rattle.vox_planes.specs.Places.{voxel_at}
 use Rattle.vox_planes.specs.Voxel.{IsWhole}
 use Rattle.vox_planes.proofs.Voxels.{get_or-where, length-where}
 use Rattle.support_forest.specs.Directions.{Toward, lies_left, lies_right, lies_under, lies_over, lies_near, lies_far}
 use Rattle.support_forest.specs.Grid.{Grid, brick, brick_number, slot_at, slot_of, word_at}
-use Rattle.support_forest.specs.Heap.{AreBits, AreBrickSlots, CanStack, HaveStacked, AreHeapWords, IsHeaped, IsSeen, IsSomeHeap, RowStands}
+use Rattle.support_forest.specs.Heap.{AreBits, AreBrickSlots, AreStackedBits, CanStack, HaveStacked, AreHeapWords, IsHeaped, IsSeen, IsSomeHeap, RowStands}
 use Rattle.support_forest.specs.Standing.{matrix_of}
 use Rattle.support_forest.specs.Stretches.{AreWritten, further}
 use Rattle.support_forest.specs.Waiting.{CanAdd, HaveAdded}
@@ -29,7 +29,7 @@ use Rattle.support_forest.proofs.Nearby.{same_slot}
 use Rattle.support_forest.proofs.Placing.{Fits, placed_with}
 use Rattle.vox_geom.specs.Point.{below as under}
 use Rattle.vox_geom.proofs.Truths.{false_and_true}
-use Rattle.vox_geom.proofs.Points.{same_or_not}
+use Rattle.vox_geom.proofs.Points.{in_space_is, same_or_not}
 
 -- ---- one voxel more in a heap
 
@@ -357,6 +357,87 @@ module _ (m : Matrix) (old : Grid) (first : Coord) (k : ℕ) (rest : List Coord)
     listed_along more e f =
         heaped_at m new (place m.resolution first + k + 1) (place m.resolution first + (k + 1)) more (omega arith)
         (heaped_listed m old (place m.resolution first + k) rest (along first k) h within_row (omega arith) full new more e f)
+
+-- ---- bits of a row
+
+full_at : (m : Matrix) (c : Coord) → IsInSpace m.resolution c → is_full m c ≡ voxel_at m (place m.resolution c)
+full_at m c w = λ i. in_space_is m.resolution c w i && voxel_at m (place m.resolution c)
+
+pub full_along : (m : Matrix) (c : Coord) (k : ℕ) → IsInSpace m.resolution c → c.z + k < m.resolution
+    → is_full m (along c k) ≡ voxel_at m (place m.resolution c + k)
+full_along m c k w l =
+    let along_is : place m.resolution (along c k) ≡ place m.resolution c + k = omega arith in
+    full_at m (along c k) (record { x = w.x; y = w.y; z = l }) ∙ ap (voxel_at m) along_is
+
+-- a row over all full voxels is void
+pub row_above : (m : Matrix) (x y j : ℕ) → x < m.resolution → y < m.resolution
+    → ((c : Coord) → y ≤ c.y → is_full m c ≡ false) → (x * m.resolution + y) * m.resolution ≤ j
+    → j < (x * m.resolution + y + 1) * m.resolution → IsFalse (voxel_at m j)
+row_above m x y j a b void l n =
+    let first : Coord = record { x = x; y = y; z = 0 } in
+    let behind : ℕ = j - (x * m.resolution + y) * m.resolution in
+    let here : place m.resolution first + behind ≡ j = omega arith in
+    let within : 0 + behind < m.resolution = omega arith in
+    sym (ap (voxel_at m) here) ∙ (sym (full_along m first behind (record { x = a; y = b; z = omega arith }) within) ∙ void (along first behind) (omega arith))
+
+pub heaped_zero : (m : Matrix) (g : Grid) (p count bits : ℕ) (rest : List Coord) → AreBits m p count bits → bits ≡ 0
+    → IsHeaped m g p rest → IsHeaped m g (p + count) rest
+heaped_zero m g p count bits rest b z h = heaped_void m g p (p + count) rest (omega arith)
+    (λ j l k.
+    let on : p + (j - p) ≡ j = omega arith in
+    sym (ap (voxel_at m) on) ∙ void_bit m p count bits (j - p) b (omega arith) (ap (λ n. n / 2 ^ (j - p) % 2) z ∙ ap (λ n. n % 2) (zero-div (2 ^ (j - p))))) h
+
+-- the bits of eight voxels of which all are 1
+pub whole_bit : (bits k j : ℕ) → bits / 2 ^ k % 256 ≡ 255 → j < 8 → bit bits (k + j) ≡ true
+whole_bit bits k j f l =
+    ap (λ v. v % 2 == 1) (ap (λ v. bits / v) (pow-add 2 k j) ∙ sym (div-div-eq-div-mul bits (2 ^ k) (2 ^ j)))
+    ∙ odd_bit (bits / 2 ^ k / 2 ^ j) (one_bit (bits / 2 ^ k) j f l)
+
+under_place : (r : ℕ) (c : Coord) → 0 < c.y → place r (under c) + r ≡ place r c
+under_place r c l =
+    let n : ℕ = c.y - 1 in
+    let y_is : c.y ≡ n + 1 = omega arith in
+    let place_is : place r c ≡ c.x * r * r + (n + 1) * r + c.z = ap (λ y. c.x * r * r + y * r + c.z) y_is in
+    omega arith
+
+-- where nothing is listed, what the bits of a row say of the row under it the words say too
+pub stands_by_bits : (m : Matrix) (g : Grid) (c : Coord) (k count bits : ℕ) → IsInSpace m.resolution c
+    → c.z + count ≤ m.resolution → k + 8 ≤ count → AreStackedBits m c count bits → bits / 2 ^ k % 256 ≡ 255
+    → IsHeaped m g (place m.resolution c + k) [] → RowStands (word_at g) (along c k) 8
+stands_by_bits m g c k count bits within row whole stacked f h = elim (cases_lt 0 c.y) [
+  | inr y ↦ inl (omega arith)
+  | inl y ↦ inr (λ j l. elim (stacked (k + j) (omega arith) (whole_bit bits k j f l)).1 [
+    | inl z ↦ absurd (omega arith)
+    | inr full ↦ full_word j l (h.done (under (further (along c k) j)) (seen y j l full))
+  ])
+]
+  where
+    seen : 0 < c.y → (j : ℕ) → j < 8 → IsTrue (voxel_at m (place m.resolution (under c) + (k + j)))
+        → IsSeen m (place m.resolution c + k) (under (further (along c k) j))
+    seen y j l full =
+        let lower = under_place m.resolution c y in
+        let there : place m.resolution (under c) + (k + j) ≡ place m.resolution (under (further (along c k) j)) = omega arith in
+        record {
+          within = record { x = within.x; y = let along_y = within.y in omega arith; z = omega arith };
+          full = subst (λ (p : ℕ). IsTrue (voxel_at m p)) there full;
+          before = omega arith;
+        }
+
+    full_word : (j : ℕ) → j < 8 → (0 < word_at g (under (further (along c k) j))) ⊎ Contains [] (under (further (along c k) j))
+        → 0 < word_at g (under (further (along c k) j))
+    full_word j l (inl w) = w
+    full_word j l (inr n) = absurd (no_member [] (under (further (along c k) j)) refl n)
+
+-- the touches of some voxels after others
+pub touches_more : (may : Bool) (first before after done more : ℕ) → before ≤ first + cond may 8 7 * done
+    → after ≤ before + cond may 8 7 * more → after ≤ first + cond may 8 7 * (done + more)
+touches_more true first before after done more b a = omega arith
+touches_more false first before after done more b a = omega arith
+
+pub touches_piled : (may : Bool) (first before after done now : ℕ) → before ≤ first + cond may 8 7 * done
+    → after + done ≤ before + now → done ≤ now → after ≤ first + cond may 8 7 * now
+touches_piled true first before after done now b a l = omega arith
+touches_piled false first before after done now b a l = omega arith
 
 -- ---- a whole row
 

@@ -1,5 +1,5 @@
 -- Voxels of a whole matrix that have the level of their y: they stand on the floor or on one another.
-use Rattle.std.specs.Prelude.{◌≡◌, ◌≢◌, ℕ, ◌+◌, ◌%◌, ◌<◌, ◌≤◌, ◌⊎◌, Option, Some, List, length, IsTrue}
+use Rattle.std.specs.Prelude.{◌≡◌, ◌≢◌, ℕ, ◌+◌, ◌%◌, ◌<◌, ◌≤◌, ◌⊎◌, Option, Some, List, length, true, IsTrue}
 use Rattle.std.specs.List.{AllPairs, Contains}
 use Rattle.vox_geom.specs.declared.coordinate.Coord.{Coord}
 use Rattle.vox_geom.specs.Space.{IsInSpace, place}
@@ -69,6 +69,11 @@ pub record IsSomeHeap (m : Matrix) (g : Grid) (p : ℕ) : Type 0 where
 -- the lowest bits of a number are the voxels from a place on
 abbrev pub AreBits : Matrix → ℕ → ℕ → ℕ → Type 0
 AreBits m from count bits = (k : ℕ) → k < count → bit bits k ≡ voxel_at m (from + k)
+
+-- where a bit of a number is 1 the voxel of the row is full, and on the floor or over a full one
+abbrev pub AreStackedBits : Matrix → Coord → ℕ → ℕ → Type 0
+AreStackedBits m c count bits = (k : ℕ) → k < count → bit bits k ≡ true → IsTrue (voxel_at m (place m.resolution c + k))
+    × ((c.y ≡ 0) ⊎ IsTrue (voxel_at m (place m.resolution (under c) + k)))
 
 -- the full ones of these voxels of a row of a brick may be stacked: those before them are in the heap or listed
 pub record CanStackPart (m : Matrix) (g : Grid) (c : Coord) (n word : ℕ) (rest : List Coord) : Type 0 where

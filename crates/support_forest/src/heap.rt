@@ -1,10 +1,10 @@
 //! The full voxels of a whole matrix that have the level of their y: they stand on the floor or on one another.
-ghost use Rattle.std.specs.Prelude.{◌≡◌, ◌+◌, ◌*◌, ◌%◌, ◌^◌, ◌<◌, ◌≤◌, ℕ, IfOk, IsTrue, List, MatchBool, Some, length, slice_index, true};
+ghost use Rattle.std.specs.Prelude.{◌≡◌, ◌+◌, ◌*◌, ◌%◌, ◌^◌, ◌<◌, ◌≤◌, ℕ, [], cond, IfOk, IsTrue, List, MatchBool, Some, length, slice_index, true};
 ghost use Rattle.nano_spec.specs.Model.{volume};
 ghost use Rattle.vox_geom.specs.Space.{IsInSpace, place as place_of};
 ghost use Rattle.vox_geom.specs.declared.coordinate.Coord.{Coord as Coordinate};
 ghost use Rattle.support_forest.specs.Grid.{slot_of, word_at};
-ghost use Rattle.support_forest.specs.Heap.{AreBrickSlots, CanStack, CanStackPart, HaveStacked, IsHeaped, IsPile, IsSomeHeap, RowStands};
+ghost use Rattle.support_forest.specs.Heap.{AreBits, AreBrickSlots, AreStackedBits, CanStack, CanStackPart, HaveStacked, IsHeaped, IsPile, IsSomeHeap, RowStands};
 ghost use Rattle.support_forest.specs.Spots.{voxel_in};
 ghost use Rattle.support_forest.specs.Standing.{matrix_of};
 ghost use Rattle.support_forest.specs.Stretches.{LieInRow};
@@ -20,7 +20,7 @@ use crate::toward::spot_across;
 use brick_arena::{Chunk, start_in_chunk};
 use std::alloc::{AllocError, Global};
 use std::sync::ledger::Ledger;
-use vox_geom::{Coord, Steps, place};
+use vox_geom::{Coord, Steps};
 use vox_planes::Planes;
 
 /// How many voxels are read at a time.
@@ -120,21 +120,26 @@ fn row_stands<L: Ledger>(
     }
 }
 
-/// Whether the voxels, whose bits are the lowest of a word, are a whole row of full ones that stand on the floor or on full ones.
+/// Whether the voxels, whose bits are the lowest of a word, are a whole row of full ones that stand on the floor or on full ones. It is
+/// looked at only where they `may_be` one.
 #[inline(always)]
 fn is_pile<L: Ledger>(
     cells: &Cells,
     first: Coord,
     count: u16,
     bits: u64,
+    may_be: bool,
     below: Option<u32>,
     steps: &mut Steps<L>,
 ) -> bool
     requires row { LieInRow cells.now first count }
     requires below { 0 < first.y → below ≡ slot_of cells.now (under_of first) }
     ensures pile { result ≡ true → IsPile (word_at cells.now) first count bits }
-    ensures touches { steps.new ≤ steps.old + count }
+    ensures touches { steps.new ≤ steps.old + cond may_be 1 0 * count }
 {
+    if !may_be {
+        return false;
+    }
     if bits % 256 == 255 && count == BRICK_SIDE {
         return row_stands(cells, first, BRICK_SIDE, below, steps);
     }
@@ -210,38 +215,190 @@ fn stack_each<L: Ledger>(
     Ok(())
 }
 
-/// Stacks the full ones of some voxels of a row in one brick, whose bits are the lowest of a word, or lists them. Most rows of a
-/// model are whole and stand on whole ones. The first is at that spot.
+/// Stacks the full ones of some voxels of a row in one brick, whose bits are the lowest of a word, or lists them. Whether they are a
+/// whole row that stands is looked at where `may_be_pile`.
 fn stack_part<L: Ledger>(
     cells: &mut Cells,
     planes: &Planes,
     first: Coord,
-    spot: u32,
     count: u16,
     bits: u64,
+    may_be_pile: bool,
     rest: &mut Vec<Coord>,
     steps: &mut Steps<L>,
 ) -> Result<(), AllocError>
-    requires spot { voxel_in cells.old spot ≡ first }
     requires part { CanStackPart planes.now cells.old first count bits rest.old.items }
     ensures heaped { IfOk result
         (λ _. IsHeaped planes.now cells.new (place_of planes.now.resolution first + count) rest.new.items) }
-    ensures touches { IfOk result (λ _. steps.new ≤ steps.old + 8 * count) }
+    ensures touches { IfOk result (λ _. steps.new ≤ steps.old + cond may_be_pile 8 7 * count) }
 {
     planes.recall();
     if bits % 256 == 0 {
         return Ok(());
     }
+    let spot = cells.spot(first);
     let own = cells.take_slot_at(spot)?;
     let below = slot_under(cells, spot, own);
-    if is_pile(cells, first, count, bits, below, steps) {
+    if is_pile(cells, first, count, bits, may_be_pile, below, steps) {
         pile_row(cells, planes, first, spot, own, steps);
         return Ok(());
     }
     stack_each(cells, planes, first, count, bits, own, below, rest, steps)
 }
 
-/// Stacks the full ones of up to 64 voxels of a row, or lists them.
+/// Up to 64 voxels of a row, as the bits of a word.
+#[inline(always)]
+fn row_bits<L: Ledger>(planes: &Planes, first: Coord, count: u16, steps: &mut Steps<L>) -> u64
+    requires few { count ≤ 64 }
+    requires within { IsInSpace planes.now.resolution first }
+    requires row { first.z + count ≤ planes.now.resolution }
+    ensures bits { AreBits planes.now (place_of planes.now.resolution first) count result }
+    ensures touches { steps.new ≤ steps.old + count }
+{
+    planes.peek_row(first, u32::from(count), u64::MAX, steps)
+}
+
+/// Those of up to 64 voxels of a row that are full, and on the floor or over a full one, as the bits of a word.
+#[inline(always)]
+fn stacked_bits<L: Ledger>(
+    planes: &Planes,
+    first: Coord,
+    count: u16,
+    bits: u64,
+    steps: &mut Steps<L>,
+) -> u64
+    requires few { count ≤ 64 }
+    requires within { IsInSpace planes.now.resolution first }
+    requires row { first.z + count ≤ planes.now.resolution }
+    requires bits { AreBits planes.now (place_of planes.now.resolution first) count bits }
+    ensures stacked { AreStackedBits planes.now first count result }
+    ensures touches { steps.new ≤ steps.old + count }
+{
+    if first.y == 0 {
+        return bits;
+    }
+    let under = Coord {
+        y: first.y - 1,
+        ..first
+    };
+    planes.peek_row(under, u32::from(count), bits, steps)
+}
+
+/// Stacks the whole rows of bricks, from a voxel of a row on, whose voxels are seen to be stacked, up to the first that is not. Nothing
+/// was listed before. Tells how many voxels of the row are done then.
+#[inline(never)]
+fn pile_ahead<L: Ledger>(
+    cells: &mut Cells,
+    planes: &Planes,
+    first: Coord,
+    from: u16,
+    count: u16,
+    stacked: u64,
+    steps: &mut Steps<L>,
+) -> Result<u16, AllocError>
+    requires few { count ≤ 64 }
+    requires order { from ≤ count }
+    requires whole { from < count → (first.z + from) % 8 ≡ 0 }
+    requires within { IsInSpace planes.now.resolution first }
+    requires row { first.z + count ≤ planes.now.resolution }
+    requires stacked { AreStackedBits planes.now first count stacked }
+    requires heaped { IsHeaped planes.now cells.old (place_of planes.now.resolution first + from) [] }
+    ensures heaped { IfOk result (λ k. IsHeaped planes.now cells.new (place_of planes.now.resolution first + k) []) }
+    ensures order { IfOk result (λ k. (from ≤ k) × (k ≤ count)) }
+    ensures whole { IfOk result (λ k. k < count → (first.z + k) % 8 ≡ 0) }
+    ensures touches { IfOk result (λ k. steps.new + from ≤ steps.old + k) }
+{
+    cells.recall();
+    let line = cells.spot(Coord { z: 0, ..first });
+    let mut k = from;
+    while count - k >= BRICK_SIDE && (stacked >> k) % 256 == 255 {
+        let at = Coord {
+            z: first.z + k,
+            ..first
+        };
+        let spot = spot_along(line, at.z);
+        let own = cells.take_slot_at(spot)?;
+        pile_row(cells, planes, at, spot, own, steps);
+        k += BRICK_SIDE;
+    }
+    Ok(k)
+}
+
+/// [`pile_ahead`] where nothing is listed yet, and nothing elsewhere.
+#[inline(always)]
+fn pile_next<L: Ledger>(
+    cells: &mut Cells,
+    planes: &Planes,
+    first: Coord,
+    from: u16,
+    count: u16,
+    stacked: u64,
+    rest: &Vec<Coord>,
+    steps: &mut Steps<L>,
+) -> Result<u16, AllocError>
+    requires few { count ≤ 64 }
+    requires order { from ≤ count }
+    requires whole { from < count → (first.z + from) % 8 ≡ 0 }
+    requires within { IsInSpace planes.now.resolution first }
+    requires row { first.z + count ≤ planes.now.resolution }
+    requires stacked { AreStackedBits planes.now first count stacked }
+    requires heaped { IsHeaped planes.now cells.old (place_of planes.now.resolution first + from) rest.now.items }
+    ensures heaped { IfOk result
+        (λ k. IsHeaped planes.now cells.new (place_of planes.now.resolution first + k) rest.now.items) }
+    ensures order { IfOk result (λ k. (from ≤ k) × (k ≤ count)) }
+    ensures whole { IfOk result (λ k. k < count → (first.z + k) % 8 ≡ 0) }
+    ensures touches { IfOk result (λ k. steps.new + from ≤ steps.old + k) }
+{
+    if !rest.is_empty() {
+        return Ok(from);
+    }
+    pile_ahead(cells, planes, first, from, count, stacked, steps)
+}
+
+/// Stacks the full ones of up to 64 voxels of a row, whose bits are the lowest of a word, or lists them. `stacked` has those that are seen
+/// to be stacked, where `may_be_pile` does not hold.
+fn stack_bits<L: Ledger>(
+    cells: &mut Cells,
+    planes: &Planes,
+    first: Coord,
+    count: u16,
+    bits: u64,
+    stacked: u64,
+    may_be_pile: bool,
+    rest: &mut Vec<Coord>,
+    steps: &mut Steps<L>,
+) -> Result<(), AllocError>
+    requires few { count ≤ 64 }
+    requires whole { first.z % 8 ≡ 0 }
+    requires within { IsInSpace planes.now.resolution first }
+    requires row { first.z + count ≤ planes.now.resolution }
+    requires bits { AreBits planes.now (place_of planes.now.resolution first) count bits }
+    requires stacked { AreStackedBits planes.now first count stacked }
+    requires heaped { IsHeaped planes.now cells.old (place_of planes.now.resolution first) rest.old.items }
+    ensures heaped { IfOk result
+        (λ _. IsHeaped planes.now cells.new (place_of planes.now.resolution first + count) rest.new.items) }
+    ensures touches { IfOk result (λ _. steps.new ≤ steps.old + cond may_be_pile 8 7 * count) }
+{
+    cells.recall();
+    let mut k = 0;
+    while k < count {
+        k = pile_next(cells, planes, first, k, count, stacked, rest, steps)?;
+        if k == count {
+            return Ok(());
+        }
+        let part = (count - k).min(BRICK_SIDE);
+        let at = Coord {
+            z: first.z + k,
+            ..first
+        };
+        stack_part(cells, planes, at, part, bits >> k, may_be_pile, rest, steps)?;
+        k += part;
+    }
+    Ok(())
+}
+
+/// Stacks the full ones of up to 64 voxels of a row, or lists them. While none is listed the bits of the row under them tell which of them
+/// are stacked; later the words do.
 fn stack_some<L: Ledger>(
     cells: &mut Cells,
     planes: &Planes,
@@ -251,6 +408,7 @@ fn stack_some<L: Ledger>(
     steps: &mut Steps<L>,
 ) -> Result<(), AllocError>
     requires few { count ≤ 64 }
+    requires whole { first.z % 8 ≡ 0 }
     requires within { IsInSpace planes.now.resolution first }
     requires row { first.z + count ≤ planes.now.resolution }
     requires heaped { IsHeaped planes.now cells.old (place_of planes.now.resolution first) rest.old.items }
@@ -258,27 +416,17 @@ fn stack_some<L: Ledger>(
         (λ _. IsHeaped planes.now cells.new (place_of planes.now.resolution first + count) rest.new.items) }
     ensures touches { IfOk result (λ _. steps.new ≤ steps.old + 9 * count) }
 {
-    cells.recall();
-    let line = cells.spot(Coord { z: 0, ..first });
-    let from = place(first, planes.resolution());
-    let bits = planes.places(from, u32::from(count), steps);
-    let mut k = 0;
-    while k < count {
-        let z = first.z + k;
-        let part = (BRICK_SIDE - z % BRICK_SIDE).min(count - k);
-        stack_part(
-            cells,
-            planes,
-            Coord { z, ..first },
-            spot_along(line, z),
-            part,
-            bits >> k,
-            rest,
-            steps,
-        )?;
-        k += part;
+    let bits = row_bits(planes, first, count, steps);
+    if bits == 0 {
+        return Ok(());
     }
-    Ok(())
+    if !rest.is_empty() {
+        return stack_bits(cells, planes, first, count, bits, 0, true, rest, steps);
+    }
+    let stacked = stacked_bits(planes, first, count, bits, steps);
+    stack_bits(
+        cells, planes, first, count, bits, stacked, false, rest, steps,
+    )
 }
 
 /// Stacks the full voxels of a row, or lists them.
@@ -299,6 +447,9 @@ fn stack_row<L: Ledger>(
         rest.new.items) }
     ensures touches { IfOk result (λ _. steps.new ≤ steps.old + 9 * planes.now.resolution) }
 {
+    if planes.is_void_from(y, steps) {
+        return Ok(());
+    }
     let r = planes.resolution();
     let mut z = 0;
     while z < r {

@@ -5,10 +5,10 @@ ghost use Rattle.std.specs.Prelude.{◌≡◌, ℕ, ◌+◌, ◌-◌, ◌*◌, �
 ghost use Rattle.vox_geom.specs.Space.{IsInSpace};
 ghost use Rattle.vox_geom.specs.declared.coordinate.Coord.{Coord};
 ghost use Rattle.support_forest.specs.Access.{LieInBrick};
-ghost use Rattle.support_forest.specs.Grid.{Grid, StandsIn, word_at};
+ghost use Rattle.support_forest.specs.Grid.{Grid, StandsIn, slot_of, word_at};
 ghost use Rattle.support_forest.specs.Spots.{IsReadAt, voxel_in, voxel_of};
 ghost use Rattle.support_forest.specs.Stretches.{AreCleared, CanClear, EndsAreFree, IsBrickRow, IsStretch, LieInRow, RowHangsNot, RowIsFree, SideHangsNot, SidesAreFree, TakesMore, WordsHangNot, whole_row_start};
-ghost use Rattle.support_forest.specs.Words.{AreExact};
+ghost use Rattle.support_forest.specs.Words.{AreExact, IsWritten};
 
 use crate::beside::place_in_chunk;
 use crate::cells::{BRICK_SIDE, Cells};
@@ -279,6 +279,24 @@ fn free_slot<L: Ledger>(cells: &Cells, spot: u32, count: u16, steps: &mut Steps<
     Some(own)
 }
 
+/// Makes the voxel at a spot void, whose brick has this slot. Where no voxel leans its word is not read.
+#[inline(always)]
+fn clear_voxel<L: Ledger>(cells: &mut Cells, own: u32, spot: u32, steps: &mut Steps<L>)
+    requires within { IsInSpace cells.old.resolution (voxel_in cells.old spot) }
+    requires slot { slot_of cells.old (voxel_in cells.old spot) ≡ Some own }
+    ensures resolution { cells.new.resolution ≡ cells.old.resolution }
+    ensures slots { cells.new.table ≡ cells.old.table }
+    ensures written { IsWritten (word_at cells.old) (word_at cells.new) (voxel_in cells.old spot) 0 }
+    ensures touches { steps.new ≤ steps.old + 2 }
+{
+    if cells.is_straight() {
+        cells.write_straight(own, spot, 0, steps);
+        return;
+    }
+    let word = cells.word_at(Some(own), spot, steps);
+    cells.write_at(own, spot, word, 0, steps);
+}
+
 /// Makes the voxels of the row from a spot on void, from the last to the first.
 #[inline(always)]
 fn clear_voxels<L: Ledger>(cells: &mut Cells, own: u32, spot: u32, count: u16, steps: &mut Steps<L>)
@@ -289,9 +307,7 @@ fn clear_voxels<L: Ledger>(cells: &mut Cells, own: u32, spot: u32, count: u16, s
     let mut left = count;
     while left > 0 {
         left -= 1;
-        let at = spot + u32::from(left);
-        let word = cells.word_at(Some(own), at, steps);
-        cells.write_at(own, at, word, 0, steps);
+        clear_voxel(cells, own, spot + u32::from(left), steps);
     }
 }
 

@@ -17,20 +17,23 @@ pub returns-then-bits-eq0-clause-heaped : goal.returns-then-bits-eq0-clause-heap
 returns-then-bits-eq0-clause-heaped g c = heaped_blank _ _ _ _ _ _ c.requires.part.bits (let few = c.requires.part.brick in omega arith) c.if-bits-eq0.true
     c.requires.part.heaped
 
+pub spot-spot-requires : goal.spot-spot-requires
+spot-spot-requires g c = subst (λ (n : ℕ). IsInSpace n c.args.first) (sym c.requires.part.heaped.resolution) c.requires.part.within
+
 pub take_slot_at-requires : goal.take_slot_at-requires
 take_slot_at-requires g c =
-    subst (λ (p : Coord). IsInSpace c.args.cells.now.resolution p) (sym c.requires.spot)
+    subst (λ (p : Coord). IsInSpace c.args.cells.now.resolution p) (sym c.spot-spot.ensures.voxel)
     (subst (λ (n : ℕ). IsInSpace n c.args.first) (sym c.requires.part.heaped.resolution) c.requires.part.within)
 
 pub slot_under-below-requires-clause-within : goal.slot_under-below-requires-clause-within
 slot_under-below-requires-clause-within g c =
     let same_resolution : c.take_slot_at.new.self.resolution ≡ c.args.planes.now.resolution = c.take_slot_at.ensures.resolution ∙ c.requires.part.heaped.resolution in
-    subst (λ (p : Coord). IsInSpace c.take_slot_at.new.self.resolution p) (sym (still c.args.cells.now c.take_slot_at.new.self c.args.spot c.args.first c.take_slot_at.ensures.resolution c.requires.spot))
+    subst (λ (p : Coord). IsInSpace c.take_slot_at.new.self.resolution p) (sym (still c.args.cells.now c.take_slot_at.new.self c.spot-spot.result c.args.first c.take_slot_at.ensures.resolution c.spot-spot.ensures.voxel))
     (subst (λ (n : ℕ). IsInSpace n c.args.first) (sym same_resolution) c.requires.part.within)
 
 pub slot_under-below-requires-clause-own : goal.slot_under-below-requires-clause-own
 slot_under-below-requires-clause-own g c =
-    subst (λ (p : Coord). slot_of c.take_slot_at.new.self p ≡ Some c.in_ok-own.own) (c.requires.spot ∙ sym (still c.args.cells.now c.take_slot_at.new.self c.args.spot c.args.first c.take_slot_at.ensures.resolution c.requires.spot)) c.in_ok-own.ensures.slot
+    subst (λ (p : Coord). slot_of c.take_slot_at.new.self p ≡ Some c.in_ok-own.own) (c.spot-spot.ensures.voxel ∙ sym (still c.args.cells.now c.take_slot_at.new.self c.spot-spot.result c.args.first c.take_slot_at.ensures.resolution c.spot-spot.ensures.voxel)) c.in_ok-own.ensures.slot
 
 pub is_pile-requires-clause-row : goal.is_pile-requires-clause-row
 is_pile-requires-clause-row g c =
@@ -39,13 +42,13 @@ is_pile-requires-clause-row g c =
 
 pub is_pile-requires-clause-below : goal.is_pile-requires-clause-below
 is_pile-requires-clause-below g c =
-    subst (λ (p : Coord). 0 < p.y → c.slot_under-below.result ≡ slot_of c.take_slot_at.new.self (under p)) (still c.args.cells.now c.take_slot_at.new.self c.args.spot c.args.first c.take_slot_at.ensures.resolution c.requires.spot) c.slot_under-below.ensures
+    subst (λ (p : Coord). 0 < p.y → c.slot_under-below.result ≡ slot_of c.take_slot_at.new.self (under p)) (still c.args.cells.now c.take_slot_at.new.self c.spot-spot.result c.args.first c.take_slot_at.ensures.resolution c.spot-spot.ensures.voxel) c.slot_under-below.ensures
 
 pub pile_row-requires-clause-spot : goal.pile_row-requires-clause-spot
-pile_row-requires-clause-spot g c = still c.args.cells.now c.take_slot_at.new.self c.args.spot c.args.first c.take_slot_at.ensures.resolution c.requires.spot
+pile_row-requires-clause-spot g c = still c.args.cells.now c.take_slot_at.new.self c.spot-spot.result c.args.first c.take_slot_at.ensures.resolution c.spot-spot.ensures.voxel
 
 pub pile_row-requires-clause-own : goal.pile_row-requires-clause-own
-pile_row-requires-clause-own g c = subst (λ (p : Coord). slot_of c.take_slot_at.new.self p ≡ Some c.in_ok-own.own) c.requires.spot c.in_ok-own.ensures.slot
+pile_row-requires-clause-own g c = subst (λ (p : Coord). slot_of c.take_slot_at.new.self p ≡ Some c.in_ok-own.own) c.spot-spot.ensures.voxel c.in_ok-own.ensures.slot
 
 pub pile_row-requires-clause-full : goal.pile_row-requires-clause-full
 pile_row-requires-clause-full g c =
@@ -71,8 +74,8 @@ returns-then-is_pile-clause-heaped g c =
 
 pub stack_each-requires-clause-slots : goal.stack_each-requires-clause-slots
 stack_each-requires-clause-slots g c = record {
-  here = subst (λ (p : Coord). slot_of c.take_slot_at.new.self p ≡ Some c.in_ok-own.own) c.requires.spot c.in_ok-own.ensures.slot;
-  there = subst (λ (p : Coord). 0 < p.y → c.slot_under-below.result ≡ slot_of c.take_slot_at.new.self (under p)) (still c.args.cells.now c.take_slot_at.new.self c.args.spot c.args.first c.take_slot_at.ensures.resolution c.requires.spot) c.slot_under-below.ensures;
+  here = subst (λ (p : Coord). slot_of c.take_slot_at.new.self p ≡ Some c.in_ok-own.own) c.spot-spot.ensures.voxel c.in_ok-own.ensures.slot;
+  there = subst (λ (p : Coord). 0 < p.y → c.slot_under-below.result ≡ slot_of c.take_slot_at.new.self (under p)) (still c.args.cells.now c.take_slot_at.new.self c.spot-spot.result c.args.first c.take_slot_at.ensures.resolution c.spot-spot.ensures.voxel) c.slot_under-below.ensures;
 }
 
 pub stack_each-requires-clause-part : goal.stack_each-requires-clause-part

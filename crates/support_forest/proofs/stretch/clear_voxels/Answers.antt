@@ -18,15 +18,15 @@ later old now spot n k behind same row l e =
     let part = part_there (side old.resolution) spot n row.row in
     ap (λ (r : ℕ). voxel_of (side r) (spot + behind)) same ∙ (voxel_further (side old.resolution) spot behind (omega arith) ∙ ap (further (voxel_in old spot)) e)
 
-pub overflow_add-at : goal.overflow_add-at
-overflow_add-at g c =
+pub overflow_add-spot : goal.overflow_add-spot
+overflow_add-spot g c =
     let within = c.loop-left.invariant.within in
     let small = spot_small c.args.cells.now.resolution c.args.spot c.recall.ensures.few c.requires.row.row.within in
     let part = part_there (side c.args.cells.now.resolution) c.args.spot c.args.count c.requires.row.row.row in
     omega (arith, c.from.ensures)
 
-pub word_at-word-requires-clause-within : goal.word_at-word-requires-clause-within
-word_at-word-requires-clause-within g c =
+pub clear_voxel-requires-clause-within : goal.clear_voxel-requires-clause-within
+clear_voxel-requires-clause-within g c =
     let invariant = c.loop-left.invariant in
     let within = invariant.within in
     let goes_on = c.loop-left-test.true in
@@ -35,28 +35,8 @@ word_at-word-requires-clause-within g c =
     (subst (λ (r : ℕ). IsInSpace r (further (voxel_in c.args.cells.now c.args.spot) (c.loop-left.left - 1))) (sym invariant.resolution)
     (row_space c.args.cells.now (voxel_in c.args.cells.now c.args.spot) c.args.count (c.loop-left.left - 1) c.requires.row.row (omega arith)))
 
-pub word_at-word-requires-clause-slot : goal.word_at-word-requires-clause-slot
-word_at-word-requires-clause-slot g c =
-    let invariant = c.loop-left.invariant in
-    let within = invariant.within in
-    let goes_on = c.loop-left-test.true in
-    let here = later c.args.cells.now c.loop-left.cells c.args.spot c.args.count (c.loop-left.left - 1) c.from.result invariant.resolution c.requires.row.row (omega arith) c.from.ensures in
-    subst (λ (p : Coord). Some c.args.own ≡ slot_of c.loop-left.cells p) (sym here)
-    (slot_stays c.args.cells.now c.loop-left.cells (further (voxel_in c.args.cells.now c.args.spot) (c.loop-left.left - 1)) (Some c.args.own) invariant.table invariant.resolution
-    (row_slot c.args.cells.now (voxel_in c.args.cells.now c.args.spot) c.args.count (c.loop-left.left - 1) (Some c.args.own) c.requires.row.row (omega arith) (sym c.requires.row.own)))
-
-pub write_at-requires-clause-within : goal.write_at-requires-clause-within
-write_at-requires-clause-within g c =
-    let invariant = c.loop-left.invariant in
-    let within = invariant.within in
-    let goes_on = c.loop-left-test.true in
-    let here = later c.args.cells.now c.loop-left.cells c.args.spot c.args.count (c.loop-left.left - 1) c.from.result invariant.resolution c.requires.row.row (omega arith) c.from.ensures in
-    subst (λ (p : Coord). IsInSpace c.loop-left.cells.resolution p) (sym here)
-    (subst (λ (r : ℕ). IsInSpace r (further (voxel_in c.args.cells.now c.args.spot) (c.loop-left.left - 1))) (sym invariant.resolution)
-    (row_space c.args.cells.now (voxel_in c.args.cells.now c.args.spot) c.args.count (c.loop-left.left - 1) c.requires.row.row (omega arith)))
-
-pub write_at-requires-clause-slot : goal.write_at-requires-clause-slot
-write_at-requires-clause-slot g c =
+pub clear_voxel-requires-clause-slot : goal.clear_voxel-requires-clause-slot
+clear_voxel-requires-clause-slot g c =
     let invariant = c.loop-left.invariant in
     let within = invariant.within in
     let goes_on = c.loop-left-test.true in
@@ -70,13 +50,12 @@ loop-left-preserved g c =
     let invariant = c.loop-left.invariant in
     let within = invariant.within in
     let goes_on = c.loop-left-test.true in
-    let word_touch = c.word_at-word.ensures.touch in
-    let write_touch = c.write_at.ensures.touch in
+    let touches = c.clear_voxel.ensures.touches in
     let first = voxel_in c.args.cells.now c.args.spot in
     let here = later c.args.cells.now c.loop-left.cells c.args.spot c.args.count (c.loop-left.left - 1) c.from.result invariant.resolution c.requires.row.row (omega arith) c.from.ensures in
-    cleared_more c.args.cells.now c.loop-left.cells c.write_at.new.self first (c.loop-left.left - 1) c.args.count c.args.steps.now c.loop-left.steps c.write_at.new.steps c.requires.free
+    cleared_more c.args.cells.now c.loop-left.cells c.clear_voxel.new.cells first (c.loop-left.left - 1) c.args.count c.args.steps.now c.loop-left.steps c.clear_voxel.new.steps c.requires.free
     (before_left c.args.cells.now c.loop-left.cells first c.loop-left.left c.args.count c.args.steps.now c.loop-left.steps (omega arith) invariant) (omega arith)
-    (subst (λ (p : Coord). IsWritten (word_at c.loop-left.cells) (word_at c.write_at.new.self) p 0) here c.write_at.ensures.written) c.write_at.ensures.resolution c.write_at.ensures.slots (omega arith)
+    (subst (λ (p : Coord). IsWritten (word_at c.loop-left.cells) (word_at c.clear_voxel.new.cells) p 0) here c.clear_voxel.ensures.written) c.clear_voxel.ensures.resolution c.clear_voxel.ensures.slots (omega arith)
 
 pub returns : goal.returns
 returns g c =

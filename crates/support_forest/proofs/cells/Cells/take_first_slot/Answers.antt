@@ -1,12 +1,11 @@
 use Rattle.std.proofs.Common.{◌≡◌, ◌<◌, ◌≤◌, sym, ap, subst, ◌∙◌, arith, None, length, refl}
-use Rattle.std.proofs.lemmas.List.{get_or_default}
 use Rattle.std.specs.FinMap.{len}
 use Rattle.std.specs.Prelude.{◌==◌}
 use Rattle.support_forest.specs.Words.{leans}
 use Rattle.support_forest.specs.Grid.{Grid, slot_at, word_at}
 use Rattle.support_forest.proofs.Store.{few_live}
 use Rattle.support_forest.proofs.Writes.{grows, count_same}
-use Rattle.support_forest.proofs.cells.Cells.slot_for.Goals as goal
+use Rattle.support_forest.proofs.cells.Cells.take_first_slot.Goals as goal
 
 pub take-requires : goal.take-requires
 take-requires c =
@@ -19,8 +18,8 @@ pub invariant_of-self-2 : goal.invariant_of-self-2
 invariant_of-self-2 c =
     let inside = c.self.inside in
     let old : Grid = record { resolution = inside.resolution; table = inside.table.items; bricks = inside.bricks } in
-    let below_length : c.args.number < length inside.table.items = subst (λ (q : Grid). c.args.number < length q.table) (sym c.self.view_is) c.requires in
-    let slot_at_none : slot_at inside.table.items c.args.number ≡ None = get_or_default inside.table.items c.args.number None c.index.result.now below_length ∙ (sym c.index.ensures ∙ c.in_default.is) in
+    let below_length : c.args.number < length inside.table.items = subst (λ (q : Grid). c.args.number < length q.table) (sym c.self.view_is) c.requires.below in
+    let slot_at_none : slot_at inside.table.items c.args.number ≡ None = ap (λ (q : Grid). slot_at q.table c.args.number) c.self.view_is ∙ c.requires.none in
     let grows_here = grows old c.args.number c.in-Ok.slot c.take.new.self c.self.invariant.1.0 below_length slot_at_none c.in-Ok.ensures.fresh c.in-Ok.ensures.zeros in
     (c.self.invariant.0, (grows_here.0, (c.self.invariant.1.1.0 ∙ sym (count_same (λ n. n == 1) old _ refl grows_here.1), c.self.invariant.1.1.1 ∙ sym (count_same leans old _ refl grows_here.1))))
 
@@ -28,6 +27,6 @@ pub returns-clause-same : goal.returns-clause-same
 returns-clause-same c =
     let inside = c.self.inside in
     let old : Grid = record { resolution = inside.resolution; table = inside.table.items; bricks = inside.bricks } in
-    let below_length : c.args.number < length inside.table.items = subst (λ (q : Grid). c.args.number < length q.table) (sym c.self.view_is) c.requires in
-    let slot_at_none : slot_at inside.table.items c.args.number ≡ None = get_or_default inside.table.items c.args.number None c.index.result.now below_length ∙ (sym c.index.ensures ∙ c.in_default.is) in
+    let below_length : c.args.number < length inside.table.items = subst (λ (q : Grid). c.args.number < length q.table) (sym c.self.view_is) c.requires.below in
+    let slot_at_none : slot_at inside.table.items c.args.number ≡ None = ap (λ (q : Grid). slot_at q.table c.args.number) c.self.view_is ∙ c.requires.none in
     λ d. (grows old c.args.number c.in-Ok.slot c.take.new.self c.self.invariant.1.0 below_length slot_at_none c.in-Ok.ensures.fresh c.in-Ok.ensures.zeros).1 d ∙ ap (λ (q : Grid). word_at q d) c.self.view_is

@@ -1,13 +1,14 @@
-use Rattle.std.proofs.Common.{◌+◌, ◌-◌, ◌*◌, ◌≤◌}
+use Rattle.std.proofs.Common.{◌≡◌, ◌+◌, ◌-◌, ◌*◌, ◌%◌, ◌<◌, ◌≤◌, cond}
 use Rattle.vox_geom.specs.Space.{place}
 use Rattle.support_forest.specs.Heap.{IsHeaped}
-use Rattle.support_forest.proofs.heap.stack_some.Given as goal
+use Rattle.support_forest.proofs.heap.stack_bits.Given as goal
 
 abbrev pub invariant-loop-k : goal.invariant-loop-k
 invariant-loop-k g l = record {
-  few : l.k ≤ l.count;
+  within : l.k ≤ l.count;
+  whole : l.k < l.count → (l.first.z + l.k) % 8 ≡ 0;
   heaped : IsHeaped l.planes l.cells (place l.planes.resolution l.first + l.k) l.rest.items;
-  touches : l.steps ≤ l.initial.steps + 8 * l.k;
+  touches : l.steps ≤ l.initial.steps + cond l.may_be_pile 8 7 * l.k;
 }
 
 abbrev pub decreases-loop-k : goal.decreases-loop-k
