@@ -91,15 +91,6 @@ pub record AreBesideWords (w : Coord → ℕ) (c : Coord) (b : Beside) : Type 0 
   pub near : IsWordToward w c 5 b.near
   pub far : IsWordToward w c 6 b.far
 
--- none of the words has a height
-pub record AreLow (b : Beside) : Type 0 where
-  pub left : b.left < 8
-  pub right : b.right < 8
-  pub under : b.under < 8
-  pub over : b.over < 8
-  pub near : b.near < 8
-  pub far : b.far < 8
-
 -- the word is that of a void voxel, or of one with a height from the one given up to two above it
 abbrev pub LeavesRoom : ℕ → ℕ → Type 0
 LeavesRoom word height = (word ≡ 0) ⊎ ((8 * height ≤ word) × (word < 8 * height + 24))

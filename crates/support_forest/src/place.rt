@@ -3,12 +3,14 @@ ghost use Rattle.std.specs.Prelude.{◌≡◌, ◌==◌, ℕ, ◌+◌, ◌<◌, 
 ghost use Rattle.vox_geom.specs.declared.coordinate.Coord.{Coord};
 ghost use Rattle.support_forest.specs.Grid.{word_at};
 ghost use Rattle.support_forest.specs.Placing.{AreBesideWords, CanPlace, CanPlaceIn, IsAround, IsWordToward, LeavesRoom, MayLieUnder, MayStand, PlacesOrStays, StandsOrStays};
-ghost use Rattle.support_forest.specs.Spots.{voxel_in};
+ghost use Rattle.support_forest.specs.Access.{LieInSpace};
+ghost use Rattle.support_forest.specs.Spots.{IsReadAt, voxel_in};
 ghost use Rattle.support_forest.specs.Words.{IsStraight};
 
 use crate::beside::{Beside, place_in_chunk, words_beside, words_beyond};
 use crate::cells::Cells;
-use crate::toward::{word_beside, word_over_floor};
+use crate::toward::{word_beside, word_over_floor, word_toward};
+use brick_arena::Chunk;
 use std::alloc::AllocError;
 use std::sync::ledger::Ledger;
 use vox_geom::{Coord, Steps};
@@ -74,6 +76,84 @@ pub fn look_around(is_on_floor: bool, beside: Beside) -> Around
     around = with_neighbor(around, 4, beside.over);
     around = with_neighbor(around, 5, beside.near);
     with_neighbor(around, 6, beside.far)
+}
+
+/// What lies around the voxel at a spot, whose brick has this slot and this chunk. Each word is judged as it is read: of six that are
+/// kept side by side the compiler makes one test, which waits for all of them to be stored.
+#[inline(always)]
+fn look_in<L: Ledger>(
+    cells: &Cells,
+    spot: u32,
+    slot: u32,
+    chunk: &Chunk,
+    at: usize,
+    is_on_floor: bool,
+    steps: &mut Steps<L>,
+) -> Around
+    requires read { IsReadAt cells.now spot slot chunk.now at }
+    requires floor { is_on_floor ≡ ((voxel_in cells.now spot).y == 0) }
+    ensures around { IsAround (word_at cells.now) (voxel_in cells.now spot) result 7 }
+    ensures touches { steps.new ≤ steps.old + 6 }
+{
+    let mut around = nothing_around(is_on_floor);
+    around = with_neighbor(
+        around,
+        1,
+        word_toward::<1, L>(cells, spot, slot, chunk, at, steps),
+    );
+    around = with_neighbor(
+        around,
+        2,
+        word_toward::<2, L>(cells, spot, slot, chunk, at, steps),
+    );
+    around = with_neighbor(
+        around,
+        3,
+        word_toward::<3, L>(cells, spot, slot, chunk, at, steps),
+    );
+    around = with_neighbor(
+        around,
+        4,
+        word_toward::<4, L>(cells, spot, slot, chunk, at, steps),
+    );
+    around = with_neighbor(
+        around,
+        5,
+        word_toward::<5, L>(cells, spot, slot, chunk, at, steps),
+    );
+    with_neighbor(
+        around,
+        6,
+        word_toward::<6, L>(cells, spot, slot, chunk, at, steps),
+    )
+}
+
+/// What lies around the voxel at a spot.
+#[inline(always)]
+pub fn look_at<L: Ledger>(
+    cells: &Cells,
+    spot: u32,
+    is_on_floor: bool,
+    steps: &mut Steps<L>,
+) -> Around
+    requires inside { LieInSpace cells.now (voxel_in cells.now spot) }
+    requires floor { is_on_floor ≡ ((voxel_in cells.now spot).y == 0) }
+    ensures around { IsAround (word_at cells.now) (voxel_in cells.now spot) result 7 }
+    ensures touches { steps.new ≤ steps.old + 6 }
+{
+    cells.recall();
+    match cells.slot_at(spot) {
+        Some(slot) => look_in(
+            cells,
+            spot,
+            slot,
+            cells.chunk(slot),
+            place_in_chunk(slot, spot),
+            is_on_floor,
+            steps,
+        ),
+        None => look_around(is_on_floor, words_beyond(cells, spot, steps)),
+    }
 }
 
 /// Whether the word is that of a void voxel, or of one with a height from the one given up to two above it.
