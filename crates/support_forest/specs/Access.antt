@@ -1,8 +1,9 @@
 -- What the reads and the write of a voxel's word ask for and leave.
 use Rattle.std.specs.Prelude.{◌≡◌, ℕ, ◌+◌, ◌<◌, ◌≤◌, Some}
+use Rattle.brick_arena.specs.Slots.{IsLive}
 use Rattle.vox_geom.specs.declared.coordinate.Coord.{Coord}
 use Rattle.vox_geom.specs.Space.{IsInSpace}
-use Rattle.support_forest.specs.Grid.{Grid, place_in_slot, slot_of, word_at}
+use Rattle.support_forest.specs.Grid.{Grid, place_in_slot, slot_at, slot_of, word_at}
 use Rattle.support_forest.specs.Placing.{IsWordToward}
 use Rattle.support_forest.specs.Spots.{voxel_in}
 use Rattle.support_forest.specs.Words.{IsWritten}
@@ -24,6 +25,12 @@ pub record IsWordIn (g : Grid) (own at word : ℕ) (c : Coord) : Type 0 where
   pub slot : slot_of g c ≡ Some own
   pub place : at ≡ place_in_slot c
   pub stands : word ≡ word_at g c
+
+-- the brick of that number has the slot, and all words are as before
+pub record HasTaken (old new : Grid) (number own : ℕ) : Type 0 where
+  pub slot : slot_at new.table number ≡ Some own
+  pub live : IsLive new.bricks own
+  pub same : (c : Coord) → word_at new c ≡ word_at old c
 
 -- the word of the voxel was written, by one touch
 pub record HasWritten (old new : Grid) (c : Coord) (word before after : ℕ) : Type 0 where

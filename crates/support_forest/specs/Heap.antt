@@ -75,6 +75,33 @@ abbrev pub AreStackedBits : Matrix → Coord → ℕ → ℕ → Type 0
 AreStackedBits m c count bits = (k : ℕ) → k < count → bit bits k ≡ true → IsTrue (voxel_at m (place m.resolution c + k))
     × ((c.y ≡ 0) ⊎ IsTrue (voxel_at m (place m.resolution (under c) + k)))
 
+-- the voxels are so many of a row, 64 at most
+pub record ArePartOfRow (m : Matrix) (c : Coord) (n : ℕ) : Type 0 where
+  pub few : n ≤ 64
+  pub within : IsInSpace m.resolution c
+  pub row : c.z + n ≤ m.resolution
+
+-- the full ones of some voxels of a row, whose first begins a row of its brick, may be stacked
+pub record CanStackRow (m : Matrix) (g : Grid) (c : Coord) (n : ℕ) (rest : List Coord) : Type 0 where
+  pub part : ArePartOfRow m c n
+  pub whole : c.z % 8 ≡ 0
+  pub heaped : IsHeaped m g (place m.resolution c) rest
+
+-- of some voxels of a row those from one on, which begins a row of its brick, may be stacked where their bits are 1
+pub record CanPileAhead (m : Matrix) (g : Grid) (c : Coord) (from n bits : ℕ) (rest : List Coord) : Type 0 where
+  pub part : ArePartOfRow m c n
+  pub order : from ≤ n
+  pub whole : from < n → (c.z + from) % 8 ≡ 0
+  pub stacked : AreStackedBits m c n bits
+  pub heaped : IsHeaped m g (place m.resolution c + from) rest
+
+-- of some voxels of a row those up to one, which begins a row of its brick, are in the heap or listed
+pub record ArePiledTo (m : Matrix) (g : Grid) (c : Coord) (from n : ℕ) (rest : List Coord) (before after k : ℕ) : Type 0 where
+  pub heaped : IsHeaped m g (place m.resolution c + k) rest
+  pub order : (from ≤ k) × (k ≤ n)
+  pub whole : k < n → (c.z + k) % 8 ≡ 0
+  pub cost : after + from ≤ before + k
+
 -- the full ones of these voxels of a row of a brick may be stacked: those before them are in the heap or listed
 pub record CanStackPart (m : Matrix) (g : Grid) (c : Coord) (n word : ℕ) (rest : List Coord) : Type 0 where
   pub brick : c.z % 8 + n ≤ 8

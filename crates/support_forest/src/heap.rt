@@ -4,7 +4,7 @@ ghost use Rattle.nano_spec.specs.Model.{volume};
 ghost use Rattle.vox_geom.specs.Space.{IsInSpace, place as place_of};
 ghost use Rattle.vox_geom.specs.declared.coordinate.Coord.{Coord as Coordinate};
 ghost use Rattle.support_forest.specs.Grid.{slot_of, word_at};
-ghost use Rattle.support_forest.specs.Heap.{AreBits, AreBrickSlots, AreStackedBits, CanStack, CanStackPart, HaveStacked, IsHeaped, IsPile, IsSomeHeap, RowStands};
+ghost use Rattle.support_forest.specs.Heap.{AreBits, AreBrickSlots, ArePartOfRow, ArePiledTo, AreStackedBits, CanPileAhead, CanStack, CanStackPart, CanStackRow, HaveStacked, IsHeaped, IsPile, IsSomeHeap, RowStands};
 ghost use Rattle.support_forest.specs.Spots.{voxel_in};
 ghost use Rattle.support_forest.specs.Standing.{matrix_of};
 ghost use Rattle.support_forest.specs.Stretches.{LieInRow};
@@ -249,9 +249,7 @@ fn stack_part<L: Ledger>(
 /// Up to 64 voxels of a row, as the bits of a word.
 #[inline(always)]
 fn row_bits<L: Ledger>(planes: &Planes, first: Coord, count: u16, steps: &mut Steps<L>) -> u64
-    requires few { count ≤ 64 }
-    requires within { IsInSpace planes.now.resolution first }
-    requires row { first.z + count ≤ planes.now.resolution }
+    requires part { ArePartOfRow planes.now first count }
     ensures bits { AreBits planes.now (place_of planes.now.resolution first) count result }
     ensures touches { steps.new ≤ steps.old + count }
 {
@@ -267,9 +265,7 @@ fn stacked_bits<L: Ledger>(
     bits: u64,
     steps: &mut Steps<L>,
 ) -> u64
-    requires few { count ≤ 64 }
-    requires within { IsInSpace planes.now.resolution first }
-    requires row { first.z + count ≤ planes.now.resolution }
+    requires part { ArePartOfRow planes.now first count }
     requires bits { AreBits planes.now (place_of planes.now.resolution first) count bits }
     ensures stacked { AreStackedBits planes.now first count result }
     ensures touches { steps.new ≤ steps.old + count }
@@ -296,17 +292,8 @@ fn pile_ahead<L: Ledger>(
     stacked: u64,
     steps: &mut Steps<L>,
 ) -> Result<u16, AllocError>
-    requires few { count ≤ 64 }
-    requires order { from ≤ count }
-    requires whole { from < count → (first.z + from) % 8 ≡ 0 }
-    requires within { IsInSpace planes.now.resolution first }
-    requires row { first.z + count ≤ planes.now.resolution }
-    requires stacked { AreStackedBits planes.now first count stacked }
-    requires heaped { IsHeaped planes.now cells.old (place_of planes.now.resolution first + from) [] }
-    ensures heaped { IfOk result (λ k. IsHeaped planes.now cells.new (place_of planes.now.resolution first + k) []) }
-    ensures order { IfOk result (λ k. (from ≤ k) × (k ≤ count)) }
-    ensures whole { IfOk result (λ k. k < count → (first.z + k) % 8 ≡ 0) }
-    ensures touches { IfOk result (λ k. steps.new + from ≤ steps.old + k) }
+    requires { CanPileAhead planes.now cells.old first from count stacked [] }
+    ensures { IfOk result (ArePiledTo planes.now cells.new first from count [] steps.old steps.new) }
 {
     cells.recall();
     let line = cells.spot(Coord { z: 0, ..first });
@@ -336,18 +323,8 @@ fn pile_next<L: Ledger>(
     rest: &Vec<Coord>,
     steps: &mut Steps<L>,
 ) -> Result<u16, AllocError>
-    requires few { count ≤ 64 }
-    requires order { from ≤ count }
-    requires whole { from < count → (first.z + from) % 8 ≡ 0 }
-    requires within { IsInSpace planes.now.resolution first }
-    requires row { first.z + count ≤ planes.now.resolution }
-    requires stacked { AreStackedBits planes.now first count stacked }
-    requires heaped { IsHeaped planes.now cells.old (place_of planes.now.resolution first + from) rest.now.items }
-    ensures heaped { IfOk result
-        (λ k. IsHeaped planes.now cells.new (place_of planes.now.resolution first + k) rest.now.items) }
-    ensures order { IfOk result (λ k. (from ≤ k) × (k ≤ count)) }
-    ensures whole { IfOk result (λ k. k < count → (first.z + k) % 8 ≡ 0) }
-    ensures touches { IfOk result (λ k. steps.new + from ≤ steps.old + k) }
+    requires { CanPileAhead planes.now cells.old first from count stacked rest.now.items }
+    ensures { IfOk result (ArePiledTo planes.now cells.new first from count rest.now.items steps.old steps.new) }
 {
     if !rest.is_empty() {
         return Ok(from);
@@ -368,13 +345,9 @@ fn stack_bits<L: Ledger>(
     rest: &mut Vec<Coord>,
     steps: &mut Steps<L>,
 ) -> Result<(), AllocError>
-    requires few { count ≤ 64 }
-    requires whole { first.z % 8 ≡ 0 }
-    requires within { IsInSpace planes.now.resolution first }
-    requires row { first.z + count ≤ planes.now.resolution }
+    requires can { CanStackRow planes.now cells.old first count rest.old.items }
     requires bits { AreBits planes.now (place_of planes.now.resolution first) count bits }
     requires stacked { AreStackedBits planes.now first count stacked }
-    requires heaped { IsHeaped planes.now cells.old (place_of planes.now.resolution first) rest.old.items }
     ensures heaped { IfOk result
         (λ _. IsHeaped planes.now cells.new (place_of planes.now.resolution first + count) rest.new.items) }
     ensures touches { IfOk result (λ _. steps.new ≤ steps.old + cond may_be_pile 8 7 * count) }
@@ -407,11 +380,7 @@ fn stack_some<L: Ledger>(
     rest: &mut Vec<Coord>,
     steps: &mut Steps<L>,
 ) -> Result<(), AllocError>
-    requires few { count ≤ 64 }
-    requires whole { first.z % 8 ≡ 0 }
-    requires within { IsInSpace planes.now.resolution first }
-    requires row { first.z + count ≤ planes.now.resolution }
-    requires heaped { IsHeaped planes.now cells.old (place_of planes.now.resolution first) rest.old.items }
+    requires { CanStackRow planes.now cells.old first count rest.old.items }
     ensures heaped { IfOk result
         (λ _. IsHeaped planes.now cells.new (place_of planes.now.resolution first + count) rest.new.items) }
     ensures touches { IfOk result (λ _. steps.new ≤ steps.old + 9 * count) }

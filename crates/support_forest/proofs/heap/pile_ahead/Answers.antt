@@ -21,13 +21,13 @@ there m old now at line spot r s within line_is spot_is =
 
 pub spot-line-requires : goal.spot-line-requires
 spot-line-requires g c =
-    let within = c.requires.within in
+    let within = c.requires.part.within in
     subst (λ (r : ℕ). IsInSpace r (record { x = c.args.first.x; y = c.args.first.y; z = 0 })) (sym c.requires.heaped.resolution)
     (record { x = within.x; y = within.y; z = let along_z = within.z in omega arith })
 
 pub spot_along-spot-requires : goal.spot_along-spot-requires
 spot_along-spot-requires g c =
-    let within = c.requires.within in
+    let within = c.requires.part.within in
     let first : IsInSpace c.args.planes.now.resolution (record { x = c.args.first.x; y = c.args.first.y; z = 0 }) = record { x = within.x; y = within.y; z = let along_z = within.z in omega arith } in
     record {
       fits = spot_small c.args.cells.now.resolution c.spot-line.result c.recall.ensures.few
@@ -37,8 +37,8 @@ spot_along-spot-requires g c =
 
 pub take_slot_at-requires : goal.take_slot_at-requires
 take_slot_at-requires g c =
-    let within = c.requires.within in
-    let row = c.requires.row in
+    let within = c.requires.part.within in
+    let row = c.requires.part.row in
     let more = c.loop-k-test.true in
     let resolution = c.loop-k.invariant.heaped.resolution in
     let at : Coord = record { x = c.args.first.x; y = c.args.first.y; z = c.args.first.z + c.loop-k.k } in
@@ -49,8 +49,8 @@ take_slot_at-requires g c =
 
 pub pile_row-requires-clause-spot : goal.pile_row-requires-clause-spot
 pile_row-requires-clause-spot g c =
-    let within = c.requires.within in
-    let row = c.requires.row in
+    let within = c.requires.part.within in
+    let row = c.requires.part.row in
     let more = c.loop-k-test.true in
     let at : Coord = record { x = c.args.first.x; y = c.args.first.y; z = c.args.first.z + c.loop-k.k } in
     let inside : IsInSpace c.args.planes.now.resolution at = record { x = within.x; y = within.y; z = omega arith } in
@@ -59,8 +59,8 @@ pile_row-requires-clause-spot g c =
 
 pub pile_row-requires-clause-own : goal.pile_row-requires-clause-own
 pile_row-requires-clause-own g c =
-    let within = c.requires.within in
-    let row = c.requires.row in
+    let within = c.requires.part.within in
+    let row = c.requires.part.row in
     let more = c.loop-k-test.true in
     let at : Coord = record { x = c.args.first.x; y = c.args.first.y; z = c.args.first.z + c.loop-k.k } in
     let inside : IsInSpace c.args.planes.now.resolution at = record { x = within.x; y = within.y; z = omega arith } in
@@ -80,7 +80,7 @@ pile_row-requires-clause-full g c j l =
 pub pile_row-requires-clause-stands : goal.pile_row-requires-clause-stands
 pile_row-requires-clause-stands g c =
     let more = c.loop-k-test.true in
-    stands_by_bits c.args.planes.now c.take_slot_at.new.self c.args.first c.loop-k.k c.args.count c.args.stacked c.requires.within c.requires.row (omega arith) c.requires.stacked c.if-stacked-k-eq255.true
+    stands_by_bits c.args.planes.now c.take_slot_at.new.self c.args.first c.loop-k.k c.args.count c.args.stacked c.requires.part.within c.requires.part.row (omega arith) c.requires.stacked c.if-stacked-k-eq255.true
     (heaped_same _ _ _ _ _ c.take_slot_at.ensures.resolution c.in_ok-own.ensures.same c.loop-k.invariant.heaped)
 
 pub pile_row-requires-clause-heap : goal.pile_row-requires-clause-heap

@@ -6,24 +6,24 @@ use Rattle.support_forest.proofs.heap.stack_bits.Goals as goal
 pub loop-k-init : goal.loop-k-init
 loop-k-init g c = record {
   within = omega arith;
-  whole = λ _. let whole = c.requires.whole in omega arith;
-  heaped = heaped_at _ _ _ _ _ (omega arith) c.requires.heaped;
+  whole = λ _. let whole = c.requires.can.whole in omega arith;
+  heaped = heaped_at _ _ _ _ _ (omega arith) c.requires.can.heaped;
   touches = omega arith;
 }
 
 pub overflow_add-at : goal.overflow_add-at
 overflow_add-at g c =
-    let row = c.requires.row in
+    let row = c.requires.can.part.row in
     let order = c.in_ok-k.ensures.order in
     let few = c.recall.ensures.few in
-    omega (arith, c.requires.heaped.resolution)
+    omega (arith, c.requires.can.heaped.resolution)
 
 pub stack_part-requires : goal.stack_part-requires
 stack_part-requires g c =
     let planes = c.args.planes.now in
     let k = c.in_ok-k.k in
-    let within = c.requires.within in
-    let row = c.requires.row in
+    let within = c.requires.can.part.within in
+    let row = c.requires.can.part.row in
     let order = c.in_ok-k.ensures.order in
     let more : k < c.args.count = omega (arith, c.if-k-count.false) in
     let few = c.min-part.ensures in
@@ -46,7 +46,7 @@ loop-k-preserved g c =
       within = omega arith;
       whole = λ l. let whole = c.in_ok-k.ensures.whole (omega arith) in omega arith;
       heaped = heaped_at _ _ _ _ _ (omega arith) c.in_ok-stack_part.ensures.heaped;
-      touches = touches_more c.args.may_be_pile _ _ _ _ _ (touches_piled c.args.may_be_pile _ _ _ _ _ c.loop-k.invariant.touches c.in_ok-k.ensures.touches order.0) c.in_ok-stack_part.ensures.touches;
+      touches = touches_more c.args.may_be_pile _ _ _ _ _ (touches_piled c.args.may_be_pile _ _ _ _ _ c.loop-k.invariant.touches c.in_ok-k.ensures.cost order.0) c.in_ok-stack_part.ensures.touches;
     }
 
 pub returns-clause-heaped : goal.returns-clause-heaped

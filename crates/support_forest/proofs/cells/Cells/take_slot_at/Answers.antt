@@ -11,4 +11,4 @@ pub returns-clause-slot : goal.returns-clause-slot
 returns-clause-slot c =
     let at = voxel_in c.args.self.now c.args.spot in
     let number : brick_number c.slot_for.new.self.resolution at ≡ c.args.spot / 512 = ap (λ (r : ℕ). brick_number r at) c.slot_for.ensures.resolution ∙ number_at c.args.self.now.resolution c.args.spot in
-    ap (slot_at c.slot_for.new.self.table) number ∙ c.in_ok-slot.ensures.slot
+    ap (slot_at c.slot_for.new.self.table) number ∙ c.in_ok-slot.ensures.taken.slot
