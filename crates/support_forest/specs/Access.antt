@@ -27,7 +27,7 @@ pub record IsWordIn (g : Grid) (own at word : ℕ) (c : Coord) : Type 0 where
   pub stands : word ≡ word_at g c
 
 -- the brick of that number has the slot, and all words are as before
-pub record HasTaken (old new : Grid) (number own : ℕ) : Type 0 where
+pub record HasTakenSlot (old new : Grid) (number own : ℕ) : Type 0 where
   pub slot : slot_at new.table number ≡ Some own
   pub live : IsLive new.bricks own
   pub same : (c : Coord) → word_at new c ≡ word_at old c
