@@ -184,8 +184,9 @@ impl Machine {
     }
 
     /// The step of the only bot in which it fills a voxel, or else voids it. Most such steps change no other level, and are
-    /// made at once: this is written out for its caller, where the difference stays in registers.
-    #[inline(always)]
+    /// made at once. A call of its own, and said so: whether the compiler writes it out for its caller else hangs on its
+    /// size, and where it does, the caller grows too large to be written out in turn.
+    #[inline(never)]
     fn edit_alone<const FULL: bool, L: Ledger>(
         &mut self,
         d: Near,
