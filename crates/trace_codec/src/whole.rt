@@ -1,5 +1,5 @@
 //! Whole traces.
-ghost use Rattle.std.specs.Prelude.{◌≡◌, ◌+◌, ◌*◌, ◌≤◌, IfOk, Result, List, length};
+ghost use Rattle.std.specs.Prelude.{◌≡◌, ◌+◌, ◌*◌, ◌≤◌, ◌++◌, IfOk, Result, List, length};
 ghost use Rattle.nano_spec.specs.declared.commands.Command.{Command};
 ghost use Rattle.nano_spec.specs.Cutting.{Cutting, Decoding, NoTrace};
 ghost use Rattle.nano_spec.specs.Spelling.{spellings};
@@ -49,12 +49,20 @@ pub fn encode_all(alloc: Global, commands: &[Command]) -> Result<Vec<u8>, Memory
 {
     let mut bytes = Vec::with_capacity(alloc, encoded_len(commands)).map_err(|_| Memory)?;
     for command in commands {
-        let spelling = encode_one(*command);
-        bytes
-            .extend_from_slice(spelling.as_slice())
-            .map_err(|_| Memory)?;
+        append(&mut bytes, encode_one(*command).as_slice())?;
     }
     Ok(bytes)
+}
+
+/// Appends the bytes of a spelling one after another: they are few, and to copy a slice is a call.
+#[inline(always)]
+fn append(bytes: &mut Vec<u8>, spelling: &[u8]) -> Result<(), Memory>
+    ensures { IfOk result (λ _. bytes.new.items ≡ bytes.old.items ++ spelling.now) }
+{
+    for byte in spelling {
+        bytes.push(*byte).map_err(|_| Memory)?;
+    }
+    Ok(())
 }
 
 /// How many bytes the spellings of the commands have, if that is a `usize`.
