@@ -201,7 +201,11 @@ pub(crate) fn judge_hull<L: Ledger>(
         | Command::FusionS(_)
         | Command::Fission(_, _)
         | Command::GFill(_, _)
-        | Command::GVoid(_, _) => judge_rare(step, bot, command, steps),
+        | Command::GVoid(_, _) => {
+            // By a name of its own: else the box of every arm lies where this call leaves its box, and is read before it is all written.
+            let hull = judge_rare(step, bot, command, steps)?;
+            Ok(hull)
+        }
     }
 }
 
