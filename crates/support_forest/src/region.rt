@@ -36,7 +36,8 @@ fn words_are_void<L: Ledger>(chunk: &Chunk, from: usize, count: u16, steps: &mut
     void
 }
 
-/// Whether the whole row of a brick in which the voxel at a spot lies is void. `own` is the slot of the brick.
+/// Whether the whole row of a brick in which the voxel at a spot lies is void, where a voxel leans. Where none does the row is not read:
+/// what hangs on it is seen in the row over it, and to write it waits for nothing. `own` is the slot of the brick.
 #[inline(always)]
 fn row_is_void<L: Ledger>(cells: &Cells, own: u32, spot: u32, steps: &mut Steps<L>) -> bool
     requires within { IsInSpace cells.now.resolution (voxel_in cells.now spot) }
@@ -45,6 +46,9 @@ fn row_is_void<L: Ledger>(cells: &Cells, own: u32, spot: u32, steps: &mut Steps<
         → word_at cells.now (further (whole_row_start (voxel_in cells.now spot)) k) ≡ 0 }
     ensures touches { steps.new ≤ steps.old + 8 }
 {
+    if cells.is_straight() {
+        return false;
+    }
     cells.recall();
     let chunk = cells.chunk(own);
     let from = place_in_chunk(own, start_of_row(spot));
