@@ -8,7 +8,7 @@ use Rattle.nano_spec.specs.Grounded.{is_path_from}
 use Rattle.nano_spec.specs.Matrix.{Matrix}
 use Rattle.nano_spec.specs.State.{seed_numbers}
 use Rattle.nano_spec.specs.Work.{stops}
-use Rattle.nano_spec.proofs.WorkDone.{work_of_a_floating_voxel, work_of_a_refused_group, work_of_a_ring, work_of_another_post}
+use Rattle.nano_spec.proofs.WorkDone.{work_of_a_floating_voxel, work_of_a_refused_group, work_of_a_ring, work_of_another_post, work_of_groups_that_meet, work_where_the_trace_ends, work_without_a_change}
 use Rattle.nano_spec.specs.WorkedOthers.{WorkedForge, WorkedNames, WorkedOrders, WorkedPaths, WorkedWork, hanging}
 use Rattle.nano_spec.specs.Next.{breaks_at_start}
 use Rattle.vox_geom.specs.Point.{coord}
@@ -48,6 +48,9 @@ worked_work = record {
   work_of_a_refused_group = work_of_a_refused_group;
   work_of_another_post = work_of_another_post;
   work_of_a_floating_voxel = work_of_a_floating_voxel;
+  work_where_the_trace_ends = work_where_the_trace_ends;
+  work_without_a_change = work_without_a_change;
+  work_of_groups_that_meet = work_of_groups_that_meet;
 }
 
 has_a_coordinate : (m : Matrix) (c : Coord) (path : List Coord) → IsTrue (is_path_from m c path) → 0 < length path
@@ -65,6 +68,8 @@ worked_paths = record {
   from_a_void_voxel = refl;
   through_a_void_voxel = refl;
   to_a_void_voxel = refl;
+  full_within_the_matrix = (refl, refl);
+  outside_the_matrix = refl;
   over_an_edge = refl;
   over_a_gap = refl;
   level_on_the_floor = ((coord 1 0 1 ∷ [], refl, refl), has_a_coordinate hanging (coord 1 0 1));

@@ -101,6 +101,10 @@ pub record WorkedModels : Type 0 where
   pub too_small_a_wide_resolution : model (hex "FF 00 FA") ≡ Err (WideResolution 250)
   -- the resolution 401
   pub too_great_a_wide_resolution : model (hex "FF 01 91") ≡ Err (WideResolution 401)
+  -- the resolution 254 of the first form
+  pub the_greatest_first_byte : model (hex "FE") ≡ Err (Resolution 254)
+  -- the third run is 0
+  pub a_later_empty_run : model (hex "FF 00 FB 00 00 F6 1A 00 00 00 01 00 00 00 00") ≡ Err (WideRun 2)
   -- the second run is 0
   pub an_empty_run : model (hex "FF 00 FB 00 00 F6 1A 00 00 00 00") ≡ Err (WideRun 1)
   -- the third run is 1 too long
@@ -258,6 +262,21 @@ pub record WorkedTexts : Type 0 where
   pub a_blank_behind_a_minus_sign : read (codes "SMove <- 1,0,0>") ≡ Err (record { fault = Shape; line = 1 })
   -- a Fission has a near difference
   pub a_fission_that_is_not_near : read (codes "Fission <1,1,1> 0") ≡ Err (record { fault = Range; line = 1 })
+  -- so do the other words
+  pub a_primary_that_is_not_near : read (codes "FusionP <1,1,1>") ≡ Err (record { fault = Range; line = 1 })
+  pub a_secondary_that_is_not_near : read (codes "FusionS <1,1,1>") ≡ Err (record { fault = Range; line = 1 })
+  pub a_void_that_is_not_near : read (codes "Void <1,1,1>") ≡ Err (record { fault = Range; line = 1 })
+  pub a_group_fill_that_is_not_near : read (codes "GFill <1,1,1> <0,0,1>") ≡ Err (record { fault = Range; line = 1 })
+  pub a_group_void_that_is_not_near : read (codes "GVoid <1,1,1> <0,0,1>") ≡ Err (record { fault = Range; line = 1 })
+  -- a region to be voided has an extent too
+  pub a_group_void_of_no_extent : read (codes "GVoid <0,0,1> <0,0,0>") ≡ Err (record { fault = Range; line = 1 })
+  -- blanks may stand round each number
+  pub blanks_round_each_number : read (codes "SMove < 1 , 0 , 0 >") ≡ Ok (SMove (diff (pos 1) (pos 0) (pos 0)) ∷ [])
+  -- a negative number has three digits at most, too
+  pub three_digits_behind_a_minus_sign : read (codes "SMove <-100,0,0>") ≡ Err (record { fault = Range; line = 1 })
+  pub four_digits_behind_a_minus_sign : read (codes "SMove <-0001,0,0>") ≡ Err (record { fault = Shape; line = 1 })
+  -- the bytes below the tab are no blanks
+  pub a_backspace : read (codes "Wait" ++ 0x08 ∷ []) ≡ Err (record { fault = Shape; line = 1 })
   -- how each command is printed
   pub all_words_printed : print (Halt ∷ Wait ∷ Flip ∷ SMove (diff (pos 0) (pos 0) (pos 15))
       ∷ LMove (diff (pos 5) (pos 0) (pos 0)) (diff (pos 0) (below_zero 1) (pos 0))

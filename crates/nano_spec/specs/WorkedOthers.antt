@@ -14,7 +14,7 @@ use Rattle.nano_spec.specs.declared.system.Harmonics.TheVariants.{Low, High}
 use Rattle.nano_spec.specs.Forge.{forged, mixed}
 use Rattle.nano_spec.specs.Grounded.{is_path_from}
 use Rattle.nano_spec.specs.Level.{Level}
-use Rattle.nano_spec.specs.Matrix.{Matrix, empty}
+use Rattle.nano_spec.specs.Matrix.{Matrix, empty, is_full}
 use Rattle.nano_spec.specs.Model.{written}
 use Rattle.nano_spec.specs.Profile.{full_profile, light_profile, is_allowed}
 use Rattle.nano_spec.specs.Rule.{rule_number, name_of}
@@ -121,10 +121,25 @@ pub record WorkedWork : Type 0 where
   -- one voxel that changes, and two whose levels change
   pub work_of_a_floating_voxel :
       Work (voxels_at 3 (coord 1 0 1 ∷ coord 1 1 1 ∷ [])) (Void (diff (pos 1) (pos 0) (pos 1)) ∷ []) full_profile 5
+  -- a Fission, and a Wait for the first of two bots: where the trace ends there is no work
+  pub work_where_the_trace_ends :
+      Work (empty 3) (Fission (diff (pos 0) (pos 0) (pos 1)) 0 ∷ Wait ∷ []) full_profile 2
+  -- a full voxel is filled, and a void one is voided, so that no voxel changes: two volatile coordinates each, and the
+  -- Halt's one
+  pub work_without_a_change : Work (voxels_at 3 (coord 1 0 1 ∷ []))
+      (Fill (diff (pos 1) (pos 0) (pos 1)) ∷ Void (diff (pos 1) (pos 1) (pos 0)) ∷ Halt ∷ []) full_profile 5
+  -- two bots would exchange their places: two volatile coordinates for the Fission, and then the same two for each bot
+  pub work_of_groups_that_meet : Work (empty 3)
+      (Fission (diff (pos 0) (pos 0) (pos 1)) 0 ∷ SMove (diff (pos 0) (pos 0) (pos 1))
+      ∷ SMove (diff (pos 0) (pos 0) (below_zero 1)) ∷ []) full_profile 6
 
 -- a post of two voxels, an arm, and a voxel that hangs from it
 abbrev pub hanging : Matrix
 hanging = voxels_at 5 (coord 1 0 1 ∷ coord 1 1 1 ∷ coord 2 1 1 ∷ coord 2 0 1 ∷ coord 1 0 3 ∷ [])
+
+-- at resolution 3 a column, and a voxel at the other side of the matrix
+abbrev pub beside_a_column : Matrix
+beside_a_column = voxels_at 3 (coord 1 0 0 ∷ coord 1 1 0 ∷ coord 1 2 0 ∷ coord 1 1 2 ∷ [])
 
 -- paths to the floor, and lists of coordinates that are none
 pub record WorkedPaths : Type 0 where
@@ -138,12 +153,18 @@ pub record WorkedPaths : Type 0 where
   pub from_elsewhere : is_path_from hanging (coord 1 1 1) (coord 1 0 1 ∷ []) ≡ false
   -- it ends on the floor
   pub above_the_floor : is_path_from hanging (coord 2 1 1) (coord 2 1 1 ∷ coord 1 1 1 ∷ []) ≡ false
-  -- all its voxels are full: the first, one between, and the last
+  -- all its voxels are full: the first, one between, and the last alone
   pub from_a_void_voxel : is_path_from hanging (coord 1 2 1) (coord 1 2 1 ∷ coord 1 1 1 ∷ coord 1 0 1 ∷ []) ≡ false
   pub through_a_void_voxel :
       is_path_from hanging (coord 2 1 1) (coord 2 1 1 ∷ coord 3 1 1 ∷ coord 2 1 1 ∷ coord 1 1 1 ∷ coord 1 0 1 ∷ [])
       ≡ false
-  pub to_a_void_voxel : is_path_from hanging (coord 1 1 1) (coord 1 1 1 ∷ coord 1 1 2 ∷ coord 1 0 2 ∷ []) ≡ false
+  pub to_a_void_voxel :
+      is_path_from (voxels_at 3 (coord 1 1 1 ∷ [])) (coord 1 1 1) (coord 1 1 1 ∷ coord 1 0 1 ∷ []) ≡ false
+  -- no coordinate outside the matrix is full, and a path stays within
+  pub full_within_the_matrix :
+      (is_full beside_a_column (coord 1 1 2) ≡ true) × (is_full beside_a_column (coord 1 1 3) ≡ false)
+  pub outside_the_matrix :
+      is_path_from beside_a_column (coord 1 1 2) (coord 1 1 2 ∷ coord 1 1 3 ∷ coord 1 0 3 ∷ []) ≡ false
   -- each is adjacent to the next
   pub over_an_edge : is_path_from hanging (coord 2 1 1) (coord 2 1 1 ∷ coord 1 0 1 ∷ []) ≡ false
   pub over_a_gap : is_path_from hanging (coord 1 0 1) (coord 1 0 1 ∷ coord 1 0 3 ∷ []) ≡ false

@@ -78,6 +78,9 @@ pub record RefusedRuns : Type 0 where
   pub a_command_follows_the_halt : Refuses empty_3 empty_3 (hex "FF FE") AfterHalt 1 0 (coord 0 0 0)
   -- the target has a voxel that was not filled
   pub the_result_is_not_the_target : Refuses empty_3 one_voxel (hex "FF") WrongResult 1 0 (coord 1 0 1)
+  -- both are refused in the last step, here the second
+  pub a_command_follows_a_later_halt : Refuses empty_3 empty_3 (hex "FE FF FE") AfterHalt 2 0 (coord 0 0 0)
+  pub a_later_result_is_not_the_target : Refuses empty_3 one_voxel (hex "FE FF") WrongResult 2 0 (coord 1 0 1)
   -- the bot would leave the matrix
   pub a_bot_leaves_space : Refuses empty_3 empty_3 (hex "14 0E") OutOfSpace 1 1 (coord 0 0 0)
   -- the bot would move through a full voxel
