@@ -1,7 +1,7 @@
 -- The worked examples of the table of words, by computing.
-use Rattle.std.proofs.Common.{refl}
+use Rattle.std.proofs.Common.{◌<◌, ◌≤◌, arith, refl}
 use Rattle.std.specs.Fmt.{digits}
-use Rattle.nanobot_words.specs.Worked.{WorkedFiles, WorkedSides, WorkedWords}
+use Rattle.nanobot_words.specs.Worked.{WorkedFiles, WorkedForged, WorkedSides, WorkedWords}
 
 pub worked_words : WorkedWords
 unfolding digits
@@ -51,4 +51,14 @@ worked_sides = record {
   low_from_no_source = λ h. h;
   swarm_to_a_target = tt;
   swarm_from_no_source = λ h. h;
+}
+
+pub worked_forged : WorkedForged
+worked_forged = record {
+  the_least = (omega arith, omega arith, omega arith);
+  past_the_first_form = (omega arith, omega arith, omega arith);
+  the_greatest = (omega arith, omega arith, omega arith);
+  no_resolution = λ h. let least : 1 ≤ 0 = h.1 in omega arith;
+  too_great_a_resolution = λ h. let most : 401 ≤ 400 = h.2 in omega arith;
+  too_great_a_number = λ h. let below : 4294967296 < 4294967296 = h.0 in omega arith;
 }

@@ -3,7 +3,7 @@
 use Rattle.std.specs.Prelude.{◌≡◌, [], ◌∷◌, codes, Some, None}
 use Rattle.nanobot_words.specs.declared.planner.Planner.TheVariants.{Layer, Group, Crew, Void, Low, Swarm}
 use Rattle.nanobot_words.specs.declared.row.Round.TheVariants.{Full, Light}
-use Rattle.nanobot_words.specs.Rows.{TakesSides, asm, check, debug, dis, exercise, make, plan, run, reads_of, row_words, stores_of}
+use Rattle.nanobot_words.specs.Rows.{IsOfTable, TakesSides, asm, check, debug, dis, exercise, make, plan, run, reads_of, row_words, stores_of}
 
 -- the words of each row
 pub record WorkedWords : Type 0 where
@@ -63,3 +63,12 @@ pub record WorkedSides : Type 0 where
   pub low_from_no_source : TakesSides Low (Some (codes "s")) (Some (codes "t")) → ⊥
   pub swarm_to_a_target : TakesSides Swarm None (Some (codes "t"))
   pub swarm_from_no_source : TakesSides Swarm (Some (codes "s")) None → ⊥
+
+-- the numbers and the resolutions that are forged: below 2 ^ 32, and from 1 to 400
+pub record WorkedForged : Type 0 where
+  pub the_least : IsOfTable (make 0 1 (codes "m"))
+  pub past_the_first_form : IsOfTable (make 0 251 (codes "m"))
+  pub the_greatest : IsOfTable (exercise 4294967295 400)
+  pub no_resolution : IsOfTable (exercise 0 0) → ⊥
+  pub too_great_a_resolution : IsOfTable (make 0 401 (codes "m")) → ⊥
+  pub too_great_a_number : IsOfTable (make 4294967296 1 (codes "m")) → ⊥

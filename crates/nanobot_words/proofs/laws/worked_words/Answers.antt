@@ -1,4 +1,4 @@
-use Rattle.nanobot_words.proofs.Examples.{worked_files, worked_sides, worked_words}
+use Rattle.nanobot_words.proofs.Examples.{worked_files, worked_forged, worked_sides, worked_words}
 use Rattle.nanobot_words.proofs.laws.worked_words.Goals as goal
 
 pub returns-clause-words : goal.returns-clause-words
@@ -9,3 +9,6 @@ returns-clause-files c = worked_files
 
 pub returns-clause-sides : goal.returns-clause-sides
 returns-clause-sides c = worked_sides
+
+pub returns-clause-forged : goal.returns-clause-forged
+returns-clause-forged c = worked_forged
