@@ -17,3 +17,4 @@ pub mod Parts
 pub mod Lowest
 pub mod Bytes
 pub mod Closing
+pub mod Examples

@@ -7,3 +7,4 @@ pub mod Frame
 pub mod Lowest
 pub mod Models
 pub mod Parts
+pub mod Worked

@@ -11,6 +11,7 @@ ghost use Rattle.nano_spec.specs.Verdict.{Run, VerdictOf};
 ghost use Rattle.vox_planes.specs.Voxel.{IsWhole};
 ghost use Rattle.plan_tape.specs.Fissions.{is_fission};
 ghost use Rattle.plan_tape.specs.Reaches.{HasAtMost, IsDecided, Reaches, ReachesTarget};
+ghost use Rattle.plan_tape.specs.Worked.{WorkedCrews};
 
 /// A state that commands reach, every step accepted, has at most as many bots as the profile has seeds, and one more.
 pub fn seeds_bound_the_bots()
@@ -38,4 +39,9 @@ pub fn runs_go_through_reached_states()
         →
         (VerdictOf source target commands profile (Accepted energy steps)
         ↔ ReachesTarget source target profile commands energy steps) }
+{}
+
+/// Worked examples of commands that have more bots than so many.
+pub fn worked_crews()
+    ensures { WorkedCrews }
 {}

@@ -16,5 +16,7 @@ pub use axis::{Axis, ahead, behind, component, next_stop, signed_gap, towards, w
 pub use difference::lowest_difference;
 pub use frame::{close, rise};
 pub use halting::halt_alone;
-pub use laws::{fissions_bound_the_bots, runs_go_through_reached_states, seeds_bound_the_bots};
+pub use laws::{
+    fissions_bound_the_bots, runs_go_through_reached_states, seeds_bound_the_bots, worked_crews,
+};
 pub use tape::{Plan, Tape};
