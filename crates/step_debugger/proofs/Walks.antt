@@ -1,6 +1,6 @@
 -- Worked sessions, each line by what it asks.
 use Rattle.std.proofs.Common.{ℕ, zero, suc, refl, inl, inr, List, [], ◌∷◌, pos}
-use Rattle.std.specs.Prelude.{Some}
+use Rattle.std.specs.Prelude.{None, Some}
 use Rattle.vox_geom.specs.Point.{coord}
 use Rattle.nano_spec.specs.declared.commands.Command.{Command}
 use Rattle.nano_spec.specs.declared.commands.Command.TheVariants.{Halt}
@@ -12,6 +12,7 @@ use Rattle.nano_spec.specs.Profile.{full_profile}
 use Rattle.nano_spec.specs.State.{State, seed_numbers}
 use Rattle.nano_spec.specs.Step.{after}
 use Rattle.nano_spec.specs.Worked.{voxels_at}
+use Rattle.nano_spec.proofs.Grounding.{void_is}
 use Rattle.nano_spec.proofs.Island.{floats}
 use Rattle.nano_spec.proofs.Simulation.{grounded_is}
 use Rattle.step_debugger.specs.Session.{Session, made, next_commands, opened}
@@ -85,6 +86,15 @@ worked_sessions = record {
           (begun_2, (refl, refl), tt),
         ),
       ),
+    ),
+  );
+  a_voxel_while_groups_are_begun = (
+    f1,
+    (Goes f1.point.state, (accepts refl (λ low. grounded_is 6 (empty 2) refl) refl), (refl, refl)),
+    (
+      begun_1,
+      (refl, refl),
+      (begun_1, (refl, (None, void_is (empty 2) (coord 0 1 1) refl, refl)), tt),
     ),
   );
   an_ended_run = (

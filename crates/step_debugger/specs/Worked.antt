@@ -9,7 +9,7 @@ use Rattle.nano_spec.specs.Profile.{full_profile}
 use Rattle.nano_spec.specs.Worked.{diff}
 use Rattle.nano_spec.specs.WorkedStep.{with_one}
 use Rattle.nano_spec.specs.declared.system.Harmonics.TheVariants.{Low}
-use Rattle.step_debugger.specs.Session.{AnswersLine, DebugLine, DebugReport, Session, made, opened, Step, Group, Back, Bots, Ended, Refused, Made, NoLeader, Begun, NoHistory, Returned, Crew}
+use Rattle.step_debugger.specs.Session.{AnswersLine, DebugLine, DebugReport, Session, made, opened, Step, Group, Back, Bots, Voxel, Ended, Refused, Made, NoLeader, Begun, NoHistory, Returned, Crew, IsVoid}
 
 -- the lines, one after another, are answered by these reports, from a session on
 abbrev pub Answered : List Command → Session → List DebugLine → List DebugReport → Type 0
@@ -52,6 +52,10 @@ pub record WorkedSessions : Type 0 where
   pub what_is_begun_is_dropped : Answered floating (opened (empty 2) full_profile)
       (Step ∷ Group 2 ∷ Back ∷ Group 2 ∷ Group 3 ∷ [])
       (Made 1 (pos 68) false ∷ Begun 2 2 ∷ Returned 1 (pos 68) ∷ Begun 2 2 ∷ NoLeader 3 ∷ [])
+  -- a voxel is told as it is at the point, also where the group is begun that fills it
+  pub a_voxel_while_groups_are_begun :
+      Answered floating (opened (empty 2) full_profile) (Step ∷ Group 1 ∷ Voxel (coord 0 1 1) ∷ [])
+      (Made 1 (pos 68) false ∷ Begun 1 2 ∷ IsVoid (coord 0 1 1) ∷ [])
   -- the run ends, and a step back is made
   pub an_ended_run : Answered (Halt ∷ []) (opened (empty 1) full_profile) (Step ∷ Step ∷ Group 1 ∷ Back ∷ [])
       (Made 1 (pos 23) true ∷ Ended ∷ Ended ∷ Returned 0 (pos 0) ∷ [])
