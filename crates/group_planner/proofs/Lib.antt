@@ -12,3 +12,4 @@ pub mod Singles
 pub mod Stamps
 pub mod Worked
 pub mod Written
+pub mod Examples

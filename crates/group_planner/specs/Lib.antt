@@ -5,3 +5,4 @@ pub mod Rows
 pub mod Runs
 pub mod Stamping
 pub mod Writing
+pub mod Worked

@@ -4,6 +4,7 @@
 #![tactic(auto)]
 
 mod count;
+mod laws;
 mod opening;
 mod pair;
 mod plan;
@@ -12,4 +13,5 @@ mod sweep;
 mod write;
 
 pub use count::{rows, runs};
+pub use laws::worked_rows;
 pub use plan::plan_groups;
