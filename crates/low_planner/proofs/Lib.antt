@@ -9,3 +9,4 @@ pub mod Sweeps
 pub mod Trails
 pub mod Reach
 pub mod Works
+pub mod Examples

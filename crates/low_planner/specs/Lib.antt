@@ -3,3 +3,4 @@ pub mod Commands
 pub mod Fault
 pub mod Supported
 pub mod Sweep
+pub mod Worked

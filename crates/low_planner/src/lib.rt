@@ -10,5 +10,5 @@ mod survey;
 mod sweep;
 
 pub use fault::LowFault;
-pub use laws::one_unsupported;
+pub use laws::{one_unsupported, worked_parts};
 pub use plan::plan_low;
