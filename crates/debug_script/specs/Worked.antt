@@ -6,7 +6,7 @@ use Rattle.nano_spec.specs.Line.{NotAscii, UnknownWord, Shape, Range}
 use Rattle.nano_spec.specs.State.{seed_set}
 use Rattle.step_debugger.specs.Session as session
 use Rattle.debug_script.specs.Printing.{printed_report}
-use Rattle.debug_script.specs.Script.{ScriptSays}
+use Rattle.debug_script.specs.Script.{AreShort, ScriptSays}
 
 -- scripts at resolution 3
 pub record WorkedScripts : Type 0 where
@@ -20,6 +20,12 @@ pub record WorkedScripts : Type 0 where
   pub a_blank_behind_a_word : ScriptSays 3 (codes "step \n") (Err (record { fault = Shape; line = 1 }))
   pub group_0 : ScriptSays 3 (codes "group 0\n") (Err (record { fault = Range; line = 1 }))
   pub group_41 : ScriptSays 3 (codes "back\ngroup 41\n") (Err (record { fault = Range; line = 2 }))
+  -- a number has five digits at most
+  pub a_bid_of_five_digits : ScriptSays 3 (codes "group 12345\n") (Err (record { fault = Range; line = 1 }))
+  pub six_digits_of_a_bid : AreShort (session.Group 100000) → ⊥
+  pub six_digits_of_x : AreShort (session.Voxel (coord 100000 0 0)) → ⊥
+  pub six_digits_of_y : AreShort (session.Voxel (coord 0 100000 0)) → ⊥
+  pub six_digits_of_z : AreShort (session.Voxel (coord 0 0 100000)) → ⊥
   pub x_past_the_matrix : ScriptSays 3 (codes "voxel 3 0 0\n") (Err (record { fault = Range; line = 1 }))
   pub y_past_the_matrix : ScriptSays 3 (codes "voxel 0 3 0\n") (Err (record { fault = Range; line = 1 }))
   pub z_past_the_matrix : ScriptSays 3 (codes "voxel 0 0 3\n") (Err (record { fault = Range; line = 1 }))
