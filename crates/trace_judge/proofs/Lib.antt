@@ -2,3 +2,4 @@ pub mod Alone
 pub mod Judging
 pub mod Running
 pub mod Works
+pub mod Examples

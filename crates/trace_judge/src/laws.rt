@@ -8,6 +8,7 @@ ghost use Rattle.nano_spec.specs.State.{State};
 ghost use Rattle.nano_spec.specs.Work.{Levels, Work, WorkOfStep};
 ghost use Rattle.run_progress.specs.Progress.{Progress, Pushes, begun};
 ghost use Rattle.trace_judge.specs.Payment.{IsPaid, Touches};
+ghost use Rattle.trace_judge.specs.Worked.{WorkedTouches};
 
 /// Every matrix has its levels, and so every step has a work, and every run.
 pub fn every_run_has_work()
@@ -31,4 +32,9 @@ pub fn the_work_pays()
         (start now n : ℕ)
         → IsPaid source profile commands p start now → Work source (commands ++ rest) profile n
         → now ≤ start + 100 * n + volume source.resolution }
+{}
+
+/// Worked examples of the touches that the work of a run pays for.
+pub fn worked_touches()
+    ensures { WorkedTouches }
 {}

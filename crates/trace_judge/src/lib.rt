@@ -7,5 +7,5 @@ mod pending;
 mod runner;
 mod taking;
 
-pub use laws::{every_run_has_work, the_work_pays};
+pub use laws::{every_run_has_work, the_work_pays, worked_touches};
 pub use runner::{Runner, judge, judge_by};
