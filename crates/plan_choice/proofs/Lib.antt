@@ -5,3 +5,4 @@ pub mod Empty
 pub mod Lengths
 pub mod OwnLayer
 pub mod Scanned
+pub mod Examples

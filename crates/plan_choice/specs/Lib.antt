@@ -1,3 +1,4 @@
 pub mod Better
 pub mod Crew
 pub mod Planners
+pub mod Worked

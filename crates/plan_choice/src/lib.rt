@@ -10,6 +10,7 @@ mod crew;
 mod extent;
 mod flips;
 mod four;
+mod laws;
 mod many;
 mod plain;
 mod plans;
@@ -25,6 +26,7 @@ pub use choice::{Price, cheaper, improvement};
 pub use crew::choose_crew_plan;
 pub use flips::{lower, lower_commands};
 pub use four::by_slabs;
+pub use laws::worked_plans;
 pub use many::{by_few, by_squads};
 pub use plans::{
     choose_group_plan, choose_layer_plan, choose_low_plan, choose_swarm_plan, choose_void_plan,
