@@ -1,8 +1,18 @@
 -- The worked examples of what is told, by computing.
-use Rattle.std.proofs.Common.{refl}
+use Rattle.std.proofs.Common.{◌≡◌, ◌+◌, refl, sym, subst, Bool}
+use Rattle.std.specs.Prelude.{Ok, Err, MatchBool, ⊤}
 use Rattle.std.specs.Fmt.{digits}
-use Rattle.group_planner.specs.Rows.{full_before, sum_below}
-use Rattle.nanobot_rows.specs.Worked.{WorkedBounds, WorkedLimits, WorkedLines}
+use Rattle.nano_spec.specs.Matrix.{Matrix}
+use Rattle.group_planner.specs.Bounds as group
+use Rattle.group_planner.specs.Rows.{full_before, rows, runs, sum_below}
+use Rattle.vox_geom.proofs.Tests.{test_less, test_not_less}
+use Rattle.nanobot_rows.specs.declared.report.Report.TheVariants as report
+use Rattle.nanobot_rows.specs.declared.status.Status.TheVariants as is
+use Rattle.nanobot_rows.specs.Answer.{Found}
+use Rattle.nanobot_rows.specs.Lines.{text_long_line, trace_long_line}
+use Rattle.nanobot_rows.specs.Report.{report_line}
+use Rattle.nanobot_rows.specs.Worked.{WorkedBounds, WorkedLengths, WorkedLimits, WorkedLines, WorkedStatuses}
+use Rattle.nanobot_rows.proofs.Loads.{fits}
 
 pub worked_lines : WorkedLines
 unfolding digits
@@ -60,4 +70,24 @@ worked_bounds = record {
   group_steps = refl;
   group_bytes = refl;
   void_steps = (refl, refl, refl);
+}
+
+pub worked_statuses : WorkedStatuses
+worked_statuses = record {
+  exit_statuses = refl;
+}
+
+-- a group plan, by whether it may be too long
+abbrev Choice : Matrix → Matrix → Bool → Found ⊤ → Type 0
+Choice source target long found =
+    MatchBool long
+    (found ≡ Err (is.Model, report_line (report.GroupLong (runs source + runs target) (rows source + rows target))))
+    (found ≡ Ok tt)
+
+pub worked_lengths : WorkedLengths
+worked_lengths = record {
+  of_a_text = λ files name bytes commands there few reads. (Ok bytes, fits files name bytes 1073741824 is.Text (text_long_line 1073741824) there few, rw reads refl);
+  of_a_trace_of_a_session = λ files source trace script bytes m commands lines reply found there few decodes says session. (Ok m, found, (Ok commands, (Ok bytes, fits files trace bytes 50000000 is.Trace (trace_long_line 50000000) there few, (Ok commands, decodes, refl)), (Ok lines, says, session)));
+  of_a_group_plan = λ files source target few. subst (λ (t : Bool). Choice source target t (Ok tt)) (sym (test_not_less 1073741824 (group.most_bytes source target) few)) refl;
+  of_too_long_a_group_plan = λ files source target many. subst (λ (t : Bool). Choice source target t (Err (is.Model, report_line (report.GroupLong (runs source + runs target) (rows source + rows target))))) (sym (test_less 1073741824 (group.most_bytes source target) many)) refl;
 }

@@ -1,12 +1,18 @@
 -- Worked examples of what is told: statuses and lines, limits, and numbers that plans are bounded by (docs/FORMATS.md,
 -- "Printed lines").
-use Rattle.std.specs.Prelude.{◌≡◌, ℕ, ◌*◌, ◌^◌, pos, negsuc, List, [], ◌∷◌, codes}
+use Rattle.std.specs.Prelude.{◌≡◌, ℕ, ◌+◌, ◌*◌, ◌^◌, ◌<◌, ◌≤◌, pos, negsuc, List, [], ◌∷◌, codes, map, length, Some, Ok, Err}
 use Rattle.vox_geom.specs.Point.{coord}
+use Rattle.vox_geom.specs.Space.{numbers_below}
+use Rattle.nano_spec.specs.declared.commands.Command.{Command}
 use Rattle.nano_spec.specs.declared.outcomes.Rule.TheVariants.{HaltLow, Ungrounded, Forbidden}
-use Rattle.nano_spec.specs.Matrix.{empty, full_count}
+use Rattle.nano_spec.specs.Cutting.{Decoding}
+use Rattle.nano_spec.specs.Matrix.{Matrix, empty, full_count}
+use Rattle.nano_spec.specs.Reading.{read}
 use Rattle.nano_spec.specs.Worked.{voxels_at}
 use Rattle.model_file.specs.declared.fault.ModelRefusal.TheVariants as model
 use Rattle.trace_text.specs.declared.fault.TextRefusal.TheVariants as text
+use Rattle.vox_depot.specs.Files.{Files, content}
+use Rattle.step_debugger.specs.Session.{DebugLine}
 use Rattle.group_planner.specs.Bounds as group
 use Rattle.group_planner.specs.Rows.{rows, runs}
 use Rattle.swarm_planner.specs.Bounds.{width}
@@ -14,8 +20,11 @@ use Rattle.void_planner.specs.Bounds as void
 use Rattle.nanobot_rows.specs.declared.report.Report.{Report}
 use Rattle.nanobot_rows.specs.declared.report.Report.TheVariants as report
 use Rattle.nanobot_rows.specs.declared.report.Who.TheVariants as who
-use Rattle.nanobot_rows.specs.Answer.{dis_limit, group_limit, run_limit, script_limit, text_limit}
+use Rattle.nanobot_rows.specs.declared.status.Status.TheVariants as is
+use Rattle.nanobot_rows.specs.Answer.{AnswerOf, CanPlan, ModelOf, OfSession, Reply, ScriptOf, TextOf, dis_limit, group_limit, run_limit, script_limit, text_limit}
 use Rattle.nanobot_rows.specs.Report.{code_of, report_line, status_of}
+use Rattle.nanobot_words.specs.declared.planner.Planner.TheVariants.{Group}
+use Rattle.nanobot_words.specs.Rows.{debug}
 
 -- the exit status and the line of a report
 abbrev pub told : Report → ℕ × List ℕ
@@ -66,6 +75,11 @@ pub record WorkedLines : Type 0 where
   pub a_long_text : told (report.TextLong 60) ≡ (8, codes "text longer than 60\n")
   pub an_unsupported_part : told (report.Unsupported (coord 1 20 3)) ≡ (9, codes "unsupported at 1 20 3\n")
 
+-- the exit status of each status
+pub record WorkedStatuses : Type 0 where
+  pub exit_statuses : map code_of (is.Done ∷ is.Broken ∷ is.Words ∷ is.Model ∷ is.Trace ∷ is.Depot ∷ is.Sink ∷ is.Memory
+      ∷ is.Text ∷ is.Unsupported ∷ []) ≡ numbers_below 10
+
 -- how many bytes of a file are read at most
 pub record WorkedLimits : Type 0 where
   pub of_a_run : run_limit ≡ 2 ^ 30
@@ -84,3 +98,18 @@ pub record WorkedBounds : Type 0 where
   pub group_bytes : group.most_bytes (voxels_at 3 (coord 1 0 0 ∷ coord 1 0 2 ∷ coord 2 0 0 ∷ [])) (empty 3) ≡ 5388
   pub void_steps :
       (void.most_void_steps 31 ≡ 696) × (void.most_void_steps 32 ≡ 1480) × (void.most_void_steps 250 ≡ 164200)
+
+-- what is so long as may be is answered, and a group plan that may be too long is refused with its runs and rows
+pub record WorkedLengths : Type 0 where
+  pub of_a_text : (files : Files) (name bytes : List ℕ) (commands : List Command) → content files name ≡ Some bytes
+      → length bytes ≤ 2 ^ 30 → read bytes ≡ Ok commands → TextOf name files (Ok commands)
+  pub of_a_trace_of_a_session : (files : Files) (source trace script bytes : List ℕ) (m : Matrix)
+      (commands : List Command) (lines : List DebugLine) (reply : Reply) → ModelOf who.Source source files (Ok m)
+      → content files trace ≡ Some bytes → length bytes ≤ 50 * 1000 * 1000 → Decoding bytes (Ok commands)
+      → ScriptOf m.resolution script files (Ok lines) → OfSession m commands lines files reply
+      → AnswerOf (debug source trace script) files reply
+  pub of_a_group_plan : (files : Files) (source target : Matrix) → group.most_bytes source target ≤ 2 ^ 30
+      → CanPlan Group source target files (Ok tt)
+  pub of_too_long_a_group_plan : (files : Files) (source target : Matrix) → 2 ^ 30 < group.most_bytes source target
+      → CanPlan Group source target files
+      (Err (is.Model, report_line (report.GroupLong (runs source + runs target) (rows source + rows target))))
