@@ -8,3 +8,4 @@ pub mod Numbers
 pub mod Outcomes
 pub mod Plans
 pub mod SomeVerdict
+pub mod Examples

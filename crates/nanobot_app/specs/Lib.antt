@@ -1,3 +1,4 @@
 pub mod Headline
 pub mod Outcome
 pub mod Plans
+pub mod Worked

@@ -1,10 +1,11 @@
-//! The laws of the answers.
+//! The laws of the answers, and worked examples of what a call does.
 ghost use Rattle.std.specs.Prelude.{◌≡◌, ℕ, ℤ, List, Option, Some};
 ghost use Rattle.vox_depot.specs.Files.{Files};
 ghost use Rattle.nanobot_rows.specs.Answer.{Answer, AnswerOf, AskNoPlan, Reply};
 ghost use Rattle.nanobot_rows.specs.Lines.{accepted_line};
 ghost use Rattle.nanobot_app.specs.Headline.{IsCost, MachineTakes};
 ghost use Rattle.nanobot_app.specs.Plans.{IsRunOfPlan, PlansAsLight};
+ghost use Rattle.nanobot_app.specs.Worked.{WorkedOutcomes};
 ghost use Rattle.nanobot_words.specs.Rows.{HasName, IsInNoRow, asm, check, debug, dis, make, plan, run};
 ghost use Rattle.nanobot_words.specs.declared.planner.Planner.{Planner};
 ghost use Rattle.nanobot_words.specs.declared.row.Round.{Round};
@@ -79,3 +80,8 @@ pub fn a_plan_is_accepted()
 {
     a_model_is_whole();
 }
+
+/// Worked examples of what a call has done to the outside.
+pub fn worked_outcomes()
+    ensures { WorkedOutcomes }
+{}

@@ -4,6 +4,8 @@
 mod laws;
 mod top_call;
 
-pub use laws::{a_plan_is_accepted, costs_are_told_apart, one_answer, some_answer};
+pub use laws::{
+    a_plan_is_accepted, costs_are_told_apart, one_answer, some_answer, worked_outcomes,
+};
 pub use nanobot_rows::Status;
 pub use top_call::drive;
