@@ -28,6 +28,7 @@ mod void_planner;
 mod vox_geom;
 mod vox_planes;
 
+use counter_permit::CounterPermit;
 use group_planner::{plan_groups, rows, runs};
 use layer_planner::plan_layers;
 use plan_choice::{choose_crew_plan, choose_group_plan, choose_layer_plan, choose_low_plan, choose_swarm_plan, choose_void_plan};
@@ -191,7 +192,7 @@ fn run(words: &[String]) {
     let (source, target) = load_both(words);
     let trace = std::fs::read(&words[3]).expect("a file");
     let loaded = begun.elapsed();
-    let mut steps: Steps<Brand> = Steps::new(Blank::new(1));
+    let mut steps: Steps<Brand> = Steps::new(Blank::new(1), CounterPermit);
     let runner = Runner::start(Global, source, Profile::full(), &mut steps).ok().expect("memory");
     let started = begun.elapsed();
     let mut run = TraceRun { decoder: Decoder::new(), runner };

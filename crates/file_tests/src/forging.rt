@@ -3,6 +3,7 @@
 ghost use Rattle.vox_geom.specs.Counting.{IsBlankOf};
 
 use crate::voxels::at;
+use counter_permit::CounterPermit;
 use model_forge::forge;
 use std::alloc::Global;
 use std::marker::Brand;
@@ -26,7 +27,7 @@ fn assert_full<L: Ledger>(rt: &impl Abort, planes: &Planes, want: &[Coord], step
 fn worked<L: Ledger>(rt: &impl Abort, blank: Blank, alloc: Global) -> Result<(), Memory>
     requires blank { IsBlankOf blank L.name L.parts }
 {
-    let mut steps: Steps<L> = Steps::new(blank);
+    let mut steps: Steps<L> = Steps::new(blank, CounterPermit);
     let two = forge(alloc, 0, 3)?;
     assert_full(rt, &two, &[at(1, 0, 1), at(1, 1, 1)], &mut steps);
     let none = forge(alloc, 1, 3)?;

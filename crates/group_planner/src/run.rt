@@ -6,6 +6,7 @@ ghost use Rattle.vox_planes.specs.Voxel.{is_state};
 ghost use Rattle.vox_planes.specs.Walk.{row};
 ghost use Rattle.group_planner.specs.Runs.{IsCut, IsRunEnd, IsNextRun, IsNoRun, IsRun};
 
+use counter_permit::CounterPermit;
 use std::marker::Brand;
 use std::sync::ledger::{Blank, Ledger};
 use vox_geom::{Coord, Steps};
@@ -35,7 +36,7 @@ fn next_in<L: Ledger>(
     requires blank { IsBlankOf blank L.name L.parts }
     ensures { result ≡ find (is_state planes.now full) (row first last) }
 {
-    let mut steps: Steps<L> = Steps::new(blank);
+    let mut steps: Steps<L> = Steps::new(blank, CounterPermit);
     planes.row_next(first, last, full, &mut steps)
 }
 

@@ -8,6 +8,7 @@ ghost use Rattle.nano_spec.specs.Verdict.{VerdictOf};
 ghost use Rattle.vox_planes.specs.Voxel.{with_voxel};
 ghost use Rattle.judged_list.specs.Listed.{commands as commands_of, full_voxel};
 
+use counter_permit::CounterPermit;
 use nano_spec::{Command, Verdict};
 use std::alloc::Global;
 use std::marker::Brand;
@@ -31,7 +32,7 @@ fn judge_in<L: Ledger>(
     requires blank { IsBlankOf blank L.name L.parts }
     ensures { IfOk result (λ v. VerdictOf (empty r) (with_voxel (empty r) full true) commands.now full_profile v) }
 {
-    let mut steps: Steps<L> = Steps::new(blank);
+    let mut steps: Steps<L> = Steps::new(blank, CounterPermit);
     let source = Planes::empty(alloc, r)?;
     let mut target = Planes::empty(alloc, r)?;
     target.set(full, true);

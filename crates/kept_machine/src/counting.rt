@@ -4,6 +4,7 @@ ghost use Rattle.vox_geom.specs.Counting.{IsBlankOf};
 ghost use Rattle.nano_spec.specs.Model.{volume as volume_of};
 ghost use Rattle.kept_machine.specs.Calls.{difference_count};
 
+use counter_permit::CounterPermit;
 use std::sync::ledger::{Blank, Ledger};
 use vox_geom::Steps;
 use vox_planes::Planes;
@@ -24,7 +25,7 @@ pub(crate) fn count_differences<L: Ledger>(matrix: &Planes, target: &Planes, bla
     requires blank { IsBlankOf blank L.name L.parts }
     ensures { result ≡ difference_count matrix.now target.now }
 {
-    let mut steps = Steps::<L>::new(blank);
+    let mut steps = Steps::<L>::new(blank, CounterPermit);
     let places = volume(matrix);
     let mut count = 0;
     let mut from = 0;

@@ -9,6 +9,7 @@ ghost use Rattle.kept_machine.specs.Calls.{TellsLevel};
 
 use crate::fault::NoLevel;
 use crate::stepping::stand_again;
+use counter_permit::CounterPermit;
 use std::alloc::Global;
 use std::sync::ledger::{Blank, Ledger};
 use step_machine::Machine;
@@ -30,7 +31,7 @@ pub(crate) fn is_full_at<L: Ledger>(matrix: &Planes, c: Coord, blank: Blank) -> 
     if !is_in_space(c, matrix.resolution()) {
         return false;
     }
-    let mut steps = Steps::<L>::new(blank);
+    let mut steps = Steps::<L>::new(blank, CounterPermit);
     matrix.full_at(c, &mut steps)
 }
 
@@ -39,7 +40,7 @@ pub(crate) fn count_full<L: Ledger>(matrix: &Planes, blank: Blank) -> u32
     requires blank { IsBlankOf blank L.name L.parts }
     ensures { result ≡ count_by (is_full matrix.now) (all_of matrix.now) }
 {
-    let mut steps = Steps::<L>::new(blank);
+    let mut steps = Steps::<L>::new(blank, CounterPermit);
     matrix.count(&mut steps)
 }
 
@@ -53,7 +54,7 @@ pub(crate) fn least_difference<L: Ledger>(
     requires blank { IsBlankOf blank L.name L.parts }
     ensures { result ≡ first_difference matrix.now target.now }
 {
-    let mut steps = Steps::<L>::new(blank);
+    let mut steps = Steps::<L>::new(blank, CounterPermit);
     matrix.equal(target, &mut steps)
 }
 
@@ -73,7 +74,7 @@ pub(crate) fn find_level<L: Ledger>(
     if !is_in_space(c, machine.matrix().resolution()) {
         return Err(NoLevel::Outside);
     }
-    let mut steps = Steps::<L>::new(blank);
+    let mut steps = Steps::<L>::new(blank, CounterPermit);
     match stand_again(alloc, machine, &mut steps) {
         Ok(()) => Ok(machine.level(c, &mut steps)),
         Err(_) => Err(NoLevel::Memory),

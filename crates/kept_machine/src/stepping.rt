@@ -13,6 +13,7 @@ ghost use Rattle.kept_machine.specs.Kept.{CanStep, CannotStep, IsNoted, kept_of,
 use crate::fault::NoStep;
 use crate::trace::Trace;
 use circular_buffer::HeapCircularBuffer;
+use counter_permit::CounterPermit;
 use model_file::{ModelFault, legal};
 use nano_spec::{Command, Profile, opening_is_well_formed};
 use std::alloc::Global;
@@ -42,7 +43,7 @@ pub(crate) fn start_over<L: Ledger>(
 {
     opening_is_well_formed();
     legal(alloc, &source)?;
-    let mut steps = Steps::<L>::new(blank);
+    let mut steps = Steps::<L>::new(blank, CounterPermit);
     let machine = Machine::start(alloc, source, profile, &mut steps)?;
     match HeapCircularBuffer::with_capacity(alloc, usize::from(room)) {
         Ok(notes) => Ok((machine, notes)),
@@ -62,7 +63,7 @@ pub(crate) fn copy_of<L: Ledger>(
     ensures machine { IfOk result (λ made. made.0 ≡ record machine.now { spent = false }) }
     ensures notes { IfOk result (λ made. made.1 ≡ buffer [] room) }
 {
-    let mut steps = Steps::<L>::new(blank);
+    let mut steps = Steps::<L>::new(blank, CounterPermit);
     let copy = machine.anew(alloc, &mut steps)?;
     match HeapCircularBuffer::with_capacity(alloc, room) {
         Ok(notes) => Ok((copy, notes)),
@@ -166,7 +167,7 @@ fn try_step<L: Ledger>(
         (kept_of machine.new notes.new (tried trace commands.now result)) result }
 {
     ready(machine, commands)?;
-    let mut steps = Steps::<L>::new(blank);
+    let mut steps = Steps::<L>::new(blank, CounterPermit);
     stand_again(alloc, machine, &mut steps)?;
     if notes.capacity() == 0 {
         return step_once(machine, notes, commands, &mut steps);
@@ -238,7 +239,7 @@ pub(crate) fn judge_step<L: Ledger>(
         → WouldAnswer (kept_of machine.old notes trace) commands.now result }
 {
     ready(machine, commands)?;
-    let mut steps = Steps::<L>::new(blank);
+    let mut steps = Steps::<L>::new(blank, CounterPermit);
     stand_again(alloc, machine, &mut steps)?;
     step_and_restore(machine, commands, &mut steps)
 }
@@ -258,7 +259,7 @@ fn take_back<L: Ledger>(
     let Some(undo) = notes.back() else {
         return false;
     };
-    let mut steps = Steps::<L>::new(blank);
+    let mut steps = Steps::<L>::new(blank, CounterPermit);
     machine.restore(undo, &mut steps);
     notes.pop_back();
     true

@@ -8,6 +8,7 @@ use crate::WIDE_MARK;
 use crate::fault::{ModelFault, ModelRefusal};
 use crate::first_form::{FIRST_FORM_MOST_R, read_first, write_first};
 use crate::wide_form::{read_wide, write_wide};
+use counter_permit::CounterPermit;
 use std::alloc::Global;
 use std::marker::Brand;
 use std::sync::ledger::{Blank, Ledger};
@@ -32,7 +33,7 @@ fn write_by<L: Ledger>(alloc: Global, planes: &Planes, blank: Blank) -> Result<V
     requires blank { IsBlankOf blank L.name L.parts }
     ensures { IfOk result (λ bytes. bytes.items ≡ written planes.now) }
 {
-    let mut steps: Steps<L> = Steps::new(blank);
+    let mut steps: Steps<L> = Steps::new(blank, CounterPermit);
     if planes.resolution() > u16::from(FIRST_FORM_MOST_R) {
         return write_wide(alloc, planes, &mut steps);
     }

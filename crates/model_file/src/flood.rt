@@ -9,6 +9,7 @@ ghost use Rattle.model_file.specs.declared.flood.Flood.{Flood as FloodModel};
 ghost use Rattle.model_file.specs.Flood.{AreOut, IsAmong, IsBegun, IsBeside, IsFlood, IsNextTo, IsStart, LooksAround, TakesOut, weight};
 
 use crate::least::least_full;
+use counter_permit::CounterPermit;
 use std::alloc::Global;
 use std::marker::Brand;
 use std::sync::ledger::{Blank, Ledger};
@@ -330,7 +331,7 @@ fn first_ungrounded_in<L: Ledger>(
     requires blank { IsBlankOf blank L.name L.parts }
     ensures { IfOk result (λ at. FirstUngrounded planes.now at) }
 {
-    let mut steps: Steps<L> = Steps::new(blank);
+    let mut steps: Steps<L> = Steps::new(blank, CounterPermit);
     if planes.is_heap(&mut steps) {
         return Ok(None);
     }

@@ -5,6 +5,7 @@ ghost use Rattle.vox_geom.specs.Least.{LeastOf};
 ghost use Rattle.nano_spec.specs.Legal.{in_legal_box};
 ghost use Rattle.nano_spec.specs.Matrix.{is_full};
 
+use counter_permit::CounterPermit;
 use std::marker::Brand;
 use std::sync::ledger::{Blank, Ledger};
 use vox_geom::{Coord, Region, Steps};
@@ -15,7 +16,7 @@ fn least_full_in<L: Ledger>(planes: &Planes, blank: Blank) -> Option<Coord>
     requires blank { IsBlankOf blank L.name L.parts }
     ensures { LeastOf planes.now.resolution (is_full planes.now) result }
 {
-    let mut steps: Steps<L> = Steps::new(blank);
+    let mut steps: Steps<L> = Steps::new(blank, CounterPermit);
     let end = planes.resolution() - 1;
     let low = Coord { x: 0, y: 0, z: 0 };
     let all = Region::of(
@@ -42,7 +43,7 @@ fn first_outside_in<L: Ledger>(planes: &Planes, blank: Blank) -> Option<Coord>
     ensures { LeastOf planes.now.resolution (λ c. is_full planes.now c && not (in_legal_box planes.now.resolution c))
         result }
 {
-    let mut steps: Steps<L> = Steps::new(blank);
+    let mut steps: Steps<L> = Steps::new(blank, CounterPermit);
     let end = planes.resolution() - 1;
     let low = Coord { x: 0, y: 0, z: 0 };
     let high = Coord {

@@ -5,6 +5,7 @@
 ghost use Rattle.vox_geom.specs.Counting.{IsBlankOf};
 ghost use Rattle.nanobot_words.specs.Rows.{MayRead, MayStore, texts};
 
+use counter_permit::CounterPermit;
 use nanobot_app::{Status, drive};
 use std::alloc::{AllocError, Global};
 use std::env;
@@ -49,7 +50,7 @@ fn run_counted<D: Depot, O: Sink, L: Ledger>(
     requires may_fetch { MayRead D.may_fetch (texts words.now) }
     requires may_store { MayStore D.may_store (texts words.now) }
 {
-    let mut steps = Steps::<L>::new(blank);
+    let mut steps = Steps::<L>::new(blank, CounterPermit);
     drive(alloc, words, depot, out, &mut steps)
 }
 

@@ -13,6 +13,7 @@ ghost use Rattle.nanobot_c.specs.Given.{Gave, GaveNoRow, IsMemory, MayGive, file
 ghost use Rattle.nanobot_c.specs.Lent.{lent_files};
 
 use crate::lent::{Lent, LentFiles};
+use counter_permit::CounterPermit;
 use nanobot_rows::{Effect, Message, Report, Status, Stop, answer};
 use nanobot_words::Row;
 use std::alloc::Global;
@@ -96,7 +97,7 @@ fn ask_counted<L: Ledger>(
     ensures named { IfOk result (IsFor (stores_of (row_of row.entry))) }
 {
     let mut files = LentFiles { lent, faults: 0 };
-    let mut steps = Steps::<L>::new(blank);
+    let mut steps = Steps::<L>::new(blank, CounterPermit);
     let effect = answer(alloc, row, &mut files, &mut steps);
     if files.faults > 0 {
         return Err(Stop::Memory);

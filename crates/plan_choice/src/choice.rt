@@ -6,6 +6,7 @@ ghost use Rattle.plan_tape.specs.Progress.{IsAccepted};
 ghost use Rattle.plan_choice.specs.Better.{CanImprove, CanRun, IsBetter, IsChosen, MayStandFor};
 
 use crate::bounds::{Bounds, MOST_COMMANDS, bytes_of, fissions_of};
+use counter_permit::CounterPermit;
 use nano_spec::{Command, CommandList, Profile, Verdict, one_verdict};
 use plan_tape::Plan;
 use std::alloc::Global;
@@ -37,7 +38,7 @@ fn judged_in<L: Ledger>(
     requires blank { IsBlankOf blank L.name L.parts }
     ensures { IfOk result (λ v. VerdictOf source.now target.now commands.now profile v) }
 {
-    let mut steps: Steps<L> = Steps::new(blank);
+    let mut steps: Steps<L> = Steps::new(blank, CounterPermit);
     judge_by(
         alloc,
         source.copy(alloc)?,

@@ -6,6 +6,7 @@ ghost use Rattle.plan_choice.specs.Better.{CanImprove, CanRun, MayStandFor};
 use crate::alone::affordable;
 use crate::bounds::Bounds;
 use crate::choice::cheaper;
+use counter_permit::CounterPermit;
 use nano_spec::{Command, CommandList, Harmonics, Profile};
 use plan_tape::Plan;
 use std::alloc::Global;
@@ -67,7 +68,7 @@ fn lowered_in<L: Ledger>(
     requires run { CanRun source.now profile }
     requires blank { IsBlankOf blank L.name L.parts }
 {
-    let mut steps: Steps<L> = Steps::new(blank);
+    let mut steps: Steps<L> = Steps::new(blank, CounterPermit);
     let mut machine = Machine::start(alloc, source.copy(alloc)?, profile, &mut steps)?;
     let mut draft = Draft {
         commands: CommandList::new(alloc),

@@ -5,6 +5,7 @@ ghost use Rattle.vox_geom.specs.Least.{LeastOf};
 ghost use Rattle.vox_planes.specs.Difference.{in_layer_differ};
 ghost use Rattle.plan_tape.specs.Lowest.{IsLowest};
 
+use counter_permit::CounterPermit;
 use std::marker::Brand;
 use std::sync::ledger::{Blank, Ledger};
 use vox_geom::{Coord, Steps};
@@ -17,7 +18,7 @@ fn difference_in<L: Ledger>(source: &Planes, target: &Planes, y: u16, blank: Bla
     requires blank { IsBlankOf blank L.name L.parts }
     ensures { LeastOf source.now.resolution (in_layer_differ source.now target.now y) result }
 {
-    let mut steps: Steps<L> = Steps::new(blank);
+    let mut steps: Steps<L> = Steps::new(blank, CounterPermit);
     source.layer_difference(target, y, &mut steps)
 }
 

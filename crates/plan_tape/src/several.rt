@@ -7,6 +7,7 @@ ghost use Rattle.nano_spec.specs.Step.{after};
 ghost use Rattle.vox_planes.specs.Voxel.{IsWhole};
 ghost use Rattle.system_state.specs.Bounds.{IsPayable};
 
+use counter_permit::CounterPermit;
 use energy_sum::a_step_changes_the_energy_by_little;
 use nano_spec::Command;
 use std::marker::Brand;
@@ -22,7 +23,7 @@ fn advance_in<L: Ledger>(system: &mut System, turns: &mut Turns, commands: &[Com
     requires blank { IsBlankOf blank L.name L.parts }
     ensures { system.new ≡ after system.old commands.now }
 {
-    let mut steps: Steps<L> = Steps::new(blank);
+    let mut steps: Steps<L> = Steps::new(blank, CounterPermit);
     system.list_turns(commands, turns);
     system.advance(commands, turns, &mut steps);
 }

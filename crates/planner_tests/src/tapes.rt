@@ -6,6 +6,7 @@ ghost use Rattle.nano_spec.specs.Grounded.{FirstUngrounded};
 ghost use Rattle.plan_tape.specs.Progress.{state_of};
 
 use crate::models::{at, model};
+use counter_permit::CounterPermit;
 use model_file::first_ungrounded;
 use nano_spec::{Command, Profile};
 use plan_tape::{Plan, Tape, lowest_difference};
@@ -146,7 +147,7 @@ fn planned<L: Ledger>(
 fn of_two<L: Ledger>(rt: &impl Abort, alloc: Global, blank: Blank) -> Result<Plan, Memory>
     requires blank { IsBlankOf blank L.name L.parts }
 {
-    let mut steps: Steps<L> = Steps::new(blank);
+    let mut steps: Steps<L> = Steps::new(blank, CounterPermit);
     let source = Planes::empty(alloc, 3)?;
     planned(rt, alloc, source, &mut steps)
 }

@@ -3,6 +3,7 @@ ghost use Rattle.vox_geom.specs.Counting.{IsBlankOf};
 
 use crate::asserted::{assert_goes, assert_made};
 use crate::common::{far, long, near, source};
+use counter_permit::CounterPermit;
 use nano_spec::{Command, Profile};
 use std::alloc::Global;
 use std::marker::Brand;
@@ -91,7 +92,7 @@ fn cube(alloc: Global) -> Result<Vec<Coord>, Memory> {
 fn block<L: Ledger>(rt: &impl Abort, blank: Blank, alloc: Global) -> Result<(), Memory>
     requires blank { IsBlankOf blank L.name L.parts }
 {
-    let mut steps: Steps<L> = Steps::new(blank);
+    let mut steps: Steps<L> = Steps::new(blank, CounterPermit);
     let block = source(rt, alloc, 5, &cube(alloc)?, &mut steps)?;
     let mut machine = Machine::start(alloc, block, Profile::full(), &mut steps)?;
     five_bots(rt, &mut machine, &mut steps);

@@ -2,6 +2,7 @@
 ghost use Rattle.vox_geom.specs.Counting.{IsBlankOf};
 
 use crate::common::{at, empty, long, near};
+use counter_permit::CounterPermit;
 use nano_spec::{Bot, Broken, Command, CommandList, Profile, Rule};
 use std::alloc::Global;
 use std::marker::Brand;
@@ -134,7 +135,7 @@ fn made_by_groups<L: Ledger>(rt: &impl Abort, debugger: &mut Debugger, steps: &m
 fn walk<L: Ledger>(rt: &impl Abort, blank: Blank, alloc: Global) -> Result<(), Memory>
     requires blank { IsBlankOf blank L.name L.parts }
 {
-    let mut steps: Steps<L> = Steps::new(blank);
+    let mut steps: Steps<L> = Steps::new(blank, CounterPermit);
     let trace = [
         Command::Fission(near(rt, 0, 0, 1), 0),
         Command::Fill(near(rt, 1, 0, 0)),
@@ -167,7 +168,7 @@ fn a_trace_is_walked_forwards_and_backwards(rt: HostRuntime) -> Result<(), Fail>
 fn floating<L: Ledger>(rt: &impl Abort, blank: Blank, alloc: Global) -> Result<(), Memory>
     requires blank { IsBlankOf blank L.name L.parts }
 {
-    let mut steps: Steps<L> = Steps::new(blank);
+    let mut steps: Steps<L> = Steps::new(blank, CounterPermit);
     let above = at(1, 1, 0);
     let trace = [Command::Fill(near(rt, 1, 1, 0))];
     let mut debugger = debugger(rt, alloc, &trace, &mut steps)?;

@@ -4,6 +4,7 @@ ghost use Rattle.vox_geom.specs.Counting.{IsBlankOf};
 use crate::bots::{are_within, one_bot, two_bots};
 use crate::common::{at, far, near};
 use bot_crew::Crew;
+use counter_permit::CounterPermit;
 use nano_spec::{Command, Harmonics, Profile};
 use std::alloc::Global;
 use std::marker::Brand;
@@ -82,7 +83,7 @@ fn assert_filling(rt: &impl Abort, groups: &Groups) {
 fn of_groups<L: Ledger>(rt: &impl Abort, blank: Blank, alloc: Global) -> Result<(), Memory>
     requires blank { IsBlankOf blank L.name L.parts }
 {
-    let mut steps: Steps<L> = Steps::new(blank);
+    let mut steps: Steps<L> = Steps::new(blank, CounterPermit);
     let planes = Planes::empty(alloc, 5)?;
     let crew = two_bots(rt, at(0, 0, 3));
     let first = Command::GFill(near(rt, 1, 0, 1), far(rt, 0, 0, 2));

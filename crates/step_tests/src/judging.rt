@@ -2,6 +2,7 @@
 ghost use Rattle.vox_geom.specs.Counting.{IsBlankOf};
 
 use crate::common::{at, empty, long, near, source};
+use counter_permit::CounterPermit;
 use nano_spec::{Broken, Command, Rule, Verdict};
 use std::alloc::Global;
 use std::marker::Brand;
@@ -41,7 +42,7 @@ fn assert_verdict<L: Ledger>(
 fn traces<L: Ledger>(rt: &impl Abort, blank: Blank, alloc: Global) -> Result<(), Memory>
     requires blank { IsBlankOf blank L.name L.parts }
 {
-    let mut steps: Steps<L> = Steps::new(blank);
+    let mut steps: Steps<L> = Steps::new(blank, CounterPermit);
     let trace = [
         Command::SMove(long(rt, 1, 0, 0)),
         Command::Fill(near(rt, 0, 0, 1)),

@@ -3,6 +3,7 @@ ghost use Rattle.vox_geom.specs.Counting.{IsBlankOf};
 
 use crate::asserted::{assert_goes, assert_level, assert_made, assert_refused, ungrounded};
 use crate::common::{at, empty, near, source};
+use counter_permit::CounterPermit;
 use nano_spec::{Command, Harmonics, Profile};
 use std::alloc::Global;
 use std::marker::Brand;
@@ -24,7 +25,7 @@ fn assert_kept<L: Ledger>(rt: &impl Abort, machine: &Machine, steps: &mut Steps<
 fn posts<L: Ledger>(rt: &impl Abort, blank: Blank, alloc: Global) -> Result<(), Memory>
     requires blank { IsBlankOf blank L.name L.parts }
 {
-    let mut steps: Steps<L> = Steps::new(blank);
+    let mut steps: Steps<L> = Steps::new(blank, CounterPermit);
     let source = empty(alloc, 4)?;
     let mut machine = Machine::start(alloc, source, Profile::full(), &mut steps)?;
     let fill = [Command::Fill(near(rt, 1, 0, 0))];
@@ -99,7 +100,7 @@ fn ring_levels<L: Ledger>(
 fn rings<L: Ledger>(rt: &impl Abort, blank: Blank, alloc: Global) -> Result<(), Memory>
     requires blank { IsBlankOf blank L.name L.parts }
 {
-    let mut steps: Steps<L> = Steps::new(blank);
+    let mut steps: Steps<L> = Steps::new(blank, CounterPermit);
     let posts = [at(1, 0, 1), at(3, 0, 3)];
     let void = [Command::Void(near(rt, 1, 0, 1))];
     let mut machine = ring(rt, alloc, &posts, &mut steps)?;

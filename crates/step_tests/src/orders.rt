@@ -9,6 +9,7 @@ use crate::asserted::assert_made;
 use crate::common::{empty, long, near};
 use arrayvec::ArrayVec;
 use bot_crew::MOST_BOTS;
+use counter_permit::CounterPermit;
 use nano_spec::{Command, Profile};
 use std::alloc::Global;
 use std::marker::Brand;
@@ -95,7 +96,7 @@ fn both_orders<L: Ledger>(
 fn orders<L: Ledger>(rt: &impl Abort, blank: Blank, alloc: Global) -> Result<(), Memory>
     requires blank { IsBlankOf blank L.name L.parts }
 {
-    let mut steps: Steps<L> = Steps::new(blank);
+    let mut steps: Steps<L> = Steps::new(blank, CounterPermit);
     let moves = [Command::Wait, Command::SMove(long(rt, 0, 0, 2))];
     both_orders(rt, alloc, &moves, 838, &mut steps)?;
     let changes = [
@@ -154,7 +155,7 @@ fn made_and_undone<L: Ledger>(
 fn noted<L: Ledger>(rt: &impl Abort, blank: Blank, alloc: Global) -> Result<(), Memory>
     requires blank { IsBlankOf blank L.name L.parts }
 {
-    let mut steps: Steps<L> = Steps::new(blank);
+    let mut steps: Steps<L> = Steps::new(blank, CounterPermit);
     let mut machine = empty_machine(alloc, &mut steps)?;
     let fill = [Command::Fill(near(rt, 1, 0, 0))];
     made_and_undone(rt, &mut machine, &fill, &mut steps)?;

@@ -4,6 +4,7 @@ ghost use Rattle.vox_geom.specs.Counting.{IsBlankOf};
 use crate::bots::{are_within, one_bot, two_bots};
 use crate::common::{at, far, long, near};
 use bot_crew::Crew;
+use counter_permit::CounterPermit;
 use nano_spec::{Broken, Command, Harmonics, Profile, Rule};
 use std::alloc::Global;
 use std::marker::Brand;
@@ -63,7 +64,7 @@ fn at_origin(rule: Rule) -> Option<Broken> {
 fn of_one<L: Ledger>(rt: &impl Abort, blank: Blank, alloc: Global) -> Result<(), Memory>
     requires blank { IsBlankOf blank L.name L.parts }
 {
-    let mut steps: Steps<L> = Steps::new(blank);
+    let mut steps: Steps<L> = Steps::new(blank, CounterPermit);
     let mut planes = Planes::empty(alloc, 3)?;
     planes.set(at(1, 0, 1), true);
     let corner = Scene {
@@ -122,7 +123,7 @@ fn one_bot_breaks_rules(rt: HostRuntime) -> Result<(), Fail> {
 fn of_light<L: Ledger>(rt: &impl Abort, blank: Blank, alloc: Global) -> Result<(), Memory>
     requires blank { IsBlankOf blank L.name L.parts }
 {
-    let mut steps: Steps<L> = Steps::new(blank);
+    let mut steps: Steps<L> = Steps::new(blank, CounterPermit);
     let planes = Planes::empty(alloc, 3)?;
     let light = Profile::light();
     let scene = Scene {
@@ -157,7 +158,7 @@ fn the_light_profile_forbids(rt: HostRuntime) -> Result<(), Fail> {
 fn of_two<L: Ledger>(rt: &impl Abort, blank: Blank, alloc: Global) -> Result<(), Memory>
     requires blank { IsBlankOf blank L.name L.parts }
 {
-    let mut steps: Steps<L> = Steps::new(blank);
+    let mut steps: Steps<L> = Steps::new(blank, CounterPermit);
     let planes = Planes::empty(alloc, 5)?;
     let scene = Scene {
         crew: &two_bots(rt, at(0, 0, 1)),

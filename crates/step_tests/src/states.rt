@@ -3,6 +3,7 @@
 ghost use Rattle.vox_geom.specs.Counting.{IsBlankOf};
 
 use crate::common::{long, near};
+use counter_permit::CounterPermit;
 use nano_spec::{Command, Profile, Rule};
 use std::alloc::Global;
 use std::marker::Brand;
@@ -74,7 +75,7 @@ fn assert_ended<L: Ledger>(rt: &impl Abort, system: &System, full: u32, steps: &
 fn of_one<L: Ledger>(rt: &impl Abort, blank: Blank, alloc: Global) -> Result<(), Memory>
     requires blank { IsBlankOf blank L.name L.parts }
 {
-    let mut steps: Steps<L> = Steps::new(blank);
+    let mut steps: Steps<L> = Steps::new(blank, CounterPermit);
     let mut turns = Turns::new();
     let mut system = System::opening(Planes::empty(alloc, 3)?, Profile::full());
     let out = [Command::SMove(long(rt, -1, 0, 0))];
@@ -105,7 +106,7 @@ fn one_bot_takes_its_turns(rt: HostRuntime) -> Result<(), Fail> {
 fn of_two<L: Ledger>(rt: &impl Abort, blank: Blank, alloc: Global) -> Result<(), Memory>
     requires blank { IsBlankOf blank L.name L.parts }
 {
-    let mut steps: Steps<L> = Steps::new(blank);
+    let mut steps: Steps<L> = Steps::new(blank, CounterPermit);
     let mut turns = Turns::new();
     let mut system = System::opening(Planes::empty(alloc, 3)?, Profile::full());
     let split = [Command::Fission(near(rt, 0, 0, 1), 0)];

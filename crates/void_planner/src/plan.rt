@@ -11,6 +11,7 @@ ghost use Rattle.void_planner.specs.Bounds.{most_void_steps};
 
 use crate::ends::{gather, spread};
 use crate::sweep::void_all;
+use counter_permit::CounterPermit;
 use nano_spec::{Command, Profile};
 use plan_tape::{Plan, close, halt_alone, rise};
 use std::alloc::Global;
@@ -24,7 +25,7 @@ fn is_empty_in<L: Ledger>(planes: &Planes, blank: Blank) -> bool
     requires blank { IsBlankOf blank L.name L.parts }
     ensures { IsTrue result ↔ (full_count planes.now ≡ 0) }
 {
-    let mut steps: Steps<L> = Steps::new(blank);
+    let mut steps: Steps<L> = Steps::new(blank, CounterPermit);
     planes.count(&mut steps) == 0
 }
 

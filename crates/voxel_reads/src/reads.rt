@@ -6,6 +6,7 @@ ghost use Rattle.vox_geom.specs.Region.{is_within, span};
 ghost use Rattle.vox_geom.specs.Space.{IsInSpace};
 ghost use Rattle.nano_spec.specs.Matrix.{all_of, is_full as is_full_of};
 
+use counter_permit::CounterPermit;
 use std::marker::Brand;
 use std::sync::ledger::{Blank, Ledger};
 use vox_geom::{Coord, Region, Steps};
@@ -17,7 +18,7 @@ fn is_full_in<L: Ledger>(planes: &Planes, c: Coord, blank: Blank) -> bool
     requires blank { IsBlankOf blank L.name L.parts }
     ensures { result ≡ is_full_of planes.now c }
 {
-    let mut steps: Steps<L> = Steps::new(blank);
+    let mut steps: Steps<L> = Steps::new(blank, CounterPermit);
     planes.full_at(c, &mut steps)
 }
 
@@ -36,7 +37,7 @@ fn first_full_in<L: Ledger>(planes: &Planes, region: &Region, blank: Blank) -> O
     ensures { result
         ≡ find (λ c. is_full_of planes.now c && is_within (span region.now) (point c)) (all_of planes.now) }
 {
-    let mut steps: Steps<L> = Steps::new(blank);
+    let mut steps: Steps<L> = Steps::new(blank, CounterPermit);
     planes.region_full(region, &mut steps)
 }
 

@@ -4,6 +4,7 @@ ghost use Rattle.vox_geom.specs.Counting.{IsBlankOf};
 
 use crate::common::{at, set};
 use crate::edits::{add_void, assert_floating, assert_level, inside};
+use counter_permit::CounterPermit;
 use std::alloc::Global;
 use std::marker::Brand;
 use std::process::Abort;
@@ -88,7 +89,7 @@ fn assert_same<L: Ledger>(rt: &impl Abort, one: &Forest, other: &Forest, steps: 
 fn arm_at_once<L: Ledger>(rt: &impl Abort, blank: Blank, alloc: Global) -> Result<(), ForestFault>
     requires blank { IsBlankOf blank L.name L.parts }
 {
-    let mut steps: Steps<L> = Steps::new(blank);
+    let mut steps: Steps<L> = Steps::new(blank, CounterPermit);
     let Ok(mut planes) = Planes::empty(alloc, 5) else {
         return Err(ForestFault::Memory);
     };

@@ -4,6 +4,7 @@ ghost use Rattle.vox_geom.specs.Counting.{IsBlankOf};
 ghost use Rattle.brick_arena.specs.Slots.{IsLive};
 
 use brick_arena::{Bricks, MOST_SLOTS};
+use counter_permit::CounterPermit;
 use std::alloc::Global;
 use std::marker::Brand;
 use std::process::Abort;
@@ -82,7 +83,7 @@ fn assert_marked<L: Ledger>(
 fn reused<L: Ledger>(rt: &impl Abort, blank: Blank, alloc: Global) -> Result<(), Memory>
     requires blank { IsBlankOf blank L.name L.parts }
 {
-    let mut steps: Steps<L> = Steps::new(blank);
+    let mut steps: Steps<L> = Steps::new(blank, CounterPermit);
     let mut bricks = Bricks::new(alloc);
     assert_eq!(rt; bricks.live(), 0);
     let slots = seventy(rt, &mut bricks, &mut steps)?;

@@ -8,6 +8,7 @@ use crate::edits::{
     add_two, add_void, assert_floating, assert_level, assert_parent, assert_word, clear_full,
     inside, remove_full, remove_two, stand_void,
 };
+use counter_permit::CounterPermit;
 use std::alloc::Global;
 use std::marker::Brand;
 use std::process::Abort;
@@ -84,7 +85,7 @@ fn without_posts<L: Ledger>(
 fn ring_on_posts<L: Ledger>(rt: &impl Abort, blank: Blank, alloc: Global) -> Result<(), ForestFault>
     requires blank { IsBlankOf blank L.name L.parts }
 {
-    let mut steps: Steps<L> = Steps::new(blank);
+    let mut steps: Steps<L> = Steps::new(blank, CounterPermit);
     let Ok(mut forest) = Forest::empty(alloc, 5) else {
         return Err(ForestFault::Memory);
     };
@@ -141,7 +142,7 @@ fn without_pairs<L: Ledger>(
 fn pairs_go<L: Ledger>(rt: &impl Abort, blank: Blank, alloc: Global) -> Result<(), ForestFault>
     requires blank { IsBlankOf blank L.name L.parts }
 {
-    let mut steps: Steps<L> = Steps::new(blank);
+    let mut steps: Steps<L> = Steps::new(blank, CounterPermit);
     let Ok(mut forest) = Forest::empty(alloc, 5) else {
         return Err(ForestFault::Memory);
     };
@@ -179,7 +180,7 @@ fn voxels_at_once<L: Ledger>(
 ) -> Result<(), ForestFault>
     requires blank { IsBlankOf blank L.name L.parts }
 {
-    let mut steps: Steps<L> = Steps::new(blank);
+    let mut steps: Steps<L> = Steps::new(blank, CounterPermit);
     let Ok(mut forest) = Forest::empty(alloc, 5) else {
         return Err(ForestFault::Memory);
     };
@@ -200,7 +201,7 @@ fn assert_two_slots(rt: &impl Abort, forest: &Forest, one: Coord, other: Coord)
 fn two_bricks<L: Ledger>(rt: &impl Abort, blank: Blank, alloc: Global) -> Result<(), ForestFault>
     requires blank { IsBlankOf blank L.name L.parts }
 {
-    let mut steps: Steps<L> = Steps::new(blank);
+    let mut steps: Steps<L> = Steps::new(blank, CounterPermit);
     let Ok(mut forest) = Forest::empty(alloc, 9) else {
         return Err(ForestFault::Memory);
     };

@@ -5,6 +5,7 @@ ghost use Rattle.nano_spec.specs.Model.{volume};
 
 use crate::common::{at, set};
 use crate::planes::{assert_count, assert_full};
+use counter_permit::CounterPermit;
 use std::alloc::Global;
 use std::marker::Brand;
 use std::process::Abort;
@@ -32,7 +33,7 @@ fn assert_places<L: Ledger>(
 fn placed<L: Ledger>(rt: &impl Abort, blank: Blank, alloc: Global) -> Result<(), Memory>
     requires blank { IsBlankOf blank L.name L.parts }
 {
-    let mut steps: Steps<L> = Steps::new(blank);
+    let mut steps: Steps<L> = Steps::new(blank, CounterPermit);
     let mut planes = Planes::empty(alloc, 70)?;
     planes.set_places(68, 5, 0b10101);
     assert_full(rt, &planes, at(0, 0, 68), true, &mut steps);
@@ -73,7 +74,7 @@ fn assert_heap<L: Ledger>(rt: &impl Abort, planes: &Planes, heap: bool, steps: &
 fn heaps<L: Ledger>(rt: &impl Abort, blank: Blank, alloc: Global) -> Result<(), Memory>
     requires blank { IsBlankOf blank L.name L.parts }
 {
-    let mut steps: Steps<L> = Steps::new(blank);
+    let mut steps: Steps<L> = Steps::new(blank, CounterPermit);
     let mut planes = Planes::empty(alloc, 70)?;
     assert_heap(rt, &planes, true, &mut steps);
     set(&mut planes, at(0, 69, 5), true);

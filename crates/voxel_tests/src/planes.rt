@@ -4,6 +4,7 @@ ghost use Rattle.vox_geom.specs.Counting.{IsBlankOf};
 ghost use Rattle.vox_geom.specs.Space.{IsInSpace};
 
 use crate::common::{at, set};
+use counter_permit::CounterPermit;
 use std::alloc::Global;
 use std::marker::Brand;
 use std::process::Abort;
@@ -143,7 +144,7 @@ fn assert_lists<L: Ledger>(
 fn small<L: Ledger>(rt: &impl Abort, blank: Blank, alloc: Global) -> Result<(), Memory>
     requires blank { IsBlankOf blank L.name L.parts }
 {
-    let mut steps: Steps<L> = Steps::new(blank);
+    let mut steps: Steps<L> = Steps::new(blank, CounterPermit);
     let planes = two_voxels(rt, alloc, &mut steps)?;
     let right = Region::of(at(1, 0, 0), at(2, 1, 2));
     assert_first(rt, &planes, &right, Some(at(1, 0, 2)), &mut steps);
@@ -207,7 +208,7 @@ fn assert_wide_lists<L: Ledger>(
 fn wide<L: Ledger>(rt: &impl Abort, blank: Blank, alloc: Global) -> Result<(), Memory>
     requires blank { IsBlankOf blank L.name L.parts }
 {
-    let mut steps: Steps<L> = Steps::new(blank);
+    let mut steps: Steps<L> = Steps::new(blank, CounterPermit);
     let mut planes = wide_row(rt, alloc, &mut steps)?;
     let row = Region::of(at(5, 3, 69), at(5, 3, 1));
     assert_first(rt, &planes, &row, Some(at(5, 3, 63)), &mut steps);
