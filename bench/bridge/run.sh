@@ -4,5 +4,5 @@
 set -eu
 top=$(cd "$(dirname "$0")/../.." && pwd)
 . "$top/bench/build.sh"
-build bridge 'bridge_bench: support_forest vox_planes nano_spec vox_geom anyhow' vox_geom nano_spec brick_arena vox_planes support_forest
+build bridge 'bridge_bench: support_forest vox_planes nano_spec vox_geom counter_permit anyhow' counter_permit vox_geom nano_spec brick_arena vox_planes support_forest
 valgrind --tool=cachegrind --cache-sim=no --cachegrind-out-file=/dev/null "$program"

@@ -4,5 +4,5 @@
 set -eu
 top=$(cd "$(dirname "$0")/../.." && pwd)
 . "$top/bench/build.sh"
-build codec 'trace_codec_bench: trace_codec nano_spec' vox_geom nano_spec trace_codec
+build codec 'trace_codec_bench: trace_codec nano_spec' counter_permit vox_geom nano_spec trace_codec
 "$program"

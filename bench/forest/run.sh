@@ -4,5 +4,5 @@
 set -eu
 top=$(cd "$(dirname "$0")/../.." && pwd)
 . "$top/bench/build.sh"
-build forest 'support_forest_bench: support_forest nano_spec vox_geom anyhow' vox_geom nano_spec brick_arena support_forest
+build forest 'support_forest_bench: support_forest nano_spec vox_geom counter_permit anyhow' counter_permit vox_geom nano_spec brick_arena support_forest
 "$program"

@@ -4,7 +4,7 @@
 set -eu
 top=$(cd "$(dirname "$0")/../.." && pwd)
 . "$top/bench/build.sh"
-build forge 'forge_bench: model_forge vox_planes vox_geom' vox_geom nano_spec vox_planes model_forge
+build forge 'forge_bench: model_forge vox_planes vox_geom' counter_permit vox_geom nano_spec vox_planes model_forge
 for round in 1 2 3; do
     "$program"
 done

@@ -3,5 +3,5 @@
 set -eu
 top=$(cd "$(dirname "$0")/../.." && pwd)
 . "$top/bench/build.sh"
-build groups 'step_groups_bench: step_groups bot_crew vox_planes nano_spec vox_geom arrayvec' vox_geom nano_spec step_order bot_crew vox_planes step_groups
+build groups 'step_groups_bench: step_groups bot_crew vox_planes nano_spec vox_geom counter_permit arrayvec' counter_permit vox_geom nano_spec step_order bot_crew vox_planes step_groups
 "$program"

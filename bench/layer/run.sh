@@ -4,7 +4,7 @@
 set -eu
 top=$(cd "$(dirname "$0")/../.." && pwd)
 . "$top/bench/build.sh"
-build layer 'layer_bench: layer_planner plan_tape model_file vox_planes nano_spec vox_geom' vox_geom nano_spec step_order energy_sum bot_crew vox_planes voxel_reads step_groups system_state model_file plan_tape layer_planner
+build layer 'layer_bench: layer_planner plan_tape model_file vox_planes nano_spec vox_geom' counter_permit vox_geom nano_spec step_order energy_sum bot_crew vox_planes voxel_reads step_groups system_state model_file plan_tape layer_planner
 for round in 1 2 3; do
     "$program"
 done

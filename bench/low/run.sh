@@ -4,7 +4,7 @@
 set -eu
 top=$(cd "$(dirname "$0")/../.." && pwd)
 . "$top/bench/build.sh"
-build low 'low_bench: low_planner plan_tape model_file vox_planes nano_spec vox_geom' vox_geom nano_spec step_order energy_sum bot_crew vox_planes voxel_reads step_groups system_state model_file plan_tape low_planner
+build low 'low_bench: low_planner plan_tape model_file vox_planes nano_spec vox_geom' counter_permit vox_geom nano_spec step_order energy_sum bot_crew vox_planes voxel_reads step_groups system_state model_file plan_tape low_planner
 for round in 1 2 3; do
     "$program"
 done

@@ -4,5 +4,5 @@
 set -eu
 top=$(cd "$(dirname "$0")/../.." && pwd)
 . "$top/bench/build.sh"
-build machine 'step_machine_bench: trace_judge support_forest vox_planes nano_spec vox_geom' vox_geom nano_spec step_order run_progress energy_sum brick_arena bot_crew vox_planes step_groups system_state support_forest step_machine trace_judge
+build machine 'step_machine_bench: trace_judge support_forest vox_planes nano_spec vox_geom counter_permit' counter_permit vox_geom nano_spec step_order run_progress energy_sum brick_arena bot_crew vox_planes step_groups system_state support_forest step_machine trace_judge
 "$program"

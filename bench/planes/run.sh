@@ -4,7 +4,7 @@
 set -eu
 top=$(cd "$(dirname "$0")/../.." && pwd)
 . "$top/bench/build.sh"
-build planes 'planes_bench: vox_planes vox_geom' vox_geom nano_spec vox_planes
+build planes 'planes_bench: vox_planes vox_geom counter_permit' counter_permit vox_geom nano_spec vox_planes
 for round in 1 2 3; do
     "$program"
 done

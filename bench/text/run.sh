@@ -4,5 +4,5 @@
 set -eu
 top=$(cd "$(dirname "$0")/../.." && pwd)
 . "$top/bench/build.sh"
-build text 'trace_text_bench: trace_text nano_spec' vox_geom nano_spec trace_text
+build text 'trace_text_bench: trace_text nano_spec' counter_permit vox_geom nano_spec trace_text
 "$program"

@@ -3,6 +3,7 @@
 #![allow(dead_code, unused_variables, unused_imports, unused_mut)]
 mod brick_arena;
 mod bot_crew;
+mod counter_permit;
 mod energy_sum;
 mod group_planner;
 mod layer_planner;

@@ -8,7 +8,7 @@ import os
 import re
 import sys
 
-CRATES = ("vox_geom nano_spec step_order run_progress energy_sum brick_arena trace_codec bot_crew vox_planes model_file "
+CRATES = ("counter_permit vox_geom nano_spec step_order run_progress energy_sum brick_arena trace_codec bot_crew vox_planes model_file "
           "step_groups system_state support_forest step_machine trace_judge voxel_reads plan_tape layer_planner group_planner void_planner "
           "low_planner swarm_planner squad_plans plan_choice model_forge").split()
 # Values for modules that only count touches or hold raw memory through the kit: each file here stands in for the crate's.
