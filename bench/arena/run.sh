@@ -4,7 +4,7 @@ set -eu
 work=$(mktemp -d)
 trap 'rm -rf "$work"' EXIT
 mkdir "$work/crates"
-for name in vox_geom brick_arena; do
+for name in counter_permit vox_geom brick_arena; do
     mkdir "$work/crates/$name"
     (cd "crates/$name" && tar cf - --exclude=./out .) | (cd "$work/crates/$name" && tar xf -)
 done
@@ -12,9 +12,10 @@ cp -r bench/arena/arena_bench "$work/crates/arena_bench"
 # The gate reads every .rt and .antt file of the repository as a crate's, so these end in .txt.
 find "$work/crates/arena_bench" -name '*.txt' -exec sh -c 'mv "$1" "${1%.txt}"' _ {} \;
 cat > "$work/crates.txt" <<'END'
-vox_geom:
+counter_permit:
+vox_geom: counter_permit
 brick_arena: vox_geom core std_alloc
-arena_bench: vox_geom brick_arena anyhow
+arena_bench: vox_geom brick_arena counter_permit anyhow
 END
 cp HANDLES "$work/HANDLES"
 (cd "$work/crates/arena_bench" && rt run > "$work/build.txt" 2>&1) || { cat "$work/build.txt"; exit 1; }
