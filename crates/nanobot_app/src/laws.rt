@@ -5,7 +5,7 @@ ghost use Rattle.nanobot_rows.specs.Answer.{Answer, AnswerOf, AskNoPlan, Reply};
 ghost use Rattle.nanobot_rows.specs.Lines.{accepted_line};
 ghost use Rattle.nanobot_app.specs.Headline.{IsCost, MachineTakes};
 ghost use Rattle.nanobot_app.specs.Plans.{IsRunOfPlan, PlansAsLight};
-ghost use Rattle.nanobot_app.specs.Worked.{WorkedOutcomes};
+ghost use Rattle.nanobot_app.specs.Worked.{WorkedHeadlines, WorkedOutcomes};
 ghost use Rattle.nanobot_words.specs.Rows.{HasName, IsInNoRow, asm, check, debug, dis, make, plan, run};
 ghost use Rattle.nanobot_words.specs.declared.planner.Planner.{Planner};
 ghost use Rattle.nanobot_words.specs.declared.row.Round.{Round};
@@ -81,7 +81,8 @@ pub fn a_plan_is_accepted()
     a_model_is_whole();
 }
 
-/// Worked examples of what a call has done to the outside.
+/// Worked examples of the sentence that the top call carries, and of what a call has done to the outside.
 pub fn worked_outcomes()
-    ensures { WorkedOutcomes }
+    ensures outcomes { WorkedOutcomes }
+    ensures headlines { WorkedHeadlines }
 {}
