@@ -135,7 +135,11 @@ fn publish<R: Files>(
             lchown(rt, temporary, Some(old.uid()), Some(old.gid()))?;
         }
         if new.mode() != old.mode() {
-            fs::set_permissions(rt, temporary, Permissions::from_mode(old.mode() & PERMISSIONS))?;
+            fs::set_permissions(
+                rt,
+                temporary,
+                Permissions::from_mode(old.mode() & PERMISSIONS),
+            )?;
         }
     }
     fs::rename(rt, temporary, name)
