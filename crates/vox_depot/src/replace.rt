@@ -21,7 +21,12 @@ const PERMISSIONS: u32 = 0o777;
 /// Some files can only be written in place, where an error can leave the first bytes alone: those that are not regular
 /// (links, devices, pipes), those with several hard links, and those that the system does not allow to be replaced, as
 /// in a folder without write permission.
-pub fn write_whole<R: Files>(rt: &R, alloc: Global, name: &str, bytes: &[u8]) -> io::Result<()> {
+pub(crate) fn write_whole<R: Files>(
+    rt: &R,
+    alloc: Global,
+    name: &str,
+    bytes: &[u8],
+) -> io::Result<()> {
     let old = match fs::symlink_metadata(rt, name) {
         Ok(old) => Some(old),
         Err(e) if e.kind() == ErrorKind::NotFound => None,
