@@ -11,7 +11,7 @@
  * - One thread at a time uses a handle. It may be another thread than the one that started it. Calls on different handles may run at
  *   the same time.
  * - What stands at the head of nanobot.h: pointers that are never null, also with a length of 0 (NANOBOT_NONE), and the program's malloc.
- * - There is stack for the call. No clause says how much; measured were 52 KB for the starts and a copy, and 31 KB for each other call.
+ * - The thread has 64 KB of stack for the two starts and a copy, and 32 KB of stack for each other call. That is measured, too.
  *
  * A call that is refused, for whatever reason, leaves the machine as it was, and the next call finds it so. That holds after rule 12
  * (a voxel that floats) and after NANOBOT_MEMORY too: the next step, judgement or level then takes as long as a start. No clause
