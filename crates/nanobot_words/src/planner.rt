@@ -12,7 +12,7 @@ pub enum Planner {
     Layer,
     /// At most two bots, which fill and void whole runs together.
     Group,
-    /// Up to forty bots, never dearer than the other planners.
+    /// Up to forty bots.
     Crew,
     /// At most four bots, which take a model down.
     Void,
