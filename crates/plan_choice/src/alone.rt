@@ -31,10 +31,14 @@ pub(crate) fn is_void(planes: &Planes) -> bool {
     first_full(planes, &Region::of(low, high)).is_none()
 }
 
-/// The most steps that so much energy pays for under Low.
+/// More steps than voids of all voxels of a model pay for under Low, each of which gives 12 where a step takes 3 for each voxel.
+const PAID_BY_VOIDS: u64 = 4;
+
+/// The most steps of a plan that costs no more than that.
 pub(crate) fn affordable(resolution: u16, energy: i64) -> u64 {
     let r = u64::from(resolution).max(1);
-    energy.max(0) as u64 / 3 / r / r / r
+    let paid = energy.max(0) as u64 / 3 / r / r / r;
+    paid.saturating_add(PAID_BY_VOIDS)
 }
 
 /// One bot's commands that build the target from nothing, or take all of the source down.

@@ -31,9 +31,6 @@ pub(crate) enum Trial {
     Fours(u16, bool),
 }
 
-/// More steps than voids of all voxels of a model pay for under Low, each of which gives 12 where a step takes 3 for each voxel.
-const PAID_BY_VOIDS: u64 = 4;
-
 /// Whether a row along z is the same with x and z exchanged, as far as its voxels lie before x.
 fn is_symmetric_row(planes: &Planes, x: u16, y: u16) -> bool {
     for z in 0..x {
@@ -187,11 +184,6 @@ fn poled_for(
     with_poles(alloc, source, most)
 }
 
-/// The most steps of a plan that costs less than that.
-fn worth_trying(resolution: u16, energy: i64) -> u64 {
-    affordable(resolution, energy).saturating_add(PAID_BY_VOIDS)
-}
-
 /// The plan, or the cheapest of the trials that cost less and keep the bounds, if any do. What cannot cost less than the ceiling need
 /// not be tried.
 pub(crate) fn cheapest(
@@ -208,14 +200,14 @@ pub(crate) fn cheapest(
     ensures { IfOk result (λ it. MayStandFor source.now target.now profile most plan it) }
 {
     let symmetric = is_symmetric(source) && is_symmetric(target);
-    let steps = worth_trying(source.resolution(), plan.energy.min(ceiling));
+    let steps = affordable(source.resolution(), plan.energy.min(ceiling));
     let poled = poled_for(alloc, source, trials, steps)?;
     let mut best = plan;
     for trial in trials {
         if symmetric && is_turned(*trial) {
             continue;
         }
-        let steps = worth_trying(source.resolution(), best.energy.min(ceiling));
+        let steps = affordable(source.resolution(), best.energy.min(ceiling));
         let made = propose(
             alloc, source, target, profile, &poled, *trial, steps, most.bots,
         )?;

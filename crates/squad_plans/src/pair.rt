@@ -138,23 +138,35 @@ impl Squad {
     }
 
     /// Whether each piece of a piece's column, or of one farther away, takes no less than an offer.
-    fn is_too_far(&self, best: Option<Offer>, number: usize, x: i16) -> bool {
-        let Some(piece) = piece_at(self.pieces.as_slice(), number) else {
-            return true;
-        };
+    fn is_too_far(&self, best: Option<Offer>, piece: Piece, x: i16) -> bool {
         let away = apart(piece.x, x);
         let least = moves(away.wrapping_sub(1).max(0)).wrapping_mul(4);
         least.wrapping_add(away.min(3)) >= cost_of(best)
     }
 
+    /// Whether a voxel of a piece's row may be filled.
+    fn has_some_at(&self, yard: &Yard, piece: Piece, sight: Sight) -> bool {
+        let y = sight.rear.y.wrapping_sub(1);
+        yard.site().may_fill_in_row(piece.x, y, sight.float)
+    }
+
     /// The nearest job: of the pieces from the bots' column on.
     fn nearest_on(&self, yard: &Yard, from: usize, sight: Sight) -> Option<Offer> {
         let mut best = None;
-        for number in from..self.pieces.len() {
-            if self.is_too_far(best, number, sight.rear.x) {
+        let mut number = from;
+        for _ in from..self.pieces.len() {
+            let Some(piece) = piece_at(self.pieces.as_slice(), number) else {
+                break;
+            };
+            if self.is_too_far(best, piece, sight.rear.x) {
                 break;
             }
-            best = self.better(yard, best, number, sight);
+            if self.has_some_at(yard, piece, sight) {
+                best = self.better(yard, best, number, sight);
+                number = number.wrapping_add(1);
+            } else {
+                number = self.first_from(piece.x.wrapping_add(1));
+            }
         }
         best
     }
@@ -168,12 +180,21 @@ impl Squad {
         other: Option<Offer>,
     ) -> Option<Offer> {
         let mut best = other;
-        for k in 0..to {
-            let number = to.saturating_sub(1).saturating_sub(k);
-            if self.is_too_far(best, number, sight.rear.x) {
+        let mut end = to;
+        for _ in 0..to {
+            let number = end.wrapping_sub(1);
+            let Some(piece) = piece_at(self.pieces.as_slice(), number) else {
+                break;
+            };
+            if self.is_too_far(best, piece, sight.rear.x) {
                 break;
             }
-            best = self.better(yard, best, number, sight);
+            if self.has_some_at(yard, piece, sight) {
+                best = self.better(yard, best, number, sight);
+                end = number;
+            } else {
+                end = self.first_from(piece.x);
+            }
         }
         best
     }

@@ -38,6 +38,9 @@ impl Squad {
 
     /// The first row from this one on at which something may be filled in a lane.
     fn next_row(&self, yard: &Yard, lane: i16, from: i16, by: i16, float: bool) -> Option<i16> {
+        if !self.may_fill_in(yard, self.strip.lane(lane), float) {
+            return None;
+        }
         let side = yard.site().side();
         let mut z = from;
         for _ in 0..side {

@@ -134,6 +134,17 @@ impl Squad {
         }
     }
 
+    /// Whether something may be filled in its layer in some columns.
+    pub(crate) fn may_fill_in(&self, yard: &Yard, columns: Strip, float: bool) -> bool {
+        let y = self.layer();
+        for x in columns.low..=columns.high {
+            if yard.site().may_fill_in_row(x, y, float) {
+                return true;
+            }
+        }
+        false
+    }
+
     /// Has its turn in this step.
     pub(crate) fn turn(&mut self, yard: &mut Yard, float: bool) -> Result<Stance, Memory> {
         if !self.done && self.rise(yard) && !self.done {
@@ -141,6 +152,9 @@ impl Squad {
         }
         if self.done {
             return Ok(self.come_home(yard));
+        }
+        if self.job.is_none() && !self.may_fill_in(yard, self.strip, float) {
+            return Ok(Stance::Waits);
         }
         let acts = match self.mate {
             Some(mate) => self.build_by_two(yard, mate, float)?,
