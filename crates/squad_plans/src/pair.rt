@@ -151,7 +151,7 @@ impl Squad {
     }
 
     /// The nearest job: of the pieces from the bots' column on.
-    fn nearest_on(&self, yard: &Yard, from: usize, sight: Sight) -> Option<Offer> {
+    fn nearest_on(&mut self, yard: &Yard, from: usize, sight: Sight) -> Option<Offer> {
         let mut best = None;
         let mut number = from;
         for _ in from..self.pieces.len() {
@@ -161,6 +161,7 @@ impl Squad {
             if self.is_too_far(best, piece, sight.rear.x) {
                 break;
             }
+            self.count(1);
             if self.has_some_at(yard, piece, sight) {
                 best = self.better(yard, best, number, sight);
                 number = number.wrapping_add(1);
@@ -173,7 +174,7 @@ impl Squad {
 
     /// The nearest job, and of the pieces before a number only what takes less than an offer.
     fn nearest_back(
-        &self,
+        &mut self,
         yard: &Yard,
         to: usize,
         sight: Sight,
@@ -189,6 +190,7 @@ impl Squad {
             if self.is_too_far(best, piece, sight.rear.x) {
                 break;
             }
+            self.count(1);
             if self.has_some_at(yard, piece, sight) {
                 best = self.better(yard, best, number, sight);
                 end = number;
@@ -200,7 +202,7 @@ impl Squad {
     }
 
     /// The nearest job.
-    fn nearest(&self, yard: &Yard, mate: u8, float: bool) -> Option<Offer> {
+    fn nearest(&mut self, yard: &Yard, mate: u8, float: bool) -> Option<Offer> {
         let sight = Sight {
             rear: yard.spot(self.lead),
             front: yard.spot(mate),
@@ -212,7 +214,7 @@ impl Squad {
     }
 
     /// The piece of one voxel in the job's lane that the other bot can fill at the same time, with the shortest way.
-    fn second(&self, yard: &Yard, mate: u8, job: Job, float: bool) -> Option<usize> {
+    fn second(&mut self, yard: &Yard, mate: u8, job: Job, float: bool) -> Option<usize> {
         let (rear, front) = (yard.spot(self.lead).z, yard.spot(mate).z);
         let lane = self.strip.lane(self.strip.lane_of(job.x));
         let y = self.layer();
@@ -225,6 +227,7 @@ impl Squad {
             if piece.x > lane.high {
                 break;
             }
+            self.count(1);
             let z = piece.first;
             let (is_beyond, way) = match job.rear_column {
                 Some(_) => (z > job.rear, apart(z, front)),
@@ -275,6 +278,8 @@ impl Squad {
             self.pieces.clear();
             let strip = self.strip;
             list_layer(&mut self.pieces, yard.site(), strip, y)?;
+            let columns = usize::from(strip.high.wrapping_sub(strip.low).unsigned_abs());
+            self.count(columns.saturating_mul(yard.site().width()));
             self.listed = y;
         }
         Ok(())
