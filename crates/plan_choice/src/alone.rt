@@ -9,7 +9,7 @@ ghost use Rattle.plan_choice.specs.Better.{CanImprove, MayStandFor};
 use crate::bounds::Bounds;
 use crate::builder::build_attached;
 use crate::choice::cheaper;
-use crate::flips::lower_commands;
+use crate::flips::{Work, lower_commands};
 use crate::plain::are_plain;
 use crate::ways::backwards;
 use nano_spec::{Command, CommandList, Profile};
@@ -83,10 +83,14 @@ pub fn attach(
     let Some(commands) = alone(alloc, source, target, room)? else {
         return Ok(plan);
     };
-    let proposal = if are_plain(commands.as_slice()) {
-        commands
+    let mut work = Work::any();
+    let lowered = if are_plain(commands.as_slice()) {
+        Some(commands)
     } else {
-        lower_commands(alloc, source, profile, commands.as_slice())?
+        lower_commands(alloc, source, profile, commands.as_slice(), room, &mut work)?
+    };
+    let Some(proposal) = lowered else {
+        return Ok(plan);
     };
     cheaper(alloc, source, target, profile, plan, proposal, most)
 }
