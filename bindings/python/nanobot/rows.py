@@ -105,7 +105,7 @@ def plan_group(source: Optional[Source], target: Optional[Source]) -> bytes:
 
 
 def plan_crew(source: Optional[Source], target: Optional[Source]) -> bytes:
-    """The same by forty bots at most. Of its own proposals and the other planners' plans it takes the cheapest."""
+    """The same by forty bots at most: the cheapest of its own plans and of the other planners'."""
     return _plan(library.plan_crew, source, target)
 
 
