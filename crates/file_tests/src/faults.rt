@@ -161,6 +161,7 @@ impl<'a, R: Files> Files for FaultyFiles<'a, R> {
 }
 
 const OLD: &[u8] = b"the old file";
+
 const NEW: &[u8] = b"the new file, which is longer";
 
 /// Stores over the old file while the call of this number fails. Afterwards the folder has one file, the whole new one
@@ -199,11 +200,11 @@ fn a_store_that_fails_leaves_the_old_file(rt: HostRuntime) -> Result<(), Fail> {
     fs::create_dir(&rt, folder.as_str())?;
     let name = folder.join(rt.alloc(), "plan.nbt")?;
     for kind in [ErrorKind::StorageFull, ErrorKind::PermissionDenied] {
-        let mut came = 0;
+        let mut came = 0u64;
         for fails in 0..40 {
             let calls = Calls::new(fails, kind);
             if check_fault(&rt, folder.as_str(), name.as_str(), &calls)? {
-                came += 1;
+                came = came.saturating_add(1);
             }
         }
         // Two looks at files, two openings, five writes, the sync, the permissions and the name.

@@ -32,14 +32,14 @@ pub(crate) fn write_whole<R: Files>(
         Err(e) if e.kind() == ErrorKind::NotFound => None,
         Err(e) => return Err(e),
     };
-    if is_replaceable(&old) && replace(rt, alloc, name, &old, bytes)? {
+    if is_replaceable(old.as_ref()) && replace(rt, alloc, name, old.as_ref(), bytes)? {
         return Ok(());
     }
     fill(fs::create(rt, name)?, bytes)
 }
 
 // Whether the name is the only way to the file, or is free.
-fn is_replaceable(old: &Option<Metadata>) -> bool {
+fn is_replaceable(old: Option<&Metadata>) -> bool {
     match old {
         Some(old) => old.is_file() && old.nlink() < 2,
         None => true,
@@ -50,9 +50,7 @@ fn is_replaceable(old: &Option<Metadata>) -> bool {
 fn fill<F: Write + OpenFile + Drop>(mut file: F, bytes: &[u8]) -> io::Result<()> {
     file.write_all(bytes)?;
     match file.sync_all() {
-        Err(e) if e.kind() == ErrorKind::InvalidInput || e.kind() == ErrorKind::Unsupported => {
-            Ok(())
-        }
+        Err(e) if matches!(e.kind(), ErrorKind::InvalidInput | ErrorKind::Unsupported) => Ok(()),
         synced => synced,
     }
 }
@@ -62,7 +60,7 @@ fn replace<R: Files>(
     rt: &R,
     alloc: Global,
     name: &str,
-    old: &Option<Metadata>,
+    old: Option<&Metadata>,
     bytes: &[u8],
 ) -> io::Result<bool> {
     if old.is_some() {
@@ -84,7 +82,7 @@ fn replace<R: Files>(
     replaced
 }
 
-// Creates a file in the folder of that name that no one else has.
+// Creates a temporary file in the folder of that name, which no other store has.
 fn create_beside<R: Files>(
     rt: &R,
     alloc: Global,
@@ -127,7 +125,7 @@ fn publish<R: Files>(
     rt: &R,
     temporary: &str,
     name: &str,
-    old: &Option<Metadata>,
+    old: Option<&Metadata>,
     length: u64,
 ) -> io::Result<()> {
     let new = fs::symlink_metadata(rt, temporary)?;
@@ -140,11 +138,8 @@ fn publish<R: Files>(
             lchown(rt, temporary, Some(old.uid()), Some(old.gid()))?;
         }
         if new.mode() != old.mode() {
-            fs::set_permissions(
-                rt,
-                temporary,
-                Permissions::from_mode(old.mode() & PERMISSIONS),
-            )?;
+            let permissions = Permissions::from_mode(old.mode() & PERMISSIONS);
+            fs::set_permissions(rt, temporary, permissions)?;
         }
     }
     fs::rename(rt, temporary, name)
