@@ -39,6 +39,7 @@ worked_outcomes = record {
     other_part : (n : ℕ) → Some (codes "s") ≡ Some (take n (codes "words\n")) → ⊥
     other_part zero e = cc
     other_part (suc n) e = cc
+
     after_is : (files other : Files) (reply : Reply) → reply ≡ record { status = is.Done; line = codes "done\n"; after = files }
         → Some other ≡ Some reply.after → other ≡ files
     after_is files other reply e f = let after = ap (λ (r : Reply). r.after) e in let same : other ≡ reply.after = cc in same ∙ after
