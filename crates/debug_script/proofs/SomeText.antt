@@ -78,7 +78,8 @@ record IsOrderly (commands : List Command) (s : Session) : Type 0 where
 
 -- it is so of a session in which nothing is begun, where its points are ready
 fresh : (commands : List Command) (p : SessionPoint) (past : List SessionPoint) → IsReady p.state
-    → ((q : SessionPoint) → In q past → IsReady q.state) → IsOrderly commands (record { point = p; past = past; begun = [] })
+    → ((q : SessionPoint) → In q past → IsReady q.state)
+    → IsOrderly commands (record { point = p; past = past; begun = [] })
 fresh commands p past ready before = record { point = ready; past = before; left = next_leaders commands p; leaders = IsPermutation-refl (next_leaders commands p); keeps = λ some. absurd (some refl) }
 
 module _ (commands : List Command) (are : AreCommands commands) (stays_ready : ReadyLaw) (middle : MiddleLaw) where

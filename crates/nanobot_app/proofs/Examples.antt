@@ -40,8 +40,9 @@ worked_outcomes = record {
     other_part zero e = cc
     other_part (suc n) e = cc
 
-    after_is : (files other : Files) (reply : Reply) → reply ≡ record { status = is.Done; line = codes "done\n"; after = files }
-        → Some other ≡ Some reply.after → other ≡ files
+    after_is : (files other : Files) (reply : Reply)
+        → reply ≡ record { status = is.Done; line = codes "done\n"; after = files } → Some other ≡ Some reply.after
+        → other ≡ files
     after_is files other reply e f = let after = ap (λ (r : Reply). r.after) e in let same : other ≡ reply.after = cc in same ∙ after
 
 takes : TakesBytes (empty 3) (voxels_at 3 (coord 1 0 1 ∷ [])) (hex "14 10 73 14 0E FF") (pos 420) 4

@@ -36,7 +36,8 @@ pub record WorkedOutcomes : Type 0 where
   -- a first part of the line is written, and not something else
   pub a_part_of_a_line :
       (files : Files) → DeliveredPart (with_written (codes "a\n")) (with_written (codes "a\nwo")) (refused files)
-  pub not_another_part : (files : Files) → DeliveredPart (with_written []) (with_written (codes "s")) (refused files) → ⊥
+  pub not_another_part : (files : Files) → DeliveredPart (with_written []) (with_written (codes "s")) (refused files)
+      → ⊥
   -- all statuses but three are answers
   pub answers : IsAnswer is.Done × IsAnswer is.Broken × IsAnswer is.Words × IsAnswer is.Model × IsAnswer is.Trace
       × IsAnswer is.Text × IsAnswer is.Unsupported
@@ -57,8 +58,9 @@ pub record WorkedOutcomes : Type 0 where
   pub a_text_stores_its_trace : StoredBy (codes "asm" ∷ codes "bb" ∷ codes "b" ∷ []) (codes "b")
   pub a_check_stores_nothing : (name : List ℕ) → StoredBy (codes "check" ∷ codes "m" ∷ []) name → ⊥
   -- what is seen of a depot and a sink
-  pub what_is_seen : outside (λ (d : ℕ). None) (λ d. d) (λ d. d + 1) (λ (o : List ℕ). Some o) (λ o. length o) 7
-      (codes "ab") ≡ record { files = None; depot_faults = 7; failed_stores = 8; written = Some (codes "ab"); sink_faults = 2 }
+  pub what_is_seen :
+      outside (λ (d : ℕ). None) (λ d. d) (λ d. d + 1) (λ (o : List ℕ). Some o) (λ o. length o) 7 (codes "ab")
+      ≡ record { files = None; depot_faults = 7; failed_stores = 8; written = Some (codes "ab"); sink_faults = 2 }
 
 -- the sentence that the top call carries
 pub record WorkedHeadlines : Type 0 where

@@ -67,8 +67,8 @@ both s t alike = subst (λ (b : Bool). MatchBool b (◌≡◌ {A = Found (Matrix
 -- the trace of a file is judged between two models
 judged : {profile : Profile} {source target : Matrix} {verdict : Verdict} {reply : Reply} (files : Files)
     (b trace : List ℕ) (commands : List Command) → VerdictOf source target commands profile verdict
-    → Cutting trace commands → content files b ≡ Some trace → length trace ≤ 1073741824 → TellsVerdict verdict files reply
-    → AnswerOfTrace profile source target b files reply
+    → Cutting trace commands → content files b ≡ Some trace → length trace ≤ 1073741824
+    → TellsVerdict verdict files reply → AnswerOfTrace profile source target b files reply
 judged {verdict = verdict} files b trace commands falls cut there few tells = (
   Ok commands,
   (Ok trace, fits files b trace 1073741824 is.Trace (trace_long_line 1073741824) there few, (Ok commands, cut, refl)),
@@ -76,10 +76,11 @@ judged {verdict = verdict} files b trace commands falls cut there few tells = (
 )
 
 -- a run between two files is answered by what is told of its verdict
-ends : {profile : Profile} {source target trace : List ℕ} {verdict : Verdict} (r : Runs profile source target trace verdict)
-    (files : Files) (s t b : List ℕ) (reply : Reply) → content files s ≡ Some source → content files t ≡ Some target
-    → content files b ≡ Some trace → length trace ≤ 1073741824 → r.from.resolution ≡ r.to.resolution
-    → TellsVerdict verdict files reply → AnswerOfRun profile (Some s) (Some t) b files reply
+ends : {profile : Profile} {source target trace : List ℕ} {verdict : Verdict}
+    (r : Runs profile source target trace verdict) (files : Files) (s t b : List ℕ) (reply : Reply)
+    → content files s ≡ Some source → content files t ≡ Some target → content files b ≡ Some trace
+    → length trace ≤ 1073741824 → r.from.resolution ≡ r.to.resolution → TellsVerdict verdict files reply
+    → AnswerOfRun profile (Some s) (Some t) b files reply
 ends r files s t b reply at_s at_t at_b few alike tells = (
   Ok (r.from, r.to),
   (
@@ -98,11 +99,13 @@ light_to_a_post : Runs light_profile empty_3 one_voxel (hex "14 10 73 14 0E FF")
 unfolding seed_numbers
 light_to_a_post = shown 5 refl refl refl refl refl refl refl
 
-nothing_done : Runs full_profile empty_3 one_voxel (hex "FF") (verdict.Refused (record { step = 1; bid = 0; rule = WrongResult; at = coord 1 0 1 }))
+nothing_done : Runs full_profile empty_3 one_voxel (hex "FF")
+    (verdict.Refused (record { step = 1; bid = 0; rule = WrongResult; at = coord 1 0 1 }))
 unfolding seed_numbers
 nothing_done = shown 2 refl refl refl refl refl refl refl
 
-pub from_empty : VerdictOf (empty 3) (voxels_at 3 (coord 1 0 1 ∷ [])) (commands_in 6 (hex "14 10 73 14 0E FF")) full_profile (verdict.Accepted (pos 420) 4)
+pub from_empty : VerdictOf (empty 3) (voxels_at 3 (coord 1 0 1 ∷ [])) (commands_in 6 (hex "14 10 73 14 0E FF"))
+    full_profile (verdict.Accepted (pos 420) 4)
 unfolding seed_numbers
 from_empty = run_by 6 5 (voxels_at 3 (coord 1 0 1 ∷ [])) (opening (empty 3) full_profile) (commands_in 6 (hex "14 10 73 14 0E FF")) 0 (verdict.Accepted (pos 420) 4) refl
 
@@ -161,7 +164,8 @@ each_supported = all_hold (λ c. IsTrue (is_full (empty 3) c) → IsSupported (e
 no_file : (files : Files) (name : List ℕ) → content files name ≡ None → FileOf name files (Err (is.Depot, []))
 no_file files name none = sym (ap (λ (o : Option (List ℕ)). ok_or o (is.Depot, [])) none)
 
-no_model : (who : Who) (files : Files) (name : List ℕ) → content files name ≡ None → ModelOf who name files (Err (is.Depot, []))
+no_model : (who : Who) (files : Files) (name : List ℕ) → content files name ≡ None
+    → ModelOf who name files (Err (is.Depot, []))
 no_model who files name none = (Err (is.Depot, []), no_file files name none, refl)
 
 at_the_edge : Legality (voxels_at 3 (coord 0 0 0 ∷ [])) (Some (Border (coord 0 0 0)))

@@ -61,14 +61,14 @@ pub record WorkedAnswers : Type 0 where
       (codes "ok energy 420 steps 4\n")
   pub a_run_to_nothing :
       Tells (run Full (Some (codes "nothing.mdl")) None (codes "halt.nbt")) is.Done (codes "ok energy 101 steps 1\n")
-  pub a_broken_run : Tells (run Full (Some (codes "nothing.mdl")) (Some (codes "post.mdl")) (codes "halt.nbt")) is.Broken
-      (codes "broken 14 WrongResult step 1 bid 0 at 1 0 1\n")
+  pub a_broken_run : Tells (run Full (Some (codes "nothing.mdl")) (Some (codes "post.mdl")) (codes "halt.nbt"))
+      is.Broken (codes "broken 14 WrongResult step 1 bid 0 at 1 0 1\n")
   -- the source is judged before the target is read, the target before the resolutions are compared, and these before
   -- the trace is read
   pub an_illegal_source : Tells (run Full (Some (codes "edge.mdl")) (Some (codes "missing")) (codes "missing")) is.Model
       (codes "source 6 Border at 0 0 0\n")
-  pub an_illegal_target : Tells (run Full (Some (codes "larger.mdl")) (Some (codes "edge.mdl")) (codes "missing")) is.Model
-      (codes "target 6 Border at 0 0 0\n")
+  pub an_illegal_target : Tells (run Full (Some (codes "larger.mdl")) (Some (codes "edge.mdl")) (codes "missing"))
+      is.Model (codes "target 6 Border at 0 0 0\n")
   pub two_resolutions : Tells (run Full (Some (codes "nothing.mdl")) (Some (codes "larger.mdl")) (codes "missing"))
       is.Model (codes "resolutions 3 4\n")
   pub a_run_of_no_file :
@@ -111,8 +111,8 @@ pub record WorkedFacts : Type 0 where
 
 -- the models of a source and a target
 pub record WorkedModels : Type 0 where
-  pub two_files : (files : Files) → AreWorkedFiles files
-      → AreModels (Some (codes "nothing.mdl")) (Some (codes "post.mdl")) files (empty 3) (voxels_at 3 (coord 1 0 1 ∷ []))
+  pub two_files : (files : Files) → AreWorkedFiles files → AreModels (Some (codes "nothing.mdl"))
+      (Some (codes "post.mdl")) files (empty 3) (voxels_at 3 (coord 1 0 1 ∷ []))
   pub one_file : (files : Files) → AreWorkedFiles files
       → AreModels None (Some (codes "post.mdl")) files (empty 3) (voxels_at 3 (coord 1 0 1 ∷ []))
   -- what has no file is empty, and of the other's resolution
@@ -125,8 +125,8 @@ pub record WorkedTouching : Type 0 where
   pub not_a_shorter_front : AreInFront (hex "FE FF") (Wait ∷ []) → ⊥
   pub a_front : BeginWith (hex "FE FF") (Wait ∷ [])
   pub not_another_front : BeginWith (hex "FE FF") (Halt ∷ []) → ⊥
-  pub of_a_run : (files : Files) (before after : ℕ) → AreWorkedFiles files
-      → IsRowWithin (run Full (Some (codes "nothing.mdl")) (Some (codes "post.mdl")) (codes "build.nbt")) (Some files) before after
+  pub of_a_run : (files : Files) (before after : ℕ) → AreWorkedFiles files → IsRowWithin
+      (run Full (Some (codes "nothing.mdl")) (Some (codes "post.mdl")) (codes "build.nbt")) (Some files) before after
       → IsWithinTrace full_profile (empty 3) (hex "14 10 73 14 0E FF") before after
   pub of_a_light_run : (files : Files) (before after : ℕ) → AreWorkedFiles files
       → IsRowWithin (run Light None (Some (codes "post.mdl")) (codes "build.nbt")) (Some files) before after

@@ -147,10 +147,12 @@ worked_rows = record {
 reads_m : (row : Row) → IsRow (codes "check" ∷ codes "m" ∷ []) row → All (λ name. name ≡ codes "m") (reads_of row)
 reads_m row h = subst (λ (r : Row). All (λ name. name ≡ codes "m") (reads_of r)) (row_once (codes "check" ∷ codes "m" ∷ []) (check (codes "m")) row a_check h) (All-cons (λ name. name ≡ codes "m") (codes "m") [] refl (All-nil (λ name. name ≡ codes "m")))
 
-pub stores_none : (row : Row) (name : List ℕ) → IsRow (codes "check" ∷ codes "m" ∷ []) row → stores_of row ≡ Some name → ⊥
+pub stores_none : (row : Row) (name : List ℕ) → IsRow (codes "check" ∷ codes "m" ∷ []) row → stores_of row ≡ Some name
+    → ⊥
 stores_none row name h e = let same = row_once (codes "check" ∷ codes "m" ∷ []) (check (codes "m")) row a_check h in let none : None ≡ Some name = subst (λ (r : Row). stores_of r ≡ Some name) (sym same) e in cc
 
-stores_b : (row : Row) (name : List ℕ) → IsRow (codes "asm" ∷ codes "bb" ∷ codes "b" ∷ []) row → stores_of row ≡ Some name → name ≡ codes "b"
+stores_b : (row : Row) (name : List ℕ) → IsRow (codes "asm" ∷ codes "bb" ∷ codes "b" ∷ []) row
+    → stores_of row ≡ Some name → name ≡ codes "b"
 stores_b row name h e = let same = row_once (codes "asm" ∷ codes "bb" ∷ codes "b" ∷ []) (asm (codes "bb") (codes "b")) row an_asm h in let one : Some (codes "b") ≡ Some name = subst (λ (r : Row). stores_of r ≡ Some name) (sym same) e in cc
 
 pub worked_permissions : WorkedPermissions

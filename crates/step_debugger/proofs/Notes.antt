@@ -34,7 +34,8 @@ lead_less p (n ∷ notes) u h = let leads_less = lead_less p notes u h.1 in (lea
 
 -- ---- without the oldest
 
-pub points_drop : (p : SessionPoint) (k : ℕ) (notes : List Undo) → points_of p (drop k notes) ≡ drop k (points_of p notes)
+pub points_drop : (p : SessionPoint) (k : ℕ) (notes : List Undo)
+    → points_of p (drop k notes) ≡ drop k (points_of p notes)
 points_drop p zero notes = refl
 points_drop p (suc k) [] = refl
 points_drop p (suc k) (n ∷ notes) = points_drop p k notes

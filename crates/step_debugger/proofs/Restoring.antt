@@ -78,7 +78,8 @@ was_made commands (Voxel c) s t r m h = absurd (by (is_full s.point.state.matrix
 
 -- ---- the last points of a list with one more
 
-drop_push : (k : ℕ) (xs : List SessionPoint) (x : SessionPoint) → k ≤ length xs → drop k (xs ++ x ∷ []) ≡ drop k xs ++ x ∷ []
+drop_push : (k : ℕ) (xs : List SessionPoint) (x : SessionPoint) → k ≤ length xs
+    → drop k (xs ++ x ∷ []) ≡ drop k xs ++ x ∷ []
 drop_push zero xs x l = refl
 drop_push (suc k) [] x l = absurd (omega arith)
 drop_push (suc k) (y ∷ xs) x l = drop_push k xs x (omega arith)
@@ -91,8 +92,8 @@ latest_push xs x =
 
 -- ---- what is taken back
 
-restored_past : (past : List SessionPoint) (s t u : Session) (r : DebugReport) → past ≡ t.past → (v : State) → t ≡ made s v
-    → TakesBack past t u r
+restored_past : (past : List SessionPoint) (s t u : Session) (r : DebugReport) → past ≡ t.past → (v : State)
+    → t ≡ made s v → TakesBack past t u r
     → (u ≡ record { point = s.point; past = latest 4095 s.past; begun = [] }) × (r ≡ is_returned s.point)
 restored_past [] s t u r p v e h = absurd (empty (latest 4095 s.past) (p ∙ (ap (λ (x : Session). x.past) e ∙ latest_push s.past s.point)))
   where
