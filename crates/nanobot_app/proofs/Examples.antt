@@ -10,7 +10,7 @@ use Rattle.vox_depot.specs.Files.{Files}
 use Rattle.nanobot_rows.specs.declared.status.Status.TheVariants as is
 use Rattle.nanobot_rows.specs.Answer.{Reply}
 use Rattle.nanobot_rows.specs.WorkedAnswers.{AreWorkedFiles}
-use Rattle.nanobot_rows.proofs.Others.{from_empty, one_file, to_a_post, two_files}
+use Rattle.nanobot_rows.proofs.Others.{build_commands, from_empty, one_file, two_files}
 use Rattle.nanobot_words.specs.Rows.{Row, asm, check, stores_of}
 use Rattle.nanobot_words.proofs.Examples.{an_asm, stores_none}
 use Rattle.nanobot_app.specs.Headline.{TakesBytes}
@@ -46,7 +46,7 @@ worked_outcomes = record {
     after_is files other reply e f = let after = ap (λ (r : Reply). r.after) e in let same : other ≡ reply.after = cc in same ∙ after
 
 takes : TakesBytes (empty 3) (voxels_at 3 (coord 1 0 1 ∷ [])) (hex "14 10 73 14 0E FF") (pos 420) 4
-takes = (omega arith, (commands_in 6 (hex "14 10 73 14 0E FF"), to_a_post.trace_is, from_empty))
+takes = (omega arith, (commands_in 6 (hex "14 10 73 14 0E FF"), build_commands, from_empty))
 
 pub worked_headlines : WorkedHeadlines
 unfolding digits

@@ -1,10 +1,9 @@
 -- The worked examples of answers to commands over files, of models and of touches.
-use Rattle.std.proofs.Common.{◌≡◌, ℕ, ◌≤◌, ℤ, pos, List, [], ◌∷◌, length, codes, refl, sym, ap, subst, inl, inr, arith, Bool}
-use Rattle.std.specs.Prelude.{◌==◌, Option, Some, None, ok_or, Result, Ok, Err, MatchBool, IsSomeAnd, IsTrue}
+use Rattle.std.proofs.Common.{◌≡◌, ℕ, ◌≤◌, ℤ, pos, List, [], ◌∷◌, length, codes, refl, sym, ap, subst, inl, inr, arith}
+use Rattle.std.specs.Prelude.{Option, Some, None, ok_or, Ok, Err, IsSomeAnd, IsTrue}
 use Rattle.std.specs.Fmt.{digits}
 use Rattle.std.proofs.lemmas.List.Elements.{All-cons, All-nil}
 use Rattle.vox_geom.specs.Point.{coord}
-use Rattle.vox_geom.proofs.Tests.{test_equal}
 use Rattle.nano_spec.specs.declared.commands.Command.{Command}
 use Rattle.nano_spec.specs.declared.commands.Command.TheVariants.{Halt, Wait}
 use Rattle.nano_spec.specs.declared.outcomes.Verdict.{Verdict}
@@ -19,9 +18,9 @@ use Rattle.nano_spec.specs.Model.{model}
 use Rattle.nano_spec.specs.Profile.{full_profile, light_profile}
 use Rattle.nano_spec.specs.State.{opening, seed_numbers}
 use Rattle.nano_spec.specs.Verdict.{VerdictOf}
-use Rattle.nano_spec.specs.Worked.{Runs, empty_3, empty_4, hex, one_voxel, voxels_at}
+use Rattle.nano_spec.specs.Worked.{empty_3, empty_4, hex, one_voxel, voxels_at}
 use Rattle.nano_spec.proofs.EmptyModel.{all_hold, not_full}
-use Rattle.nano_spec.proofs.Showing.{commands_in, shown}
+use Rattle.nano_spec.proofs.Showing.{are_commands, commands_in}
 use Rattle.nano_spec.proofs.Simulation.{legality_is, run_by}
 use Rattle.vox_depot.specs.Files.{Files, content}
 use Rattle.group_planner.specs.Rows.{full_before, sum_below}
@@ -32,8 +31,8 @@ use Rattle.plan_tape.proofs.Fissions.{few_at_most}
 use Rattle.nanobot_rows.specs.declared.report.Who.{Who}
 use Rattle.nanobot_rows.specs.declared.report.Who.TheVariants as who
 use Rattle.nanobot_rows.specs.declared.status.Status.TheVariants as is
-use Rattle.nanobot_rows.specs.Answer.{AnswerOfRun, AnswerOfTrace, FileOf, Found, ModelOf, Reply, TellsVerdict, TraceOf}
-use Rattle.nanobot_rows.specs.Lines.{not_legal_line, resolutions_line, text_long_line, trace_long_line}
+use Rattle.nanobot_rows.specs.Answer.{AnswerOfRun, AnswerOfTrace, FileOf, ModelOf, Reply, TellsVerdict, TraceOf}
+use Rattle.nanobot_rows.specs.Lines.{not_legal_line, text_long_line, trace_long_line}
 use Rattle.nanobot_rows.specs.Models.{AreModels, IsSide}
 use Rattle.nanobot_rows.specs.Touching.{AreInFront}
 use Rattle.nanobot_rows.specs.WorkedAnswers.{AreWorkedFiles, WorkedAnswers, WorkedFacts, WorkedModels, WorkedTouching}
@@ -58,12 +57,6 @@ found who files name bytes m there says legal =
 
 -- ---- runs
 
--- both models, where they are of one resolution
-both : (s t : Matrix) → s.resolution ≡ t.resolution → MatchBool (s.resolution == t.resolution)
-    (◌≡◌ {A = Found (Matrix × Matrix)} (Ok (s, t)) (Ok (s, t)))
-    (◌≡◌ {A = Found (Matrix × Matrix)} (Ok (s, t)) (Err (is.Model, resolutions_line s.resolution t.resolution)))
-both s t alike = subst (λ (b : Bool). MatchBool b (◌≡◌ {A = Found (Matrix × Matrix)} (Ok (s, t)) (Ok (s, t))) (◌≡◌ {A = Found (Matrix × Matrix)} (Ok (s, t)) (Err (is.Model, resolutions_line s.resolution t.resolution)))) (sym (test_equal s.resolution t.resolution alike)) refl
-
 -- the trace of a file is judged between two models
 judged : {profile : Profile} {source target : Matrix} {verdict : Verdict} {reply : Reply} (files : Files)
     (b trace : List ℕ) (commands : List Command) → VerdictOf source target commands profile verdict
@@ -75,39 +68,26 @@ judged {verdict = verdict} files b trace commands falls cut there few tells = (
   (verdict, falls, tells),
 )
 
--- a run between two files is answered by what is told of its verdict
-ends : {profile : Profile} {source target trace : List ℕ} {verdict : Verdict}
-    (r : Runs profile source target trace verdict) (files : Files) (s t b : List ℕ) (reply : Reply)
-    → content files s ≡ Some source → content files t ≡ Some target → content files b ≡ Some trace
-    → length trace ≤ 1073741824 → r.from.resolution ≡ r.to.resolution → TellsVerdict verdict files reply
-    → AnswerOfRun profile (Some s) (Some t) b files reply
-ends r files s t b reply at_s at_t at_b few alike tells = (
-  Ok (r.from, r.to),
-  (
-    Ok r.from,
-    found who.Source files s _ r.from at_s r.source_is r.from_is_legal,
-    (Ok r.to, found who.Target files t _ r.to at_t r.target_is r.to_is_legal, both r.from r.to alike),
-  ),
-  judged files b _ r.commands r.verdict_is r.trace_is at_b few tells,
-)
+pub build_commands : Cutting (hex "14 10 73 14 0E FF") (commands_in 6 (hex "14 10 73 14 0E FF"))
+build_commands = (are_commands (commands_in 6 (hex "14 10 73 14 0E FF")) refl, refl)
 
-pub to_a_post : Runs full_profile empty_3 one_voxel (hex "14 10 73 14 0E FF") (verdict.Accepted (pos 420) 4)
-unfolding seed_numbers
-to_a_post = shown 5 refl refl refl refl refl refl refl
-
-light_to_a_post : Runs light_profile empty_3 one_voxel (hex "14 10 73 14 0E FF") (verdict.Accepted (pos 420) 4)
-unfolding seed_numbers
-light_to_a_post = shown 5 refl refl refl refl refl refl refl
-
-nothing_done : Runs full_profile empty_3 one_voxel (hex "FF")
-    (verdict.Refused (record { step = 1; bid = 0; rule = WrongResult; at = coord 1 0 1 }))
-unfolding seed_numbers
-nothing_done = shown 2 refl refl refl refl refl refl refl
+halt_commands : Cutting (hex "FF") (Halt ∷ [])
+halt_commands = ((refl, tt), refl)
 
 pub from_empty : VerdictOf (empty 3) (voxels_at 3 (coord 1 0 1 ∷ [])) (commands_in 6 (hex "14 10 73 14 0E FF"))
     full_profile (verdict.Accepted (pos 420) 4)
 unfolding seed_numbers
 from_empty = run_by 6 5 (voxels_at 3 (coord 1 0 1 ∷ [])) (opening (empty 3) full_profile) (commands_in 6 (hex "14 10 73 14 0E FF")) 0 (verdict.Accepted (pos 420) 4) refl
+
+light_from_empty : VerdictOf (empty 3) (voxels_at 3 (coord 1 0 1 ∷ [])) (commands_in 6 (hex "14 10 73 14 0E FF"))
+    light_profile (verdict.Accepted (pos 420) 4)
+unfolding seed_numbers
+light_from_empty = run_by 6 5 (voxels_at 3 (coord 1 0 1 ∷ [])) (opening (empty 3) light_profile) (commands_in 6 (hex "14 10 73 14 0E FF")) 0 (verdict.Accepted (pos 420) 4) refl
+
+nothing_done : VerdictOf (empty 3) (voxels_at 3 (coord 1 0 1 ∷ [])) (Halt ∷ []) full_profile
+    (verdict.Refused (record { step = 1; bid = 0; rule = WrongResult; at = coord 1 0 1 }))
+unfolding seed_numbers
+nothing_done = run_by 6 2 (voxels_at 3 (coord 1 0 1 ∷ [])) (opening (empty 3) full_profile) (Halt ∷ []) 0 (verdict.Refused (record { step = 1; bid = 0; rule = WrongResult; at = coord 1 0 1 })) refl
 
 alone : VerdictOf (empty 3) (empty 3) (Halt ∷ []) full_profile (verdict.Accepted (pos 101) 1)
 unfolding seed_numbers
@@ -127,7 +107,7 @@ halts : (source target : Matrix) (profile : Profile) (most : ℕ) (energy : ℤ)
     → VerdictOf source target (Halt ∷ []) full_profile (verdict.Accepted energy 1)
     → IsPlan profile most source target (Halt ∷ []) energy 1
 halts source target profile most energy some accepted = record {
-  are_commands = (tt, tt);
+  are_commands = (refl, tt);
   accepted = accepted;
   few_bots = few_at_most source profile (Halt ∷ []) most some;
   halt_alone = λ _. refl;
@@ -189,11 +169,27 @@ is_post who files w = found who files (codes "post.mdl") one_voxel (voxels_at 3 
 is_larger : (who : Who) (files : Files) → AreWorkedFiles files → ModelOf who (codes "larger.mdl") files (Ok (empty 4))
 is_larger who files w = found who files (codes "larger.mdl") empty_4 (empty 4) w.larger refl (legality_is 6 (empty 4) None refl)
 
+-- a run from nothing to the post
+between : {profile : Profile} {verdict : Verdict} {reply : Reply} (files : Files) → AreWorkedFiles files
+    → (b trace : List ℕ) (commands : List Command)
+    → VerdictOf (empty 3) (voxels_at 3 (coord 1 0 1 ∷ [])) commands profile verdict → Cutting trace commands
+    → content files b ≡ Some trace → length trace ≤ 1073741824 → TellsVerdict verdict files reply
+    → AnswerOfRun profile (Some (codes "nothing.mdl")) (Some (codes "post.mdl")) b files reply
+between files w b trace commands falls cut there few tells = (
+  Ok (empty 3, voxels_at 3 (coord 1 0 1 ∷ [])),
+  (
+    Ok (empty 3),
+    is_nothing who.Source files w,
+    (Ok (voxels_at 3 (coord 1 0 1 ∷ [])), is_post who.Target files w, refl),
+  ),
+  judged files b trace commands falls cut there few tells,
+)
+
 a_trace_of : (files : Files) → AreWorkedFiles files → TraceOf 50000000 (codes "halt.nbt") files (Ok (Halt ∷ []))
 a_trace_of files w = (
   Ok (hex "FF"),
   fits files (codes "halt.nbt") (hex "FF") 50000000 is.Trace (trace_long_line 50000000) w.halt (omega arith),
-  (Ok (Halt ∷ []), ((tt, tt), refl), refl),
+  (Ok (Halt ∷ []), halt_commands, refl),
 )
 
 pub worked_answers : WorkedAnswers
@@ -208,19 +204,19 @@ worked_answers = record {
     refl,
   );
   a_check_of_an_illegal_model = λ files w. (Err (is.Model, codes "model 6 Border at 0 0 0\n"), is_outside who.Model files w, refl);
-  a_run = λ files w. ends to_a_post files (codes "nothing.mdl") (codes "post.mdl") (codes "build.nbt") _ w.nothing w.post w.build (omega arith) refl refl;
-  a_light_run = λ files w. ends light_to_a_post files (codes "nothing.mdl") (codes "post.mdl") (codes "build.nbt") _ w.nothing w.post w.build (omega arith) refl refl;
+  a_run = λ files w. between files w (codes "build.nbt") _ _ from_empty build_commands w.build (omega arith) refl;
+  a_light_run = λ files w. between files w (codes "build.nbt") _ _ light_from_empty build_commands w.build (omega arith) refl;
   a_run_from_nothing = λ files w. (
     Ok (empty 3, voxels_at 3 (coord 1 0 1 ∷ [])),
     (Ok (voxels_at 3 (coord 1 0 1 ∷ [])), is_post who.Target files w, refl),
-    judged files (codes "build.nbt") (hex "14 10 73 14 0E FF") (commands_in 6 (hex "14 10 73 14 0E FF")) from_empty to_a_post.trace_is w.build (omega arith) refl,
+    judged files (codes "build.nbt") (hex "14 10 73 14 0E FF") (commands_in 6 (hex "14 10 73 14 0E FF")) from_empty build_commands w.build (omega arith) refl,
   );
   a_run_to_nothing = λ files w. (
     Ok (empty 3, empty 3),
     (Ok (empty 3), is_nothing who.Source files w, refl),
-    judged files (codes "halt.nbt") (hex "FF") (Halt ∷ []) alone ((tt, tt), refl) w.halt (omega arith) refl,
+    judged files (codes "halt.nbt") (hex "FF") (Halt ∷ []) alone halt_commands w.halt (omega arith) refl,
   );
-  a_broken_run = λ files w. ends nothing_done files (codes "nothing.mdl") (codes "post.mdl") (codes "halt.nbt") _ w.nothing w.post w.halt (omega arith) refl refl;
+  a_broken_run = λ files w. between files w (codes "halt.nbt") _ _ nothing_done halt_commands w.halt (omega arith) refl;
   an_illegal_source = λ files w. (
     Err (is.Model, codes "source 6 Border at 0 0 0\n"),
     (Err (is.Model, codes "source 6 Border at 0 0 0\n"), is_outside who.Source files w, refl),
@@ -355,16 +351,16 @@ worked_models = record {
 no_shorter : AreInFront (hex "FE FF") (Wait ∷ []) → ⊥
 no_shorter h =
     let rest : 0xFF ∷ [] ≡ h.0 = (let e : 0xFE ∷ 0xFF ∷ [] ≡ 0xFE ∷ h.0 = h.3 in cc) in
-    let few : length h.0 ≤ 0 = h.1.1 [] (Wait ∷ Halt ∷ [], (tt, tt, tt), refl) in
+    let few : length h.0 ≤ 0 = h.1.1 [] (Wait ∷ Halt ∷ [], (refl, (refl, tt)), refl) in
     let some : 1 ≡ length h.0 = ap length rest in
     omega (arith, few, some)
 
 pub worked_touching : WorkedTouching
 worked_touching = record {
-  a_longest_front = ([], ((Wait ∷ Halt ∷ [], (tt, tt, tt), refl), λ other front. omega arith), (tt, tt, tt), refl);
+  a_longest_front = ([], ((Wait ∷ Halt ∷ [], (refl, (refl, tt)), refl), λ other front. omega arith), (refl, (refl, tt)), refl);
   not_a_shorter_front = no_shorter;
-  a_front = record { are_commands = (tt, tt); rest = hex "FF"; bytes_are = refl };
-  not_another_front = λ h. let e : 0xFE ∷ 0xFF ∷ [] ≡ 0xFF ∷ h.rest = h.bytes_are in cc;
+  a_front = record { are_commands = (refl, tt); rest = hex "FF"; bytes_are = refl };
+  no_front_of_no_bytes = λ h. let e : [] ≡ 0xFF ∷ h.rest = h.bytes_are in cc;
   of_a_run = λ files before after w h. h files (empty 3) (voxels_at 3 (coord 1 0 1 ∷ [])) refl (two_files files w) files (hex "14 10 73 14 0E FF") refl w.build;
   of_a_light_run = λ files before after w h. h files (empty 3) (voxels_at 3 (coord 1 0 1 ∷ [])) refl (one_file files w) files (hex "14 10 73 14 0E FF") refl w.build;
 }

@@ -124,7 +124,7 @@ pub record WorkedTouching : Type 0 where
   pub a_longest_front : AreInFront (hex "FE FF") (Wait ∷ Halt ∷ [])
   pub not_a_shorter_front : AreInFront (hex "FE FF") (Wait ∷ []) → ⊥
   pub a_front : BeginWith (hex "FE FF") (Wait ∷ [])
-  pub not_another_front : BeginWith (hex "FE FF") (Halt ∷ []) → ⊥
+  pub no_front_of_no_bytes : BeginWith [] (Halt ∷ []) → ⊥
   pub of_a_run : (files : Files) (before after : ℕ) → AreWorkedFiles files → IsRowWithin
       (run Full (Some (codes "nothing.mdl")) (Some (codes "post.mdl")) (codes "build.nbt")) (Some files) before after
       → IsWithinTrace full_profile (empty 3) (hex "14 10 73 14 0E FF") before after
