@@ -99,7 +99,9 @@ typedef struct nanobot_bot {
 } nanobot_bot;
 
 /* Starts a machine over the legal model of these bytes, by the light profile or the full one. The last `notes` steps can be taken
- * back, at most 4096. A machine that the handle has is freed. NANOBOT_MODEL: the model is refused, as *refusal tells.
+ * back, at most 4096. A noted step keeps 6 bytes for each voxel that it changed: 722 MB were measured for 4096 steps that each fill or
+ * void a box of 31 by 31 by 31 voxels, and 3.7 GB for five such boxes a step. A machine that the handle has is freed. NANOBOT_MODEL:
+ * the model is refused, as *refusal tells.
  *
  *     nanobot_machine machine = {0};
  *     nanobot_refusal refusal;

@@ -84,7 +84,8 @@ pub struct Machine {
 unsafe impl Send for Machine {}
 
 impl Machine {
-    /// The machine over the legal model of these bytes. So many of its last steps can be taken back, at most 4,096.
+    /// The machine over the legal model of these bytes. The last `notes` steps can be taken back, at most 4,096; a noted step keeps
+    /// 6 bytes for each voxel that it changed, which came to 3.7 GB at the worst that was measured.
     pub fn start(model: &[u8], profile: Profile, notes: u32) -> Result<Machine, StartError> {
         let mut made = Machine::none();
         let mut refusal = sys::Refusal::default();
