@@ -107,7 +107,7 @@ def plan_group(source: Optional[Source], target: Optional[Source]) -> bytes:
 
 
 def plan_crew(source: Optional[Source], target: Optional[Source]) -> bytes:
-    """The same by forty bots at most, never dearer than what the other planners make."""
+    """The same by forty bots at most: the cheapest of its own plans and of the other planners'."""
     return _plan(library.plan_crew, _side(source), _side(target))
 
 
