@@ -1,7 +1,8 @@
 -- The worked examples of the sentence that the top call carries, and of what a call has done to the outside.
-use Rattle.std.proofs.Common.{◌≡◌, ℕ, ◌<◌, ◌≤◌, ◌∙◌, pos, List, [], ◌∷◌, length, None, Some, codes, refl, sym, ap, subst, inl, inr, arith}
+use Rattle.std.proofs.Common.{◌≡◌, ℕ, ◌<◌, ◌≤◌, ◌∙◌, pos, List, [], ◌∷◌, length, take, None, Some, codes, refl, sym, ap, subst, inl, inr, arith}
 use Rattle.std.specs.Prelude.{Option, IsSomeAnd}
 use Rattle.std.specs.Fmt.{digits}
+use Rattle.std.proofs.lemmas.List.{length-take}
 use Rattle.nano_spec.specs.Matrix.{empty}
 use Rattle.nano_spec.specs.Worked.{hex, voxels_at}
 use Rattle.nano_spec.proofs.Showing.{commands_in}
@@ -36,9 +37,12 @@ worked_outcomes = record {
   what_is_seen = refl;
 }
   where
-    other_part : (n : ℕ) → Some (codes "s") ≡ Some (take n (codes "words\n")) → ⊥
-    other_part zero e = cc
-    other_part (suc n) e = cc
+    other_part : (n : ℕ) → Some (codes "words\n\n") ≡ Some (take n (codes "words\n")) → ⊥
+    other_part n e =
+        let same : codes "words\n\n" ≡ take n (codes "words\n") = cc in
+        let longer : 7 ≡ length (take n (codes "words\n")) = ap length same in
+        let most = length-take n (codes "words\n") in
+        omega (arith, longer, most)
 
     after_is : (files other : Files) (reply : Reply)
         → reply ≡ record { status = is.Done; line = codes "done\n"; after = files } → Some other ≡ Some reply.after

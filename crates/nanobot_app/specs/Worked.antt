@@ -36,8 +36,8 @@ pub record WorkedOutcomes : Type 0 where
   -- a first part of the line is written, and not something else
   pub a_part_of_a_line :
       (files : Files) → DeliveredPart (with_written (codes "a\n")) (with_written (codes "a\nwo")) (refused files)
-  pub not_another_part : (files : Files) → DeliveredPart (with_written []) (with_written (codes "s")) (refused files)
-      → ⊥
+  pub not_another_part : (files : Files)
+      → DeliveredPart (with_written []) (with_written (codes "words\n\n")) (refused files) → ⊥
   -- all statuses but three are answers
   pub answers : IsAnswer is.Done × IsAnswer is.Broken × IsAnswer is.Words × IsAnswer is.Model × IsAnswer is.Trace
       × IsAnswer is.Text × IsAnswer is.Unsupported

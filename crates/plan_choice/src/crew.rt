@@ -1,5 +1,5 @@
 //! The plan of a crew: the cheapest of its own proposals and of what the other planners make for the same models.
-ghost use Rattle.std.specs.Prelude.{◌≡◌, ◌×◌, ◌≤◌, ◌≤ℤ◌, IfOk, None};
+ghost use Rattle.std.specs.Prelude.{◌≡◌, ◌≤◌, ◌≤ℤ◌, IfOk, None};
 ghost use Rattle.nano_spec.specs.Legal.{IsLegal};
 ghost use Rattle.nano_spec.specs.Matrix.{empty};
 ghost use Rattle.plan_tape.specs.Models.{AreLegalModels};
