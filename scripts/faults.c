@@ -1,10 +1,11 @@
 /* Fails calls of a program, by LD_PRELOAD. FAULT=NAME:NUMBER:HOW fails the call NUMBER of NAME, counted from 1: HOW is the number of an
- * error, or `short`, which does one byte at most, or `end`, which does nothing and returns 0. COUNTED=FILE stores how many calls of
- * each name there were. */
+ * error, or `short`, which does one byte at most, or `end`, which does nothing and returns 0, or `kill`, which ends the program there.
+ * A close that fails loses what was written. COUNTED=FILE stores how many calls of each name there were. */
 #define _GNU_SOURCE
 #include <dlfcn.h>
 #include <errno.h>
 #include <fcntl.h>
+#include <signal.h>
 #include <stdarg.h>
 #include <stdio.h>
 #include <stdlib.h>
@@ -15,7 +16,7 @@
 
 enum { OPEN, READ, WRITE, LSEEK, STATX, FSYNC, CHMOD, RENAME, CLOSE, MALLOC, REALLOC, ALIGNED, NAMES };
 static const char *const names[NAMES] = {"open", "read", "write", "lseek", "statx", "fsync", "chmod", "rename", "close", "malloc", "realloc", "aligned"};
-enum { PASS, FAIL, SHORT, END };
+enum { PASS, FAIL, SHORT, END, KILL };
 
 static unsigned long counts[NAMES];
 
@@ -31,10 +32,11 @@ static int fault(int name)
             for (int i = 0; i < NAMES; i++)
                 if (!strcmp(called, names[i])) failing = i;
             error = atoi(what);
-            how = !strcmp(what, "short") ? SHORT : !strcmp(what, "end") ? END : FAIL;
+            how = !strcmp(what, "short") ? SHORT : !strcmp(what, "end") ? END : !strcmp(what, "kill") ? KILL : FAIL;
         }
     }
     if (++counts[name] != number || name != failing) return PASS;
+    if (how == KILL) raise(SIGKILL);
     errno = error;
     return how;
 }
@@ -78,17 +80,25 @@ static int fault(int name)
         return fault(OPEN) ? -1 : real(file, flags, mode); \
     }
 
+static void lose(int descriptor)
+{
+    int error = errno;
+    if (lseek(descriptor, 0, SEEK_CUR) > 0 && ftruncate(descriptor, 0)) errno = 0;
+    errno = error;
+}
+
 OPENING(open)
 OPENING(open64)
 TRANSFER(read, READ, void *bytes)
 TRANSFER(write, WRITE, const void *bytes)
+TRANSFER(__write, WRITE, const void *bytes)
 CALL(off_t, lseek, LSEEK, (int descriptor, off_t offset, int whence), (descriptor, offset, whence), -1, (void)0)
 CALL(int, statx, STATX, (int at, const char *restrict file, int flags, unsigned mask, struct statx *restrict into), (at, file, flags, mask, into), -1, (void)0)
 CALL(int, fsync, FSYNC, (int descriptor), (descriptor), -1, (void)0)
 CALL(int, fdatasync, FSYNC, (int descriptor), (descriptor), -1, (void)0)
 CALL(int, chmod, CHMOD, (const char *file, mode_t mode), (file, mode), -1, (void)0)
 CALL(int, rename, RENAME, (const char *from, const char *to), (from, to), -1, (void)0)
-CALL(int, close, CLOSE, (int descriptor), (descriptor), -1, real(descriptor))
+CALL(int, close, CLOSE, (int descriptor), (descriptor), -1, (lose(descriptor), real(descriptor)))
 CALL(void *, malloc, MALLOC, (size_t size), (size), NULL, (void)0)
 CALL(void *, realloc, REALLOC, (void *block, size_t size), (block, size), NULL, (void)0)
 CALL(void *, aligned_alloc, ALIGNED, (size_t alignment, size_t size), (alignment, size), NULL, (void)0)
