@@ -16,3 +16,6 @@ returns-clause-crew c =
     let few = c.seeds_bound_the_bots.ensures source full_profile other.commands c.recall.ensures.whole plan.plan.are_commands in
     let most : target.resolution ≤ 400 = subst (λ (r : ℕ). r ≤ 400) c.requires.same c.recall.ensures.whole.most in
     either_crew source target c.args.plan other c.compare.result.plan c.requires.crew (swarm_crew source target other most few plan) c.compare.ensures.either
+
+pub compare-requires : goal.compare-requires
+compare-requires c = c.in_ok-other.ensures.least

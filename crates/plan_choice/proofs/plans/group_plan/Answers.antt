@@ -35,3 +35,6 @@ returns-clause-plan c =
       few_bytes = bytes;
     } in
     subst (λ (p : Plan). IsGroupPlan source target p.commands p.energy p.steps) (sym c.sought_below.ensures.plan) its
+
+pub returns-clause-least : goal.returns-clause-least
+returns-clause-least c = c.sought_below.ensures.least

@@ -30,3 +30,6 @@ returns-clause-plan c =
       bytes = eight_each source.resolution (length (spellings it.commands)) short;
     } in
     subst (λ (p : Plan). IsLayerPlan source target p.commands p.energy p.steps) (sym c.sought_below.ensures.plan) its
+
+pub returns-clause-least : goal.returns-clause-least
+returns-clause-least c = c.sought_below.ensures.least

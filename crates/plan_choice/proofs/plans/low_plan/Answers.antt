@@ -28,3 +28,6 @@ returns-clause-plan c =
       few_steps = steps;
     } in
     subst (λ (p : Plan). IsLowPlan (empty target.resolution) target p.commands p.energy p.steps) (sym c.sought_below.ensures.plan) its
+
+pub returns-clause-least : goal.returns-clause-least
+returns-clause-least c = c.sought_below.ensures.least

@@ -31,3 +31,6 @@ returns-clause-plan c =
       few_steps = steps;
     } in
     subst (λ (p : Plan). IsVoidPlan source (empty source.resolution) p.commands p.energy p.steps) (sym c.sought_below.ensures.plan) its
+
+pub returns-clause-least : goal.returns-clause-least
+returns-clause-least c = c.sought_below.ensures.least
