@@ -12,8 +12,8 @@
  * - `size`, `energy` and `steps` point to one number each.
  * - `malloc`, `realloc` and `free` of the program come from one allocator and align as the C library's do. No call is made
  *   from a signal handler, or from the forked child of a process with threads.
- * - There is stack for the call. No clause says how much; measured were 201 KB for nanobot_judge, 198 KB for nanobot_cost and
- *   113 KB for each other call (a thread of musl has 128 KB, one of glibc 8 MB).
+ * - The thread has 192 KB of stack for the call: a thread of glibc has 8 MB, but one of musl only 128 KB. That is measured
+ *   (scripts/try_linked); no clause bounds it.
  *
  * Calls keep nothing between them, so threads may call at the same time. A call takes memory and frees it before it
  * returns. It returns for all bytes, junk too; time and memory are promised by no clause.

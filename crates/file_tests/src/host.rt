@@ -1,6 +1,7 @@
 //! What the depot and the sink of `vox_depot` answer over real files.
 use crate::pieces::{fetched, pattern};
 use std::io::Write;
+use std::os::unix::fs::symlink;
 use std::path::PathBuf;
 use std::process::Abort;
 use std::rt::Files;
@@ -9,7 +10,7 @@ use std::{env, fs, io, process};
 use vox_depot::{Depot, FetchFault, HostDepot, HostSink, Sink, SinkFault, StoreFault, load};
 
 // A path among the temporary files that no other test has.
-fn temporary(rt: &HostRuntime, name: &str) -> io::Result<PathBuf> {
+pub(crate) fn temporary(rt: &HostRuntime, name: &str) -> io::Result<PathBuf> {
     let file = format!(in rt.alloc(); "vox_depot_{name}_{}", process::id(rt.process()))?;
     Ok(env::temp_dir(rt)?.join(rt.alloc(), file.as_str())?)
 }
@@ -73,6 +74,27 @@ fn host_depot_stores_and_fetches(rt: HostRuntime) -> Result<(), Fail> {
     Ok(())
 }
 
+// A store through a link, or to one of two names of a file, is seen by the other name.
+#[test]
+fn host_depot_stores_through_links(rt: HostRuntime) -> Result<(), Fail> {
+    let path = temporary(&rt, "target")?;
+    let hard = temporary(&rt, "hard")?;
+    let soft = temporary(&rt, "soft")?;
+    fs::write(&rt, path.as_str(), "before")?;
+    fs::hard_link(&rt, path.as_str(), hard.as_str())?;
+    symlink(&rt, path.as_str(), soft.as_str())?;
+    let mut depot = HostDepot::new(&rt, rt.alloc());
+    assert_eq!(&rt; depot.store(hard.as_str(), b"one"), Ok(()));
+    assert_file(&rt, path.as_str(), b"one")?;
+    assert_eq!(&rt; depot.store(soft.as_str(), b"two"), Ok(()));
+    assert_file(&rt, hard.as_str(), b"two")?;
+    assert!(&rt; fs::symlink_metadata(&rt, soft.as_str())?.is_symlink());
+    for name in [path, hard, soft] {
+        fs::remove_file(&rt, name.as_str())?;
+    }
+    Ok(())
+}
+
 // A writer that takes nothing.
 #[derive(Drop)]
 struct Stuck;
@@ -93,7 +115,7 @@ fn assert_put<S: Sink>(rt: &impl Abort, sink: &mut S, bytes: &[u8], answer: Resu
 }
 
 /// The file has these bytes.
-fn assert_file<R: Files + AllocGlobal + Abort>(
+pub(crate) fn assert_file<R: Files + AllocGlobal + Abort>(
     rt: &R,
     name: &str,
     bytes: &[u8],

@@ -6,6 +6,8 @@
 #[cfg(test)]
 mod codec;
 #[cfg(test)]
+mod faults;
+#[cfg(test)]
 mod forging;
 #[cfg(test)]
 mod host;

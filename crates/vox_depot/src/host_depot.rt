@@ -5,6 +5,7 @@ ghost use Rattle.std.specs.IoError.{error_kind};
 ghost use Rattle.vox_depot.specs.Causes.{Rose, next_count, is_failed};
 
 use crate::depot::{Depot, FetchFault, StoreFault};
+use crate::replace::write_whole;
 use std::alloc::Global;
 use std::fs::{Files, OpenFile};
 use std::io::{ErrorKind, Read, Seek, SeekFrom};
@@ -27,7 +28,7 @@ struct Opened<F: Drop> {
 /// A file that has become shorter since then fails at its new end; other changes by others go unseen.
 /// Contracts see how often the depot has failed, and how often to store: want of memory counts, and a file that is
 /// not there too.
-/// A store that fails may have written some first bytes.
+/// A store that fails leaves the old file, unless the file can only be written in place (`write_whole`).
 #[derive(Drop)]
 pub struct HostDepot<'a, R: Files> {
     rt: &'a R,
@@ -167,7 +168,7 @@ impl<'a, R: Files> Depot for HostDepot<'a, R> {
     {
         // The file that is open may be this one.
         self.last = None;
-        if fs::write(self.rt, name, bytes).is_err() {
+        if write_whole(self.rt, self.alloc, name, bytes).is_err() {
             self.faults = self.faults.saturating_add(1);
             self.failed_stores = self.failed_stores.saturating_add(1);
             return Err(StoreFault);

@@ -7,6 +7,7 @@ mod host_depot;
 mod host_sink;
 mod memory_depot;
 mod memory_sink;
+mod replace;
 mod whole;
 
 pub use depot::{Depot, FetchFault, Sink, SinkFault, StoreFault};
