@@ -44,7 +44,7 @@ pub(crate) struct Sought {
 /// The plan, as one that was sought below a ceiling.
 fn sought_below(ceiling: i64, plan: Plan) -> Sought
     ensures plan { result.plan ≡ plan }
-    ensures least { IsLeast ceiling result.plan.energy result.least.energy }
+    ensures least { IsLeast ceiling plan.energy result.least.energy }
 {
     let energy = plan.energy.min(ceiling);
     Sought {
