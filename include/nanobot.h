@@ -112,8 +112,8 @@ uint32_t nanobot_plan_layer(const uint8_t *source, size_t source_size, const uin
 uint32_t nanobot_plan_group(const uint8_t *source, size_t source_size, const uint8_t *target, size_t target_size,
                             uint8_t *plan, size_t room, size_t *size);
 
-/* Up to forty bots, and never dearer than what the other planners make. It takes far fewer bytes than 2^30, which is all that is
- * proved: start with some megabytes, and let the status tell.
+/* Up to forty bots: the cheapest of its own plans and of those that the other planners make. It takes far fewer bytes than 2^30,
+ * which is all that is proved: start with some megabytes, and let the status tell.
  *
  *     nanobot_plan_crew(NANOBOT_NONE, 0, model, model_size, plan, sizeof plan, &size);       // size is 1011
  */

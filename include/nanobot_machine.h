@@ -8,12 +8,17 @@
  *   move one, copy the handle and set the old one to {0}. A handle that is overwritten or forgotten is a leak, and no worse.
  * - For a call the handle and what is written to point to one thing each, are not null, and overlap nothing else that is passed.
  *   Calls that only read write to the handle too. Two handles that are passed are different ones.
- * - One thread at a time uses a handle, and frees or steps it where it was begun. Handles of several threads are apart.
+ * - One thread at a time uses a handle. It may be another thread than the one that started it. Calls on different handles may run at
+ *   the same time.
  * - What stands at the head of nanobot.h: pointers that are never null, also with a length of 0 (NANOBOT_NONE), and the program's malloc.
  * - The thread has 64 KB of stack for the two starts and a copy, and 32 KB of stack for each other call. That is measured, too.
  *
- * A call that is refused, for whatever reason, leaves the machine as it was, and a call after it finds it so. That holds after
- * rule 12 (a voxel that floats) and after want of memory too; the next step, judgement or level after these takes as long as a start.
+ * A call that is refused, for whatever reason, leaves the machine as it was, and the next call finds it so. That holds after rule 12
+ * (a voxel that floats) and after NANOBOT_MEMORY too: the next step, judgement or level then takes as long as a start. No clause
+ * promises times; those that this page names follow from how the calls work.
+ *
+ * After a call that gives nothing (NANOBOT_NO_MACHINE, NANOBOT_NO_TRACE, NANOBOT_MEMORY) the *size of a buffer, and the *count of
+ * nanobot_machine_bots, are 0. All other numbers and structs that a status says nothing of stay as they were.
  */
 #ifndef NANOBOT_MACHINE_H
 #define NANOBOT_MACHINE_H
@@ -33,9 +38,9 @@ typedef struct nanobot_machine {
  * which are no commands. */
 enum {
     NANOBOT_NO_MACHINE = 11, /* the handle is empty; nothing is told */
-    NANOBOT_ENDED = 12,      /* no bot is active any more */
-    NANOBOT_COUNT = 13,      /* there are more or fewer commands than active bots */
-    NANOBOT_LONG = 14,       /* the machine has made its 1,073,741,824 steps */
+    NANOBOT_ENDED = 12,      /* no bot is active any more, whatever the commands are */
+    NANOBOT_COUNT = 13,      /* some bot is active, and there are more or fewer commands than active bots */
+    NANOBOT_LONG = 14,       /* there is one command for each bot, and the machine has made its 1,073,741,824 steps */
     NANOBOT_NO_NOTE = 15,    /* no earlier step is noted, so none can be taken back */
     NANOBOT_OUTSIDE = 16,    /* the coordinate is out of space */
     NANOBOT_NO_LEVEL = 17,   /* the voxel is void, or not grounded */
@@ -94,7 +99,9 @@ typedef struct nanobot_bot {
 } nanobot_bot;
 
 /* Starts a machine over the legal model of these bytes, by the light profile or the full one. The last `notes` steps can be taken
- * back, at most 4096. A machine that the handle has is freed. NANOBOT_MODEL: the model is refused, as *refusal tells.
+ * back, at most 4096. A noted step keeps 6 bytes for each voxel that it changed: 722 MB were measured for 4096 steps that each fill or
+ * void a box of 31 by 31 by 31 voxels, and 3.7 GB for five such boxes a step. A machine that the handle has is freed. NANOBOT_MODEL:
+ * the model is refused, as *refusal tells.
  *
  *     nanobot_machine machine = {0};
  *     nanobot_refusal refusal;
@@ -129,7 +136,8 @@ uint32_t nanobot_machine_step(nanobot_machine *machine, const uint8_t *commands,
  */
 uint32_t nanobot_machine_judge(nanobot_machine *machine, const uint8_t *commands, size_t commands_size, nanobot_judged *judged);
 
-/* Takes the last step back, if one is noted: NANOBOT_DONE or NANOBOT_NO_NOTE. It takes no memory.
+/* Takes the last step back, if one is noted: NANOBOT_DONE or NANOBOT_NO_NOTE. It may allocate, but never answers NANOBOT_MEMORY: if
+ * allocation fails, the step is back all the same, and the next step, judgement or level takes as long as a start.
  *
  *     nanobot_machine_undo(&machine);
  */

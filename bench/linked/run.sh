@@ -3,17 +3,16 @@
 # the static library, from C, and by starting the program as often. Then what calls of a machine take that is kept, from C, Rust and
 # Python, and a step of the program beside it: a million moves to and fro, and fills and voids. Builds both where they are missing.
 set -eu
-top=$(cd "$(dirname "$0")/../.." && pwd)
-# shellcheck source=scripts/linked_lib disable=SC2154
-. "$top/scripts/linked_lib"
-folder=$(mktemp -d)
-trap 'rm -rf "$folder"' EXIT
+# shellcheck source=scripts/common disable=SC2154
+. "$(dirname -- "$0")/../../scripts/common"
+have_built libnanobot.a
+library=$top/out/libnanobot.a
+make_folder
 cd "$folder"
 count=${1:-10000}
 cc -std=c11 -D_POSIX_C_SOURCE=200809L -O2 -I"$top/include" -o often "$top/bench/linked/often.c" "$library"
 "$top/nanobot" make 7 20 forged.mdl > /dev/null
 "$top/nanobot" plan layer - forged.mdl forged.nbt > /dev/null
-program=$top/out/nanobot
 TIMEFORMAT="    the program: $count starts in %R s"
 for words in "- $top/examples/house.mdl $top/examples/house.nbt" '- forged.mdl forged.nbt'; do
     # shellcheck disable=SC2086

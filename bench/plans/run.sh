@@ -3,9 +3,9 @@
 # a table for each plan: the model, its words, energy, steps, commands and bytes, and the seconds of the processor to plan it
 # from file to file and to run it. A refusal is printed in place of the numbers.
 set -eu
-top=$(cd "$(dirname "$0")/../.." && pwd)
-folder=$(mktemp -d)
-trap 'rm -rf "$folder"' EXIT
+# shellcheck source=scripts/common disable=SC2154
+. "$(dirname -- "$0")/../../scripts/common"
+make_folder
 cp "$top/examples/house.mdl" "$folder/house.mdl"
 cd "$folder"
 python3 - "$top" << 'END'

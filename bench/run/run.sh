@@ -6,9 +6,9 @@
 # the models and traces (bench/run/make.py, and plans of the program itself), and times each run. The trace of the planes of
 # 31 by 31 ends without a Halt, so its run is refused at the end.
 set -eu
-top=$(cd "$(dirname "$0")/../.." && pwd)
-folder=$(mktemp -d)
-trap 'rm -rf "$folder"' EXIT
+# shellcheck source=scripts/common disable=SC2154
+. "$(dirname -- "$0")/../../scripts/common"
+make_folder
 python3 "$top/bench/run/make.py" "$folder"
 cd "$folder"
 "$top/nanobot" make 7 250 forged.mdl

@@ -6,7 +6,8 @@
 # a proof takes many. Kept from call to call in FOLDER (/tmp/unproved). Its times are near those of the proved program, not
 # the same: that one has no tests of indices.
 set -eu
-top=$(cd "$(dirname "$0")/../.." && pwd)
+# shellcheck source=scripts/common disable=SC2154
+. "$(dirname -- "$0")/../../scripts/common"
 here=$top/bench/unproved
 folder=${FOLDER:-/tmp/unproved}
 mkdir -p "$folder/src"

@@ -1,4 +1,5 @@
-"""nanobot from Python: a machine that is kept between steps, the judge, and the planners, each proved to do what the rules say."""
+"""nanobot from Python: a machine that is kept between steps, the judge and the planners of a library whose calls are proved to do what
+the rules say. The package around it is tested."""
 
 from .errors import (
     BadCommands,

@@ -3,6 +3,7 @@ standard input (`help` lists them). One of S and T may be `-`, the empty model o
 trace is accepted or was walked, with 1 where it is refused, and with 2 where the words are not understood or a file cannot be
 read."""
 
+import signal
 import sys
 
 from .errors import NanobotError
@@ -11,6 +12,7 @@ from .walk import Walk
 
 
 def main() -> int:
+    signal.signal(signal.SIGPIPE, signal.SIG_DFL)
     words = sys.argv[1:]
     light = words[1:2] == ["light"] and len(words) == 5
     rest = words[2:] if light else words[1:]

@@ -4,6 +4,7 @@ from __future__ import annotations
 
 import os
 from ctypes import byref, c_size_t, c_uint32
+from operator import index
 from typing import List, NamedTuple, Optional, Tuple, Union
 
 from . import _library as lib
@@ -27,6 +28,8 @@ from .errors import (
 Source = Union[bytes, str, "os.PathLike[str]"]
 At = Tuple[int, int, int]
 MOST_BOTS = 40
+MOST_NOTES = 4096
+MOST_RESOLUTION = 400
 MOST_NUMBER = 2**32 - 1
 
 
@@ -65,11 +68,29 @@ class State(NamedTuple):
 
 
 def bytes_of(source: Source) -> bytes:
-    """The bytes themselves, or those of a file."""
+    """Returns the bytes themselves, or those of a file. A number is no file: to `open` it would be a descriptor, which it closes."""
     if isinstance(source, (bytes, bytearray)):
         return bytes(source)
+    if not isinstance(source, (str, os.PathLike)):
+        raise TypeError(f"give bytes, or the name of a file as str or a path, not {type(source).__name__}")
     with open(source, "rb") as file:
         return file.read()
+
+
+def commands_of(commands: bytes) -> bytes:
+    """Returns the bytes of a step."""
+    if not isinstance(commands, (bytes, bytearray)):
+        raise TypeError(f"the commands of a step are bytes, not {type(commands).__name__}")
+    return bytes(commands)
+
+
+def number_of(name: str, number: int, least: int, most: int) -> int:
+    """Returns a number within its bounds. A bool is none."""
+    if isinstance(number, bool) or not hasattr(number, "__index__"):
+        raise TypeError(f"{name} is a whole number, not {type(number).__name__}")
+    if not least <= index(number) <= most:
+        raise ValueError(f"{name} is {least} to {most}")
+    return index(number)
 
 
 def coord_of(at: At) -> Coord:
@@ -89,8 +110,14 @@ def refusal_of(told: lib.Refusal) -> RefusedModel:
 class Machine:
     """A machine over a legal model, or over the empty one of a resolution, kept between steps.
 
-    Of its last steps as many as `notes` can be taken back, at most 4096. With `trace` the commands of its steps are kept. Each call that raises leaves the machine as it was. One
-    thread at a time uses a machine. It is freed by `close`, at the end of a `with`, or when nothing refers to it any more."""
+    Of its last steps as many as `notes` can be taken back, at most 4096; a noted step keeps 6 bytes for each voxel that it changed.
+    With `trace` the commands of its steps are kept. Each call that raises leaves the machine as it was. One thread at a time uses a
+    machine. It is freed by `close`, at the end of a `with`, or when nothing refers to it any more."""
+
+    def __new__(cls, *_: object, **__: object) -> "Machine":
+        machine = super().__new__(cls)
+        machine._handle = lib.Handle()
+        return machine
 
     def __init__(
         self,
@@ -101,14 +128,11 @@ class Machine:
         notes: int = 0,
         trace: bool = False,
     ) -> None:
-        self._handle = lib.Handle()
         if (model is None) == (resolution is None):
             raise ValueError("give a model, or the resolution of the empty one")
-        if not 0 <= notes <= 4096:
-            raise ValueError("notes are 0 to 4096")
+        notes = number_of("notes", notes, 0, MOST_NOTES)
         if model is None:
-            if not 1 <= resolution <= 400:
-                raise ValueError("resolutions are 1 to 400")
+            resolution = number_of("resolution", resolution, 1, MOST_RESOLUTION)
             self._check(library.machine_start_empty(resolution, light, notes, byref(self._handle)))
         else:
             self._start(bytes_of(model), light, notes)
@@ -143,8 +167,7 @@ class Machine:
         self.close()
 
     def __del__(self) -> None:
-        if getattr(self, "_handle", None) is not None:
-            self.close()
+        self.close()
 
     def __copy__(self) -> "Machine":
         return self.copy()
@@ -156,7 +179,6 @@ class Machine:
         """Another machine where this one stands, with a trace of its own if one is kept. No step can be taken back in it until it makes
         some."""
         other = Machine.__new__(Machine)
-        other._handle = lib.Handle()
         self._check(library.machine_copy(byref(self._handle), byref(other._handle)))
         return other
 
@@ -177,14 +199,14 @@ class Machine:
     def step(self, commands: bytes) -> Step:
         """Makes one step: the bytes of a trace for one command of each active bot, in rising order of their bids."""
         told = lib.StepTold()
-        status = library.machine_step(byref(self._handle), *lib.lend(commands), byref(told))
+        status = library.machine_step(byref(self._handle), *lib.lend(commands_of(commands)), byref(told))
         self._refuse(status, told.broken, told.offset)
         return Step(told.energy, told.steps, told.active)
 
     def judge(self, commands: bytes) -> Judged:
         """What `step` would come to: it raises what that would, and the machine stays as it is."""
         told = lib.JudgedTold()
-        status = library.machine_judge(byref(self._handle), *lib.lend(commands), byref(told))
+        status = library.machine_judge(byref(self._handle), *lib.lend(commands_of(commands)), byref(told))
         self._refuse(status, told.broken, told.offset)
         return Judged(told.energy, told.halts == 1)
 

@@ -76,7 +76,9 @@ def count_commands(trace: Source) -> int:
 
 def asm(text: str | bytes) -> bytes:
     """The trace that a text spells."""
-    data = text.encode() if isinstance(text, str) else text
+    if not isinstance(text, (str, bytes, bytearray)):
+        raise TypeError(f"a text is str or bytes, not {type(text).__name__}")
+    data = text.encode() if isinstance(text, str) else bytes(text)
     return _stored(library.asm, data, 100 + len(data))
 
 
@@ -86,8 +88,8 @@ def dis(trace: Source) -> str:
     return _stored(library.dis, data, 100 + 18 * len(data)).decode()
 
 
-def _plan(call, *models: Optional[Source]) -> bytes:
-    lent = [part for model in models for part in lib.lend(_side(model))]
+def _plan(call, *models: bytes) -> bytes:
+    lent = [part for model in models for part in lib.lend(model)]
     status, made = lib.given(call, *lent, room=1 << 16)
     if status == lib.DONE:
         return made
@@ -96,29 +98,29 @@ def _plan(call, *models: Optional[Source]) -> bytes:
 
 def plan_layer(source: Optional[Source], target: Optional[Source]) -> bytes:
     """A trace from the source to the target by one bot at most."""
-    return _plan(library.plan_layer, source, target)
+    return _plan(library.plan_layer, _side(source), _side(target))
 
 
 def plan_group(source: Optional[Source], target: Optional[Source]) -> bytes:
     """The same by two bots at most."""
-    return _plan(library.plan_group, source, target)
+    return _plan(library.plan_group, _side(source), _side(target))
 
 
 def plan_crew(source: Optional[Source], target: Optional[Source]) -> bytes:
-    """The same by forty bots at most, never dearer than what the other planners make."""
-    return _plan(library.plan_crew, source, target)
+    """The same by forty bots at most: the cheapest of its own plans and of the other planners'."""
+    return _plan(library.plan_crew, _side(source), _side(target))
 
 
 def plan_void(source: Source) -> bytes:
     """A trace that takes the source down, by four bots at most."""
-    return _plan(library.plan_void, source)
+    return _plan(library.plan_void, bytes_of(source))
 
 
 def plan_low(target: Source) -> bytes:
     """A trace that builds the target under low harmonics all the time, where each part of it is supported."""
-    return _plan(library.plan_low, target)
+    return _plan(library.plan_low, bytes_of(target))
 
 
 def plan_swarm(target: Source) -> bytes:
     """A trace that builds the target by twenty bots at most."""
-    return _plan(library.plan_swarm, target)
+    return _plan(library.plan_swarm, bytes_of(target))

@@ -157,12 +157,69 @@ class Models(unittest.TestCase):
             self.assertRaises(nanobot.RefusedModel, empty.difference, b"\x03\x00")
 
     def test_numbers_that_are_refused(self):
-        for wrong in ({"resolution": 0}, {"resolution": 401}, {"resolution": 2, "notes": 4097}, {}):
+        for wrong in ({"resolution": 0}, {"resolution": 401}, {"resolution": 2, "notes": 4097}, {"resolution": 2, "notes": -1}, {}):
             with self.assertRaises(ValueError):
+                Machine(**wrong)
+        for wrong in ({"resolution": True}, {"resolution": 2.0}, {"resolution": "2"}, {"resolution": 2, "notes": False}):
+            with self.assertRaises(TypeError):
                 Machine(**wrong)
 
 
+class Descriptors(unittest.TestCase):
+    """A number where a file or bytes are due is refused by a sentence, and no descriptor of that number is opened or closed."""
+
+    CALLS = {
+        "a machine": Machine,
+        "a step": lambda it: Machine(resolution=2).step(it),
+        "a judgement": lambda it: Machine(resolution=2).judge(it),
+        "a comparison": lambda it: Machine(resolution=2).difference(it),
+        "a count of differences": lambda it: Machine(resolution=2).differences(it),
+        "check": nanobot.check,
+        "asm": nanobot.asm,
+        "dis": nanobot.dis,
+        "count_commands": nanobot.count_commands,
+        "judge, source": lambda it: nanobot.judge(it, HOUSE, WAIT),
+        "judge, target": lambda it: nanobot.judge(HOUSE, it, WAIT),
+        "judge, trace": lambda it: nanobot.judge(None, HOUSE, it),
+        "plan_layer": lambda it: nanobot.plan_layer(it, HOUSE),
+        "plan_group": lambda it: nanobot.plan_group(HOUSE, it),
+        "plan_crew": lambda it: nanobot.plan_crew(it, HOUSE),
+        "plan_void": nanobot.plan_void,
+        "plan_low": nanobot.plan_low,
+        "plan_swarm": nanobot.plan_swarm,
+    }
+
+    def test_what_is_no_file_and_no_bytes(self):
+        before = sorted(os.listdir("/proc/self/fd"))
+        for wrong in (0, 1, 2, True, 2.5, [1], (1,), {1}, memoryview(b"\x14")):
+            for name, call in self.CALLS.items():
+                with self.subTest(call=name, given=wrong), self.assertRaisesRegex(TypeError, f"not {type(wrong).__name__}$"):
+                    call(wrong)
+        self.assertEqual(sorted(os.listdir("/proc/self/fd")), before)
+
+    def test_none(self):
+        may_be_none = {"judge, source", "judge, target", "plan_layer", "plan_group", "plan_crew"}
+        for name, call in self.CALLS.items():
+            if name not in may_be_none:
+                with self.subTest(call=name), self.assertRaises(ValueError if name == "a machine" else TypeError):
+                    call(None)
+
+
 class Handles(unittest.TestCase):
+    def test_a_machine_that_is_started_again(self):
+        machine, sizes = Machine(HOUSE), []
+        for count in range(401):
+            machine.__init__(HOUSE)
+            if count % 200 == 0:
+                with open("/proc/self/statm", encoding="ascii") as file:
+                    sizes.append(int(file.read().split()[1]))
+        self.assertLess(sizes[2] - sizes[1], 500, "pages more after 200 starts")
+        self.assertRaises(ValueError, machine.__init__, resolution=0)
+        self.assertEqual(machine.state.resolution, 20)
+        machine.__init__(resolution=3)
+        self.assertEqual((machine.state.resolution, machine.count()), (3, 0))
+        machine.close()
+
     def test_a_closed_machine(self):
         machine = Machine(resolution=2)
         machine.close()

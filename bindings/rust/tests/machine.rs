@@ -59,6 +59,20 @@ fn a_copy_goes_its_own_way() {
 }
 
 #[test]
+fn a_machine_moves_to_another_thread() {
+    let mut machine = Machine::empty(3, Profile::Full, 1).unwrap();
+    machine.step(WAIT).unwrap();
+    let mut moved = std::thread::spawn(move || {
+        machine.step(WAIT).unwrap();
+        machine
+    })
+    .join()
+    .unwrap();
+    moved.undo().unwrap();
+    assert_eq!(moved.state().steps, 1);
+}
+
+#[test]
 fn a_step_that_is_judged_is_not_made() {
     let mut machine = Machine::empty(4, Profile::Full, 1).unwrap();
     let judged = |energy, halts| Ok(Judged { energy, halts });

@@ -20,6 +20,10 @@ no_line_is (Voxel c) h = let parts_are = h.parts_are in cc
 pub worked_scripts : WorkedScripts
 unfolding digits
 worked_scripts = record {
+  six_digits_of_a_bid = λ h. let short : 100000 < 100000 = h in omega arith;
+  six_digits_of_x = λ h. let short : 100000 < 100000 = h.0 in omega arith;
+  six_digits_of_y = λ h. let short : 100000 < 100000 = h.1 in omega arith;
+  six_digits_of_z = λ h. let short : 100000 < 100000 = h.2 in omega arith;
   each_line = (
     Ok Step,
     (record { parts_are = refl; short = tt }, refl),
@@ -62,10 +66,6 @@ worked_scripts = record {
   group_0 = (Err Range, (Group 0, record { parts_are = refl; short = omega arith }, refl), refl);
   group_41 = (Ok Back, (record { parts_are = refl; short = tt }, refl), (Err (record { fault = Range; line = 2 }), (Err Range, (Group 41, record { parts_are = refl; short = omega arith }, refl), refl), refl));
   a_bid_of_five_digits = (Err Range, (Group 12345, record { parts_are = refl; short = omega arith }, refl), refl);
-  six_digits_of_a_bid = λ h. let short : 100000 < 100000 = h in omega arith;
-  six_digits_of_x = λ h. let short : 100000 < 100000 = h.0 in omega arith;
-  six_digits_of_y = λ h. let short : 100000 < 100000 = h.1 in omega arith;
-  six_digits_of_z = λ h. let short : 100000 < 100000 = h.2 in omega arith;
   x_past_the_matrix = (Err Range, (Voxel (coord 3 0 0), record { parts_are = refl; short = (omega arith, omega arith, omega arith) }, refl), refl);
   y_past_the_matrix = (Err Range, (Voxel (coord 0 3 0), record { parts_are = refl; short = (omega arith, omega arith, omega arith) }, refl), refl);
   z_past_the_matrix = (Err Range, (Voxel (coord 0 0 3), record { parts_are = refl; short = (omega arith, omega arith, omega arith) }, refl), refl);

@@ -23,7 +23,7 @@ use Rattle.step_order.specs.SomeGroups.{after_some}
 use Rattle.step_order.proofs.Lists.{In, any_in, any_none, in_either, in_left, in_place, in_right, not_both}
 use Rattle.step_machine.proofs.Reaching.{level_of}
 use Rattle.step_machine.proofs.Weighing.{next_of}
-use Rattle.step_debugger.specs.Session.{AnswersLine, Back, BeginsGroup, Begun, Bots, Crew, DebugLine, DebugReport, Ended, GoesBack, Group, Made, Moment, NoHistory, NoLeader, Refused, Session, Step, TakesBack, TriesGroup, TriesStep, UnlessEnded, Voxel, dropped, is_last, is_returned, made, may_begin, middle_state, most_past, next_commands, next_leaders, none_left, refused}
+use Rattle.step_debugger.specs.Session.{AnswersLine, Back, BeginsGroup, Begun, Bots, Crew, DebugLine, DebugReport, Ended, GoesBack, Group, Made, SessionPoint, NoHistory, NoLeader, Refused, Session, Step, TakesBack, TriesGroup, TriesStep, UnlessEnded, Voxel, dropped, is_last, is_returned, made, may_begin, middle_state, most_past, next_commands, next_leaders, none_left, refused}
 use Rattle.debug_script.specs.Printing.{printed_report}
 use Rattle.debug_script.specs.Sessions.{Prints}
 
@@ -56,10 +56,10 @@ in_dropped x (suc n) [] i = i
 in_dropped x (suc n) (y ∷ xs) i = inr (in_dropped x n xs i)
 
 -- a list that is not empty has a last element
-last_of : (p : Moment) (past : List Moment)
-    → (earlier : List Moment) × (last : Moment) × (p ∷ past ≡ earlier ++ last ∷ [])
+last_of : (p : SessionPoint) (past : List SessionPoint)
+    → (earlier : List SessionPoint) × (last : SessionPoint) × (p ∷ past ≡ earlier ++ last ∷ [])
 last_of p [] = ([], p, refl)
-last_of p (q ∷ past) = let last_moment = last_of q past in (p ∷ last_moment.0, last_moment.1, ap (λ (qs : List Moment). p ∷ qs) last_moment.2)
+last_of p (q ∷ past) = let last_moment = last_of q past in (p ∷ last_moment.0, last_moment.1, ap (λ (qs : List SessionPoint). p ∷ qs) last_moment.2)
 
 -- ---- sessions
 
@@ -71,14 +71,15 @@ next_broken commands s = broken s.point.state (next_commands commands s.point) (
 -- rule at its start
 record IsOrderly (commands : List Command) (s : Session) : Type 0 where
   point : IsReady s.point.state
-  past : (p : Moment) → In p s.past → IsReady p.state
+  past : (p : SessionPoint) → In p s.past → IsReady p.state
   left : List ℕ
   leaders : IsPermutation (next_leaders commands s.point) (s.begun ++ left)
   keeps : (s.begun ≡ [] → ⊥) → next_broken commands s ≡ None
 
 -- it is so of a session in which nothing is begun, where its points are ready
-fresh : (commands : List Command) (p : Moment) (past : List Moment) → IsReady p.state
-    → ((q : Moment) → In q past → IsReady q.state) → IsOrderly commands (record { point = p; past = past; begun = [] })
+fresh : (commands : List Command) (p : SessionPoint) (past : List SessionPoint) → IsReady p.state
+    → ((q : SessionPoint) → In q past → IsReady q.state)
+    → IsOrderly commands (record { point = p; past = past; begun = [] })
 fresh commands p past ready before = record { point = ready; past = before; left = next_leaders commands p; leaders = IsPermutation-refl (next_leaders commands p); keeps = λ some. absurd (some refl) }
 
 module _ (commands : List Command) (are : AreCommands commands) (stays_ready : ReadyLaw) (middle : MiddleLaw) where
@@ -104,9 +105,9 @@ module _ (commands : List Command) (are : AreCommands commands) (stays_ready : R
         fresh commands (made s u).point (made s u).past (subst IsReady (sym accepted.is) now)
         (λ p i. joined p (in_either p s.past (s.point ∷ []) (in_dropped p (length (s.past ++ s.point ∷ []) - most_past) (s.past ++ s.point ∷ []) i)))
       where
-        joined : (p : Moment) → In p s.past ⊎ In p (s.point ∷ []) → IsReady p.state
+        joined : (p : SessionPoint) → In p s.past ⊎ In p (s.point ∷ []) → IsReady p.state
         joined p (inl i) = orderly.past p i
-        joined p (inr (inl e)) = subst (λ (q : Moment). IsReady q.state) (sym e) orderly.point
+        joined p (inr (inl e)) = subst (λ (q : SessionPoint). IsReady q.state) (sym e) orderly.point
         joined p (inr (inr i)) = absurd i
 
     -- ---- the line of a step
@@ -179,12 +180,12 @@ module _ (commands : List Command) (are : AreCommands commands) (stays_ready : R
 
     -- ---- the lines of the way back, of the bots and of a voxel
 
-    takes_back : (past : List Moment) → s.past ≡ past → HasAnswer (TakesBack past s)
+    takes_back : (past : List SessionPoint) → s.past ≡ past → HasAnswer (TakesBack past s)
     takes_back [] e = (s, NoHistory, (refl, refl), orderly)
     takes_back (p ∷ past) e =
         let last_moment = last_of p past in
         let is : s.past ≡ last_moment.0 ++ last_moment.1 ∷ [] = e ∙ last_moment.2 in
-        let before : (q : Moment) → In q (last_moment.0 ++ last_moment.1 ∷ []) → IsReady q.state = λ q i. orderly.past q (subst (λ (qs : List Moment). In q qs) (sym is) i) in (
+        let before : (q : SessionPoint) → In q (last_moment.0 ++ last_moment.1 ∷ []) → IsReady q.state = λ q i. orderly.past q (subst (λ (qs : List SessionPoint). In q qs) (sym is) i) in (
           record { point = last_moment.1; past = last_moment.0; begun = [] },
           is_returned last_moment.1,
           record { earlier = last_moment.0; last = last_moment.1; past = is; session = refl; report_is = refl },
@@ -220,6 +221,6 @@ module _ (commands : List Command) (are : AreCommands commands) (stays_ready : R
       let rest = prints_from more answered_here.0 answered_here.3 in
       (printed_report answered_here.1 ++ rest.0, (answered_here.0, answered_here.1, rest.0, answered_here.2, rest.1, refl))
 
-  pub some_printing : (script : List DebugLine) (p : Moment) → IsReady p.state
+  pub some_printing : (script : List DebugLine) (p : SessionPoint) → IsReady p.state
       → (text : List ℕ) × Prints commands script (record { point = p; past = []; begun = [] }) text
   some_printing script p ready = prints_from script (record { point = p; past = []; begun = [] }) (fresh commands p [] ready (λ q i. absurd i))

@@ -10,6 +10,11 @@ use Rattle.debug_script.specs.Script.{AreShort, ScriptSays}
 
 -- scripts at resolution 3
 pub record WorkedScripts : Type 0 where
+  -- a number has five digits at most
+  pub six_digits_of_a_bid : AreShort (session.Group 100000) → ⊥
+  pub six_digits_of_x : AreShort (session.Voxel (coord 100000 0 0)) → ⊥
+  pub six_digits_of_y : AreShort (session.Voxel (coord 0 100000 0)) → ⊥
+  pub six_digits_of_z : AreShort (session.Voxel (coord 0 0 100000)) → ⊥
   pub each_line : ScriptSays 3 (codes "step\ngroup 40\nback\nbots\nvoxel 0 2 1\n")
       (Ok (session.Step ∷ session.Group 40 ∷ session.Back ∷ session.Bots ∷ session.Voxel (coord 0 2 1) ∷ []))
   pub no_line : ScriptSays 3 [] (Ok [])
@@ -20,12 +25,7 @@ pub record WorkedScripts : Type 0 where
   pub a_blank_behind_a_word : ScriptSays 3 (codes "step \n") (Err (record { fault = Shape; line = 1 }))
   pub group_0 : ScriptSays 3 (codes "group 0\n") (Err (record { fault = Range; line = 1 }))
   pub group_41 : ScriptSays 3 (codes "back\ngroup 41\n") (Err (record { fault = Range; line = 2 }))
-  -- a number has five digits at most
   pub a_bid_of_five_digits : ScriptSays 3 (codes "group 12345\n") (Err (record { fault = Range; line = 1 }))
-  pub six_digits_of_a_bid : AreShort (session.Group 100000) → ⊥
-  pub six_digits_of_x : AreShort (session.Voxel (coord 100000 0 0)) → ⊥
-  pub six_digits_of_y : AreShort (session.Voxel (coord 0 100000 0)) → ⊥
-  pub six_digits_of_z : AreShort (session.Voxel (coord 0 0 100000)) → ⊥
   pub x_past_the_matrix : ScriptSays 3 (codes "voxel 3 0 0\n") (Err (record { fault = Range; line = 1 }))
   pub y_past_the_matrix : ScriptSays 3 (codes "voxel 0 3 0\n") (Err (record { fault = Range; line = 1 }))
   pub z_past_the_matrix : ScriptSays 3 (codes "voxel 0 0 3\n") (Err (record { fault = Range; line = 1 }))

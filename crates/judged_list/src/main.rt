@@ -19,7 +19,7 @@ fn main(rt: HostRuntime) -> io::Result<()> {
                 broken.step, broken.bid
             )?;
         }
-        Err(Memory) => println!(rt; "out of memory")?,
+        Err(Memory) => return Err(io::Error::from(io::ErrorKind::OutOfMemory)),
     }
     Ok(())
 }

@@ -124,8 +124,8 @@ pub cannot_so : (k : Kept) (v : Situation) (notes : Buffer Undo) (trace : Option
     → Tries (kept_of v notes trace) commands k (Err f)
 cannot_so k v notes trace commands (no_step.Broken b) same h = absurd h
 cannot_so k v notes trace commands no_step.Ended same h = (same, h)
-cannot_so k v notes trace commands no_step.Count same h = (same, h)
-cannot_so k v notes trace commands no_step.Long same h = (same, h)
+cannot_so k v notes trace commands no_step.Count same h = (same, h.0, h.1)
+cannot_so k v notes trace commands no_step.Long same h = (same, h.0, h.1, h.2)
 cannot_so k v notes trace commands no_step.Memory same h = absurd h
 
 -- ---- the last step is taken back

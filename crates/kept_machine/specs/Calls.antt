@@ -53,8 +53,10 @@ Tries old commands new (Ok ok) = IsMade old commands new ok
 Tries old commands new (Err (no_step.Broken b)) =
     (new ≡ old) × (length commands ≡ length old.state.bots) × Next old.state commands (old.steps + 1) (Breaks b)
 Tries old commands new (Err no_step.Ended) = (new ≡ old) × (old.state.bots ≡ [])
-Tries old commands new (Err no_step.Count) = (new ≡ old) × (length commands ≢ length old.state.bots)
-Tries old commands new (Err no_step.Long) = (new ≡ old) × (1073741824 ≤ old.steps)
+Tries old commands new (Err no_step.Count) =
+    (new ≡ old) × (1 ≤ length old.state.bots) × (length commands ≢ length old.state.bots)
+Tries old commands new (Err no_step.Long) =
+    (new ≡ old) × (1 ≤ length old.state.bots) × (length commands ≡ length old.state.bots) × (1073741824 ≤ old.steps)
 Tries old commands new (Err no_step.Memory) = new ≡ old
 
 -- what a step would answer: the same as one that is made, whichever machine that would leave

@@ -108,6 +108,7 @@ pub record CanStep (m : Situation) (commands : List Command) : Type 0 where
 abbrev pub CannotStep : Situation → List Command → NoStep → Type 0
 CannotStep m commands (no_step.Broken b) = ⊥
 CannotStep m commands no_step.Ended = m.state.bots ≡ []
-CannotStep m commands no_step.Count = length commands ≢ length m.state.bots
-CannotStep m commands no_step.Long = 1073741824 ≤ m.steps
+CannotStep m commands no_step.Count = (1 ≤ length m.state.bots) × (length commands ≢ length m.state.bots)
+CannotStep m commands no_step.Long =
+    (1 ≤ length m.state.bots) × (length commands ≡ length m.state.bots) × (1073741824 ≤ m.steps)
 CannotStep m commands no_step.Memory = ⊥

@@ -126,7 +126,8 @@ impl KeptMachine {
         judge_step::<Brand>(self.alloc, &mut self.machine, commands, Blank::new(1))
     }
 
-    /// Takes the last step back, if one is noted: whether one is. It takes no memory.
+    /// Takes the last step back, if one is noted, and returns whether one was. If allocation fails, the step is back all the
+    /// same, and the next call takes as long as a start.
     pub fn undo(&mut self) -> bool
         ensures { Undoes self.old self.new result }
     {

@@ -217,7 +217,8 @@ fn step_and_restore<L: Ledger>(
     let order = machine.leaders(commands);
     match machine.step_noted(commands, order.as_slice(), steps) {
         Ok((ok, undo)) => {
-            machine.restore(&undo, steps);
+            // The step is back whatever this answers: a machine that is spent is made anew by its next call.
+            let _ = machine.restore(&undo, steps);
             Ok(ok)
         }
         Err(fault) => Err(NoStep::of(fault)),
@@ -260,7 +261,7 @@ fn take_back<L: Ledger>(
         return false;
     };
     let mut steps = Steps::<L>::new(blank, CounterPermit);
-    machine.restore(undo, &mut steps);
+    let _ = machine.restore(undo, &mut steps);
     notes.pop_back();
     true
 }

@@ -169,11 +169,14 @@ GivesAll given before after count status =
     × (((length given ≤ length before) × (after ≡ given ++ drop (length given) before) × (status ≡ DONE))
     ⊎ ((length before < length given) × (after ≡ before) × (status ≡ TOO_SMALL)))
 
+-- nothing is given: the buffer is as it was, and the count is 0
+abbrev pub GivesNothing : {X : Type 0} → List X → List X → ℕ → Type 0
+GivesNothing before after count = (after ≡ before) × (count ≡ 0)
+
 -- the active bots, in rising order of their bids
-abbrev pub AreBotsTold : Option Kept → List BotTold → List BotTold → ℕ → ℕ → ℕ → Type 0
-AreBotsTold None before after count_before count status =
-    (after ≡ before) × (count ≡ count_before) × (status ≡ NO_MACHINE)
-AreBotsTold (Some k) before after count_before count status =
+abbrev pub AreBotsTold : Option Kept → List BotTold → List BotTold → ℕ → ℕ → Type 0
+AreBotsTold None before after count status = GivesNothing before after count × (status ≡ NO_MACHINE)
+AreBotsTold (Some k) before after count status =
     GivesAll (map bot_told k.state.bots) before after count status
 
 -- whether a voxel is full, 1 or 0
@@ -210,8 +213,8 @@ IsCounted None before after status = (after ≡ before) × (status ≡ NO_MACHIN
 IsCounted (Some k) before after status = (after ≡ full_count k.state.matrix) × (status ≡ DONE)
 
 -- the matrix as the bytes of a model
-abbrev pub IsModelGiven : Option Kept → List ℕ → List ℕ → ℕ → ℕ → ℕ → Type 0
-IsModelGiven None before after size_before size status = (after ≡ before) × (size ≡ size_before) × (status ≡ NO_MACHINE)
-IsModelGiven (Some k) before after size_before size status =
+abbrev pub IsModelGiven : Option Kept → List ℕ → List ℕ → ℕ → ℕ → Type 0
+IsModelGiven None before after size status = GivesNothing before after size × (status ≡ NO_MACHINE)
+IsModelGiven (Some k) before after size status =
     GivesAll (written k.state.matrix) before after size status
-    ⊎ ((after ≡ before) × (size ≡ size_before) × (status ≡ MEMORY))
+    ⊎ (GivesNothing before after size × (status ≡ MEMORY))

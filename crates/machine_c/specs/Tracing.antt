@@ -5,7 +5,7 @@ use Rattle.nano_spec.specs.Cutting.{Cutting}
 use Rattle.kept_machine.specs.Calls.{BeginsTrace}
 use Rattle.kept_machine.specs.Kept.{Kept}
 use Rattle.machine_c.specs.declared.status.TheConstants.{BEGUN, DONE, MEMORY, NO_MACHINE, NO_TRACE}
-use Rattle.machine_c.specs.Calls.{GivesAll}
+use Rattle.machine_c.specs.Calls.{GivesAll, GivesNothing}
 
 -- the status of a trace that was to be begun
 abbrev pub status_of_keep : Bool → ℕ
@@ -19,17 +19,16 @@ BeginsToKeep (Some old) new status =
     (k : Kept) × (new ≡ Some k) × (answer : Bool) × BeginsTrace old k answer × (status ≡ status_of_keep answer)
 
 -- the bytes that the commands are spelled by are given, or there was no memory
-abbrev pub GivesTrace : List Command → List ℕ → List ℕ → ℕ → ℕ → ℕ → Type 0
-GivesTrace commands before after size_before size status =
+abbrev pub GivesTrace : List Command → List ℕ → List ℕ → ℕ → ℕ → Type 0
+GivesTrace commands before after size status =
     ((bytes : List ℕ) × Cutting bytes commands × GivesAll bytes before after size status)
-    ⊎ ((after ≡ before) × (size ≡ size_before) × (status ≡ MEMORY))
+    ⊎ (GivesNothing before after size × (status ≡ MEMORY))
 
 -- the trace of a machine is given, if it is kept
-abbrev pub GivesKept : Option (List Command) → List ℕ → List ℕ → ℕ → ℕ → ℕ → Type 0
-GivesKept None before after size_before size status = (after ≡ before) × (size ≡ size_before) × (status ≡ NO_TRACE)
-GivesKept (Some commands) before after size_before size status =
-    GivesTrace commands before after size_before size status
+abbrev pub GivesKept : Option (List Command) → List ℕ → List ℕ → ℕ → ℕ → Type 0
+GivesKept None before after size status = GivesNothing before after size × (status ≡ NO_TRACE)
+GivesKept (Some commands) before after size status = GivesTrace commands before after size status
 
-abbrev pub IsTraceGiven : Option Kept → List ℕ → List ℕ → ℕ → ℕ → ℕ → Type 0
-IsTraceGiven None before after size_before size status = (after ≡ before) × (size ≡ size_before) × (status ≡ NO_MACHINE)
-IsTraceGiven (Some k) before after size_before size status = GivesKept k.trace before after size_before size status
+abbrev pub IsTraceGiven : Option Kept → List ℕ → List ℕ → ℕ → ℕ → Type 0
+IsTraceGiven None before after size status = GivesNothing before after size × (status ≡ NO_MACHINE)
+IsTraceGiven (Some k) before after size status = GivesKept k.trace before after size status

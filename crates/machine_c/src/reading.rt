@@ -73,8 +73,9 @@ pub extern "C" fn nanobot_machine_bots(
     count: &mut usize,
 ) -> u32
     ensures same { handle.new.machine ≡ handle.old.machine }
-    ensures told { AreBotsTold handle.old.machine bots.old bots.new count.old count.new result }
+    ensures told { AreBotsTold handle.old.machine bots.old bots.new count.new result }
 {
+    *count = 0;
     let Some(machine) = handle.take(alloc) else {
         return NO_MACHINE;
     };
@@ -208,8 +209,9 @@ pub extern "C" fn nanobot_machine_model(
     size: &mut usize,
 ) -> u32
     ensures same { handle.new.machine ≡ handle.old.machine }
-    ensures given { IsModelGiven handle.old.machine model.old model.new size.old size.new result }
+    ensures given { IsModelGiven handle.old.machine model.old model.new size.new result }
 {
+    *size = 0;
     let Some(machine) = handle.take(alloc) else {
         return NO_MACHINE;
     };

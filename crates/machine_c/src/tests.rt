@@ -303,6 +303,7 @@ fn a_trace_is_kept(rt: HostRuntime) -> Result<(), Fail> {
         nanobot_machine_trace(alloc, &mut handle, &mut [], &mut size),
         21
     );
+    assert_eq!(&rt; size, 0);
     assert_eq!(&rt; nanobot_machine_keep(alloc, &mut handle), 0);
     assert_trace(&rt, alloc, &mut handle, &[]);
     assert_steps(&rt, alloc, &mut handle, SPLIT, (0, 125, 1, 0));

@@ -34,8 +34,9 @@ pub extern "C" fn nanobot_machine_keep(alloc: Global, handle: &mut Handle) -> u3
 
 /// Writes the bytes of the commands to the front of the buffer, if it takes them, and tells how many they are.
 fn give_commands(alloc: Global, commands: &[Command], out: &mut [u8], size: &mut usize) -> u32
-    ensures { GivesTrace commands.now out.old out.new size.old size.new result }
+    ensures { GivesTrace commands.now out.old out.new size.new result }
 {
+    *size = 0;
     match encode_all(alloc, commands) {
         Ok(bytes) => give_bytes(bytes.as_slice(), out, size),
         Err(_) => MEMORY,
@@ -51,8 +52,9 @@ pub extern "C" fn nanobot_machine_trace(
     size: &mut usize,
 ) -> u32
     ensures same { handle.new.machine ≡ handle.old.machine }
-    ensures given { IsTraceGiven handle.old.machine trace.old trace.new size.old size.new result }
+    ensures given { IsTraceGiven handle.old.machine trace.old trace.new size.new result }
 {
+    *size = 0;
     let Some(machine) = handle.take(alloc) else {
         return NO_MACHINE;
     };

@@ -1,6 +1,6 @@
 -- A plan that was stored is accepted by `run`.
 use Rattle.std.proofs.Common.{◌≡◌, ℕ, ◌+◌, ◌≤◌, List, Bool, true, false, cond, refl, sym, ap, ◌∙◌, subst, arith, nat_lt, length}
-use Rattle.std.specs.Prelude.{ℤ, Option, Some, None, Ok, Err, IsSomeAnd, MatchBool, ⊤}
+use Rattle.std.specs.Prelude.{ℤ, Option, Some, None, Ok, Err, IsSomeAnd, MatchBool, MatchResult, ⊤}
 use Rattle.std.specs.FinMap.{get-insert}
 use Rattle.std.specs.Str.{bytes_eq}
 use Rattle.std.proofs.lemmas.Cmp.{nat_list_cmp_total}
@@ -22,7 +22,7 @@ use Rattle.group_planner.specs.Rows.{rows, runs}
 use Rattle.vox_depot.specs.Files.{Files, content}
 use Rattle.nanobot_rows.specs.declared.report.Report.TheVariants as report
 use Rattle.nanobot_rows.specs.declared.status.Status.TheVariants as is
-use Rattle.nanobot_rows.specs.Answer.{AnswerOf, AnswerOfRun, CanPlan, Found, OfPlan, Reply, Stores, StoresPlan, facts_of, group_limit, profile_of, run_limit, with_file}
+use Rattle.nanobot_rows.specs.Answer.{AnswerOf, AnswerOfRun, CanPlan, Found, IsReply, OfPlan, Reply, Stores, StoresPlan, facts_of, group_limit, profile_of, run_limit, with_file}
 use Rattle.nanobot_app.specs.Plans.{IsRunOfPlan, PlansAsLight}
 use Rattle.nanobot_rows.specs.Lines.{group_long_line, planned_line}
 use Rattle.nanobot_rows.specs.Models.{AreModels, IsModelOf, IsSide}
@@ -34,7 +34,7 @@ use Rattle.nanobot_words.specs.Rows.{HasName, plan}
 use Rattle.low_planner.proofs.Builds.{full_most}
 use Rattle.plan_choice.proofs.Lengths.{few_commands, four_each, layer_fits, low_fits, swarm_fits, two_each, void_fits, volume_most}
 use Rattle.nanobot_app.proofs.Finding.{finds_trace}
-use Rattle.nanobot_app.proofs.Found.{done_says, plan_once}
+use Rattle.nanobot_app.proofs.Found.{SayOne, done_says, models_once, plan_once}
 use Rattle.nanobot_app.proofs.Headlines.{done_models}
 use Rattle.nanobot_rows.proofs.Replies.{finds_models}
 
@@ -195,3 +195,16 @@ run_of_plan law round planner accepts source target trace files reply first seco
     let most = most_of_models law files source target s t named models in
     let size = fits s t commands energy steps planner most (subst (λ (r : ℕ). r ≤ 400) models.alike most) (files, made.1) facts in
     run_of_stored round source target trace files first second s t commands energy steps reply named models (are_commands s t commands energy steps planner facts) (accepts s t commands energy steps facts) size made.2.4
+
+-- ---- each plan between such models is made
+
+pub plan_is_done : (laws : SayOne) (planner : Planner) (source target : Option (List ℕ)) (trace : List ℕ)
+    (files : Files) (from to : Matrix) (reply : Reply) → HasName source target
+    → AreModels source target files from to → CanPlan planner from to files (Ok tt)
+    → AnswerOf (plan planner source target trace) files reply → reply.status ≡ is.Done
+plan_is_done laws planner source target trace files from to reply named are can h =
+    let models = (models_once ⊥ source target (λ never. absurd never)).one laws files h.0 (Ok (from, to)) h.1 (finds_models files source target from to named are) in
+    let planned = subst (λ (x : Found (Matrix × Matrix)). MatchResult x (λ m. OfPlan planner trace m.0 m.1 files reply) (λ end. IsReply end.0 end.1 files reply)) models h.2 in
+    let made = (plan_once planner from to).one laws files planned.0 (Ok tt) planned.1 can in
+    let stored = subst (λ (x : Found ⊤). MatchResult x (λ _. StoresPlan (facts_of planner) trace from to files reply) (λ end. IsReply end.0 end.1 files reply)) made planned.2 in
+    ap (λ (r : Reply). r.status) stored.4

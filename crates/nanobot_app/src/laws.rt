@@ -1,12 +1,14 @@
 //! The laws of the answers, and worked examples of what a call does.
-ghost use Rattle.std.specs.Prelude.{◌≡◌, ℕ, ℤ, List, Option, Some};
+ghost use Rattle.std.specs.Prelude.{◌≡◌, ℕ, ℤ, List, Option, Some, Ok};
 ghost use Rattle.vox_depot.specs.Files.{Files};
-ghost use Rattle.nanobot_rows.specs.Answer.{Answer, AnswerOf, AskNoPlan, Reply};
+ghost use Rattle.nanobot_rows.specs.Answer.{Answer, AnswerOf, AskNoPlan, CanPlan, Reply};
 ghost use Rattle.nanobot_rows.specs.Lines.{accepted_line};
+ghost use Rattle.nanobot_rows.specs.Models.{AreModels};
+ghost use Rattle.nano_spec.specs.Matrix.{Matrix};
 ghost use Rattle.nanobot_app.specs.Headline.{IsCost, MachineTakes};
 ghost use Rattle.nanobot_app.specs.Plans.{IsRunOfPlan, PlansAsLight};
-ghost use Rattle.nanobot_app.specs.Worked.{WorkedOutcomes};
-ghost use Rattle.nanobot_words.specs.Rows.{HasName, IsInNoRow, asm, check, debug, dis, make, plan, run};
+ghost use Rattle.nanobot_app.specs.Worked.{WorkedHeadlines, WorkedOutcomes};
+ghost use Rattle.nanobot_words.specs.Rows.{HasName, IsInNoRow, asm, check, debug, dis, exercise, make, plan, run};
 ghost use Rattle.nanobot_words.specs.declared.planner.Planner.{Planner};
 ghost use Rattle.nanobot_words.specs.declared.row.Round.{Round};
 ghost use Rattle.nanobot_words.specs.declared.row.Round.TheVariants.{Full, Light};
@@ -81,7 +83,27 @@ pub fn a_plan_is_accepted()
     a_model_is_whole();
 }
 
-/// Worked examples of what a call has done to the outside.
+/// Each answer to a plan is 0, if its models are legal and of one resolution and its planner makes a plan between them,
+/// and so is each answer to an exercise. By the clauses of `drive` such a call then ends with 0, or with 5, 6 or 7 by
+/// their causes.
+pub fn each_plan_is_made()
+    ensures plan { (planner : Planner) (source target : Option (List ℕ)) (trace : List ℕ) (files : Files)
+        (from to : Matrix) (reply : Reply) → HasName source target → AreModels source target files from to
+        → CanPlan planner from to files (Ok tt) → AnswerOf (plan planner source target trace) files reply
+        → reply.status ≡ status.Done }
+    ensures exercise { (number resolution : ℕ) (files : Files) (reply : Reply)
+        → AnswerOf (exercise number resolution) files reply → reply.status ≡ status.Done }
+{
+    one_decoding();
+    one_legality();
+    one_verdict();
+    one_unsupported();
+    one_script();
+    one_text();
+}
+
+/// Worked examples of the sentence that the top call carries, and of what a call has done to the outside.
 pub fn worked_outcomes()
-    ensures { WorkedOutcomes }
+    ensures outcomes { WorkedOutcomes }
+    ensures headlines { WorkedHeadlines }
 {}

@@ -4,6 +4,7 @@ pub mod Debugged
 pub mod Examples
 pub mod Exercised
 pub mod Loads
+pub mod Others
 pub mod Paying
 pub mod Planned
 pub mod Replies

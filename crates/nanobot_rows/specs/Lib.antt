@@ -9,3 +9,4 @@ pub mod Report
 pub mod Taking
 pub mod Touching
 pub mod Worked
+pub mod WorkedAnswers

@@ -19,7 +19,7 @@ mod trace;
 mod trace_run;
 
 pub use effect::{Effect, Message, NewFile};
-pub use laws::worked_reports;
+pub use laws::{worked_answers, worked_reports};
 pub use report::{Cost, Report, Who};
 pub use rows::answer;
 pub use status::Status;

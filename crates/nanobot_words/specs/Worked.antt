@@ -1,9 +1,9 @@
 -- Worked examples of the table of words: how rows are written, which files they read and store, and which sides
 -- planners take (docs/FORMATS.md, "Printed lines").
-use Rattle.std.specs.Prelude.{◌≡◌, [], ◌∷◌, codes, Some, None}
+use Rattle.std.specs.Prelude.{◌≡◌, List, [], ◌∷◌, codes, Some, None, String, string_bytes, ⊤}
 use Rattle.nanobot_words.specs.declared.planner.Planner.TheVariants.{Layer, Group, Crew, Void, Low, Swarm}
 use Rattle.nanobot_words.specs.declared.row.Round.TheVariants.{Full, Light}
-use Rattle.nanobot_words.specs.Rows.{IsOfTable, TakesSides, asm, check, debug, dis, exercise, make, plan, run, reads_of, row_words, stores_of}
+use Rattle.nanobot_words.specs.Rows.{IsInNoRow, IsOfTable, IsRow, IsRunOf, MayRead, MayStore, TakesSides, asm, check, debug, dis, exercise, make, plan, run, reads_of, row_words, stores_of, texts}
 
 -- the words of each row
 pub record WorkedWords : Type 0 where
@@ -72,3 +72,39 @@ pub record WorkedForged : Type 0 where
   pub no_resolution : IsOfTable (exercise 0 0) → ⊥
   pub too_great_a_resolution : IsOfTable (make 0 401 (codes "m")) → ⊥
   pub too_great_a_number : IsOfTable (make 4294967296 1 (codes "m")) → ⊥
+
+-- arguments that are in a row of the table, and arguments that are in none
+pub record WorkedRows : Type 0 where
+  pub a_check : IsRow (codes "check" ∷ codes "m" ∷ []) (check (codes "m"))
+  -- `-` names no model that is checked, no trace that is run, and no trace that is stored
+  pub no_check_of_nothing : IsRow (codes "check" ∷ codes "-" ∷ []) (check (codes "-")) → ⊥
+  pub no_run_of_nothing : IsRow (codes "run" ∷ codes "s" ∷ codes "t" ∷ codes "-" ∷ [])
+      (run Full (Some (codes "s")) (Some (codes "t")) (codes "-")) → ⊥
+  pub no_plan_as_nothing : IsRow (codes "plan" ∷ codes "crew" ∷ codes "s" ∷ codes "t" ∷ codes "-" ∷ [])
+      (plan Crew (Some (codes "s")) (Some (codes "t")) (codes "-")) → ⊥
+  pub no_run_from_nothing_to_nothing :
+      IsRow (codes "run" ∷ codes "-" ∷ codes "-" ∷ codes "b" ∷ []) (run Full None None (codes "b")) → ⊥
+  -- the runs of the headline are those of the full round
+  pub a_run : IsRunOf (codes "run" ∷ codes "s" ∷ codes "t" ∷ codes "b" ∷ []) (Some (codes "s")) (Some (codes "t"))
+      (codes "b")
+  pub a_run_from_nothing :
+      IsRunOf (codes "run" ∷ codes "-" ∷ codes "t" ∷ codes "b" ∷ []) None (Some (codes "t")) (codes "b")
+  pub no_light_run : IsRunOf (codes "run" ∷ codes "light" ∷ codes "t" ∷ codes "b" ∷ []) None (Some (codes "t"))
+      (codes "b") → ⊥
+  pub no_trace_of_nothing : IsRunOf (codes "run" ∷ codes "s" ∷ codes "t" ∷ codes "-" ∷ []) (Some (codes "s"))
+      (Some (codes "t")) (codes "-") → ⊥
+  pub no_side_of_a_name : IsRunOf (codes "run" ∷ codes "-" ∷ codes "-" ∷ codes "b" ∷ []) None None (codes "b") → ⊥
+  -- no arguments, and a check without a model
+  pub no_arguments : IsInNoRow []
+  pub a_check_of_no_model : IsInNoRow (codes "check" ∷ [])
+  pub a_check_is_in_a_row : IsInNoRow (codes "check" ∷ codes "m" ∷ []) → ⊥
+
+-- the files that the arguments let the program read and store
+pub record WorkedPermissions : Type 0 where
+  pub a_check_reads_its_model : MayRead (λ name. name ≡ codes "m") (codes "check" ∷ codes "m" ∷ [])
+  pub it_reads_no_other : MayRead (λ name. name ≡ codes "mm") (codes "check" ∷ codes "m" ∷ []) → ⊥
+  pub it_stores_nothing : MayStore (λ name. ⊥) (codes "check" ∷ codes "m" ∷ [])
+  pub a_text_stores_its_trace : MayStore (λ name. name ≡ codes "b") (codes "asm" ∷ codes "bb" ∷ codes "b" ∷ [])
+  pub it_does_not_store_its_text : MayStore (λ name. name ≡ codes "bb") (codes "asm" ∷ codes "bb" ∷ codes "b" ∷ []) → ⊥
+  -- of each argument its bytes
+  pub two_texts : (a b : String ⊤) → texts (a ∷ b ∷ []) ≡ string_bytes a ∷ string_bytes b ∷ []

@@ -1,7 +1,7 @@
 //! The law of the table of words, and worked examples of it.
 ghost use Rattle.std.specs.Prelude.{◌≡◌, ℕ, List};
 ghost use Rattle.nanobot_words.specs.Rows.{IsRow, Row};
-ghost use Rattle.nanobot_words.specs.Worked.{WorkedFiles, WorkedForged, WorkedSides, WorkedWords};
+ghost use Rattle.nanobot_words.specs.Worked.{WorkedFiles, WorkedForged, WorkedPermissions, WorkedRows, WorkedSides, WorkedWords};
 
 /// Words are in one row of the table at most.
 pub fn one_row()
@@ -15,4 +15,6 @@ pub fn worked_words()
     ensures files { WorkedFiles }
     ensures sides { WorkedSides }
     ensures forged { WorkedForged }
+    ensures rows { WorkedRows }
+    ensures permissions { WorkedPermissions }
 {}

@@ -12,7 +12,7 @@ pub enum Planner {
     Layer,
     /// At most two bots, which fill and void whole runs together.
     Group,
-    /// Up to forty bots, never dearer than the other planners.
+    /// Up to forty bots: the cheapest of its own plans and of the other planners'.
     Crew,
     /// At most four bots, which take a model down.
     Void,

@@ -1,6 +1,6 @@
 -- A crew's plan in the making, by the plans of which it is one.
 use Rattle.std.proofs.Common.{◌≡◌, ◌⊎◌, ◌∙◌, ℕ, ◌≤◌, List, inl, inr, sym, ap, subst, arith, length}
-use Rattle.std.specs.Prelude.{ℤ, ◌≤ℤ◌}
+use Rattle.std.specs.Prelude.{Option, ℤ, ◌≤ℤ◌}
 use Rattle.std.proofs.lemmas.Int.{ints}
 use Rattle.nano_spec.specs.declared.commands.Command.{Command}
 use Rattle.nano_spec.specs.Matrix.{Matrix, empty, full_count}
@@ -11,7 +11,8 @@ use Rattle.group_planner.specs.Bounds.{most_bytes}
 use Rattle.low_planner.proofs.Builds.{full_most}
 use Rattle.plan_tape.specs.declared.tape.Plan.{Plan}
 use Rattle.plan_tape.specs.Reaches.{HasAtMost}
-use Rattle.plan_choice.specs.Crew.{IsForCrew, Replaces}
+use Rattle.plan_choice.specs.declared.plans.LeastEnergy.{LeastEnergy}
+use Rattle.plan_choice.specs.Crew.{IsForCrew, IsLeast, IsNoMoreThan, Replaces}
 use Rattle.plan_choice.proofs.Lengths.{few_commands, four_each, layer_fits, low_fits, swarm_fits, two_each, void_fits, volume_most}
 use Rattle.plan_choice.specs.Planners.{crew_limit, IsGroupPlan, IsLayerPlan, IsLowPlan, IsNoDearer, IsSwarmPlan, IsVoidPlan, PlanFacts}
 
@@ -35,6 +36,20 @@ no_dearer Is source target other energy is h = (other.commands, other.energy, ot
 pub cheaper_still : (Is : PlanFacts) (source target : Matrix) (energy paid : ℤ) → energy ≤ℤ paid
     → IsNoDearer Is source target paid → IsNoDearer Is source target energy
 cheaper_still Is source target energy paid l h = (h.0, h.1, h.2, h.3, let k = h.4 in omega (arith, ints, l, k))
+
+-- what costs no more than a plan that was sought below a ceiling, and than the ceiling, costs no more than its least energy
+pub under_least : (ceiling energy least it : ℤ) → IsLeast ceiling energy least → it ≤ℤ ceiling → it ≤ℤ energy
+    → it ≤ℤ least
+under_least ceiling energy least it h under below = by h.either
+  where
+    by : (ceiling ≤ℤ least) ⊎ (energy ≤ℤ least) → it ≤ℤ least
+    by (inl l) = omega (arith, ints, under, l)
+    by (inr l) = omega (arith, ints, below, l)
+
+-- what costs less still than that
+pub less_than : (energy paid : ℤ) (asked : Option LeastEnergy) → energy ≤ℤ paid → IsNoMoreThan paid asked
+    → IsNoMoreThan energy asked
+less_than energy paid asked l h = (h.0, h.1, let k = h.2 in omega (arith, ints, l, k))
 
 -- ---- other planners' plans
 

@@ -9,7 +9,7 @@ ghost use Rattle.plan_choice.specs.Better.{CanImprove, MayStandFor};
 use crate::bounds::Bounds;
 use crate::builder::build_attached;
 use crate::choice::cheaper;
-use crate::flips::lower_commands;
+use crate::flips::{Work, lower_commands};
 use crate::plain::are_plain;
 use crate::ways::backwards;
 use nano_spec::{Command, CommandList, Profile};
@@ -31,10 +31,14 @@ pub(crate) fn is_void(planes: &Planes) -> bool {
     first_full(planes, &Region::of(low, high)).is_none()
 }
 
-/// The most steps that so much energy pays for under Low.
+/// More steps than voids of all voxels of a model pay for under Low, each of which gives 12 where a step takes 3 for each voxel.
+const PAID_BY_VOIDS: u64 = 4;
+
+/// The most steps of a plan that costs no more than that.
 pub(crate) fn affordable(resolution: u16, energy: i64) -> u64 {
     let r = u64::from(resolution).max(1);
-    energy.max(0) as u64 / 3 / r / r / r
+    let paid = energy.max(0) as u64 / 3 / r / r / r;
+    paid.saturating_add(PAID_BY_VOIDS)
 }
 
 /// One bot's commands that build the target from nothing, or take all of the source down.
@@ -79,10 +83,14 @@ pub fn attach(
     let Some(commands) = alone(alloc, source, target, room)? else {
         return Ok(plan);
     };
-    let proposal = if are_plain(commands.as_slice()) {
-        commands
+    let mut work = Work::any();
+    let lowered = if are_plain(commands.as_slice()) {
+        Some(commands)
     } else {
-        lower_commands(alloc, source, profile, commands.as_slice())?
+        lower_commands(alloc, source, profile, commands.as_slice(), room, &mut work)?
+    };
+    let Some(proposal) = lowered else {
+        return Ok(plan);
     };
     cheaper(alloc, source, target, profile, plan, proposal, most)
 }

@@ -5,14 +5,15 @@ ghost use Rattle.nano_spec.specs.Matrix.{empty};
 ghost use Rattle.plan_tape.specs.Models.{AreLegalModels};
 ghost use Rattle.group_planner.specs.Bounds.{most_bytes};
 ghost use Rattle.low_planner.specs.Supported.{FirstUnsupported};
-ghost use Rattle.plan_choice.specs.Crew.{IsForCrew, MayBuildInstead, Replaces};
+ghost use Rattle.plan_choice.specs.Crew.{IsCheapest, IsForCrew, IsLeast, IsNoMoreThan, MayBuildInstead, Replaces};
 ghost use Rattle.plan_choice.specs.Planners.{crew_limit, IsCrewPlan, IsGroupPlan, IsLayerPlan, IsLowPlan, IsNoDearer, IsSwarmPlan, IsVoidPlan};
 
-use crate::alone::affordable;
 use crate::bounds::Bounds;
-use crate::extent::extent_of;
 use crate::many::{CREW, by_crew};
-use crate::plans::{group_bounds, group_plan, layer_plan, low_plan, swarm_plan, void_plan};
+use crate::plans::{
+    LeastEnergy, Sought, group_bounds, group_plan, layer_plan, least_alone, low_plan, swarm_plan,
+    void_plan,
+};
 use crate::rebuild::by_rebuilding;
 use layer_planner::plan_layers;
 use low_planner::{LowFault, one_unsupported};
@@ -36,102 +37,135 @@ fn cheaper_of(first: Plan, second: Plan) -> Plan
     }
 }
 
-/// Whether one bot, which fills or voids no more than one voxel a step, may make the target of the source for less than that.
-fn may_pay_alone(source: &Planes, target: &Planes, energy: i64) -> bool {
-    let (here, there) = (extent_of(source).count, extent_of(target).count);
-    let least = here.max(there).saturating_sub(here.min(there));
-    u64::from(least) <= affordable(source.resolution(), energy)
+/// A crew's plan in the making, and the least energy of another planner's plan, if that planner was asked.
+#[derive(Drop)]
+struct Compared {
+    plan: Plan,
+    least: Option<LeastEnergy>,
+}
+
+/// A crew's plan, and the least energy of each other planner's plan: none where the planner makes no plan between these models.
+#[derive(Drop)]
+struct Crew {
+    plan: Plan,
+    layer: LeastEnergy,
+    group: Option<LeastEnergy>,
+    void: Option<LeastEnergy>,
+    low: Option<LeastEnergy>,
+    swarm: Option<LeastEnergy>,
+}
+
+/// The cheaper one of a crew's plan and of another planner's that was sought below its energy.
+fn compare(plan: Plan, other: Sought) -> Compared
+    requires { IsLeast plan.energy other.plan.energy other.least.energy }
+    ensures either { Replaces plan other.plan result.plan }
+    ensures least { IsNoMoreThan result.plan.energy result.least }
+{
+    let least = Some(other.least);
+    Compared {
+        plan: cheaper_of(plan, other.plan),
+        least,
+    }
 }
 
 /// The plan, or the layer planner's, where that may be cheaper and is.
-fn or_layer(alloc: Global, source: &Planes, target: &Planes, plan: Plan) -> Result<Plan, Memory>
+fn or_layer(alloc: Global, source: &Planes, target: &Planes, plan: Plan) -> Result<Sought, Memory>
     requires models { AreLegalModels source.now target.now }
     requires crew { IsForCrew source.now target.now plan }
     requires as_layer { IsNoDearer IsLayerPlan source.now target.now plan.energy }
-    ensures crew { IfOk result (IsForCrew source.now target.now) }
-    ensures as_layer { IfOk result (λ it. IsNoDearer IsLayerPlan source.now target.now it.energy) }
+    ensures crew { IfOk result (λ it. IsForCrew source.now target.now it.plan) }
+    ensures as_layer { IfOk result (λ it. IsNoDearer IsLayerPlan source.now target.now it.plan.energy) }
+    ensures least { IfOk result (λ it. it.plan.energy ≤ℤ it.least.energy) }
 {
-    if !may_pay_alone(source, target, plan.energy) {
-        return Ok(plan);
+    if let Some(least) = least_alone(source, target, plan.energy) {
+        return Ok(Sought { plan, least });
     }
     source.recall();
     let other = layer_plan(alloc, source, target, plan.energy)?;
-    Ok(cheaper_of(plan, other))
+    let least = other.least;
+    Ok(Sought {
+        plan: cheaper_of(plan, other.plan),
+        least,
+    })
 }
 
 /// The plan, or the group planner's, where that may not be too long and is cheaper.
-fn or_group(alloc: Global, source: &Planes, target: &Planes, plan: Plan) -> Result<Plan, Memory>
+fn or_group(alloc: Global, source: &Planes, target: &Planes, plan: Plan) -> Result<Compared, Memory>
     requires models { AreLegalModels source.now target.now }
     requires crew { IsForCrew source.now target.now plan }
-    ensures crew { IfOk result (IsForCrew source.now target.now) }
-    ensures no_dearer { IfOk result (λ it. it.energy ≤ℤ plan.energy) }
+    ensures crew { IfOk result (λ it. IsForCrew source.now target.now it.plan) }
+    ensures no_dearer { IfOk result (λ it. it.plan.energy ≤ℤ plan.energy) }
     ensures as_group { most_bytes source.now target.now ≤ crew_limit
-        → IfOk result (λ it. IsNoDearer IsGroupPlan source.now target.now it.energy) }
+        → IfOk result (λ it. IsNoDearer IsGroupPlan source.now target.now it.plan.energy
+        × IsNoMoreThan it.plan.energy it.least) }
 {
     if group_bounds(source, target).bytes > LIMIT {
-        return Ok(plan);
+        return Ok(Compared { plan, least: None });
     }
     let other = group_plan(alloc, source, target, plan.energy)?;
-    Ok(cheaper_of(plan, other))
+    Ok(compare(plan, other))
 }
 
 /// The plan, or the void planner's, where the target is empty and that is cheaper.
-fn or_void(alloc: Global, source: &Planes, target: &Planes, plan: Plan) -> Result<Plan, Memory>
+fn or_void(alloc: Global, source: &Planes, target: &Planes, plan: Plan) -> Result<Compared, Memory>
     requires source { IsLegal source.now }
     requires same { source.now.resolution ≡ target.now.resolution }
     requires crew { IsForCrew source.now target.now plan }
-    ensures crew { IfOk result (IsForCrew source.now target.now) }
-    ensures no_dearer { IfOk result (λ it. it.energy ≤ℤ plan.energy) }
+    ensures crew { IfOk result (λ it. IsForCrew source.now target.now it.plan) }
+    ensures no_dearer { IfOk result (λ it. it.plan.energy ≤ℤ plan.energy) }
     ensures as_void { target.now ≡ empty target.now.resolution
-        → IfOk result (λ it. IsNoDearer IsVoidPlan source.now target.now it.energy) }
+        → IfOk result (λ it. IsNoDearer IsVoidPlan source.now target.now it.plan.energy
+        × IsNoMoreThan it.plan.energy it.least) }
 {
     let nothing = Planes::empty(alloc, target.resolution())?;
     if lowest_difference(target, &nothing).is_some() {
-        return Ok(plan);
+        return Ok(Compared { plan, least: None });
     }
     source.recall();
     let other = void_plan(alloc, source, plan.energy)?;
-    Ok(cheaper_of(plan, other))
+    Ok(compare(plan, other))
 }
 
 /// The plan, or the low planner's, where the source is empty, all parts of the target are supported and that is cheaper.
-fn or_low(alloc: Global, source: &Planes, target: &Planes, plan: Plan) -> Result<Plan, Memory>
+fn or_low(alloc: Global, source: &Planes, target: &Planes, plan: Plan) -> Result<Compared, Memory>
     requires { MayBuildInstead source.now target.now plan }
-    ensures crew { IfOk result (IsForCrew source.now target.now) }
-    ensures no_dearer { IfOk result (λ it. it.energy ≤ℤ plan.energy) }
+    ensures crew { IfOk result (λ it. IsForCrew source.now target.now it.plan) }
+    ensures no_dearer { IfOk result (λ it. it.plan.energy ≤ℤ plan.energy) }
     ensures as_low { source.now ≡ empty source.now.resolution → FirstUnsupported target.now None
-        → IfOk result (λ it. IsNoDearer IsLowPlan source.now target.now it.energy) }
+        → IfOk result (λ it. IsNoDearer IsLowPlan source.now target.now it.plan.energy
+        × IsNoMoreThan it.plan.energy it.least) }
 {
     let nothing = Planes::empty(alloc, source.resolution())?;
     if lowest_difference(source, &nothing).is_some() {
-        return Ok(plan);
+        return Ok(Compared { plan, least: None });
     }
     source.recall();
     seeds_bound_the_bots();
     one_unsupported();
     match low_plan(alloc, target, plan.energy) {
-        Ok(other) => Ok(cheaper_of(plan, other)),
-        Err(LowFault::Unsupported { at }) => Ok(plan),
+        Ok(other) => Ok(compare(plan, other)),
+        Err(LowFault::Unsupported { at }) => Ok(Compared { plan, least: None }),
         Err(LowFault::Memory) => Err(Memory),
     }
 }
 
 /// The plan, or the swarm planner's, where the source is empty and that is cheaper.
-fn or_swarm(alloc: Global, source: &Planes, target: &Planes, plan: Plan) -> Result<Plan, Memory>
+fn or_swarm(alloc: Global, source: &Planes, target: &Planes, plan: Plan) -> Result<Compared, Memory>
     requires { MayBuildInstead source.now target.now plan }
-    ensures crew { IfOk result (IsForCrew source.now target.now) }
-    ensures no_dearer { IfOk result (λ it. it.energy ≤ℤ plan.energy) }
+    ensures crew { IfOk result (λ it. IsForCrew source.now target.now it.plan) }
+    ensures no_dearer { IfOk result (λ it. it.plan.energy ≤ℤ plan.energy) }
     ensures as_swarm { source.now ≡ empty source.now.resolution
-        → IfOk result (λ it. IsNoDearer IsSwarmPlan source.now target.now it.energy) }
+        → IfOk result (λ it. IsNoDearer IsSwarmPlan source.now target.now it.plan.energy
+        × IsNoMoreThan it.plan.energy it.least) }
 {
     let nothing = Planes::empty(alloc, source.resolution())?;
     if lowest_difference(source, &nothing).is_some() {
-        return Ok(plan);
+        return Ok(Compared { plan, least: None });
     }
     source.recall();
     seeds_bound_the_bots();
     let other = swarm_plan(alloc, target, plan.energy)?;
-    Ok(cheaper_of(plan, other))
+    Ok(compare(plan, other))
 }
 
 /// The plan of a crew before the other planners are asked, which costs no more than the one that the layer planner is proved to make.
@@ -153,17 +187,32 @@ fn proposed_by_crew(alloc: Global, source: &Planes, target: &Planes) -> Result<P
     Ok(plan)
 }
 
+/// The cheapest of a crew's few proposals and of what the other planners that make plans of such models make.
+fn cheapest_of_all(alloc: Global, source: &Planes, target: &Planes) -> Result<Crew, Memory>
+    requires { AreLegalModels source.now target.now }
+    ensures { IfOk result (IsCheapest source.now target.now) }
+{
+    let plan = proposed_by_crew(alloc, source, target)?;
+    let by_layer = or_layer(alloc, source, target, plan)?;
+    let by_group = or_group(alloc, source, target, by_layer.plan)?;
+    let by_void = or_void(alloc, source, target, by_group.plan)?;
+    let by_low = or_low(alloc, source, target, by_void.plan)?;
+    let by_swarm = or_swarm(alloc, source, target, by_low.plan)?;
+    Ok(Crew {
+        plan: by_swarm.plan,
+        layer: by_layer.least,
+        group: by_group.least,
+        void: by_void.least,
+        low: by_low.least,
+        swarm: by_swarm.least,
+    })
+}
+
 /// The plan of up to forty bots that makes the target of the source: the cheapest of a crew's few proposals and of what the other
 /// planners that make plans of such models make.
 pub fn choose_crew_plan(alloc: Global, source: &Planes, target: &Planes) -> Result<Plan, Memory>
     requires { AreLegalModels source.now target.now }
     ensures { IfOk result (λ plan. IsCrewPlan source.now target.now plan.commands plan.energy plan.steps) }
 {
-    let plan = proposed_by_crew(alloc, source, target)?;
-    let plan = or_layer(alloc, source, target, plan)?;
-    let plan = or_group(alloc, source, target, plan)?;
-    let plan = or_void(alloc, source, target, plan)?;
-    let plan = or_low(alloc, source, target, plan)?;
-    let plan = or_swarm(alloc, source, target, plan)?;
-    Ok(plan)
+    Ok(cheapest_of_all(alloc, source, target)?.plan)
 }

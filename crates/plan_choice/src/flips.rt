@@ -22,14 +22,25 @@ const MOST_STEPS: u32 = 1_073_741_824;
 /// The most Flips of a planner's plan, which others take the place of.
 const FLIPS: u64 = 2;
 
-/// Commands in the making, and the harmonics after them.
+/// Commands in the making, the harmonics after them, and their upkeep: 1 for a step under Low, 10 for one under High.
 #[derive(Drop)]
 struct Draft {
     commands: CommandList,
     harmonics: Harmonics,
+    upkeep: u64,
 }
 
 impl Draft {
+    /// Adds the upkeep of a step.
+    fn pay(&mut self) {
+        let upkeep = if self.harmonics == Harmonics::High {
+            10
+        } else {
+            1
+        };
+        self.upkeep = self.upkeep.saturating_add(upkeep);
+    }
+
     /// A step of so many bots in which the first one changes the harmonics, where they are not the ones that are wanted.
     fn set(&mut self, wanted: Harmonics, bots: u8) -> Result<(), Memory> {
         if self.harmonics == wanted {
@@ -39,6 +50,7 @@ impl Draft {
         for _ in 1..bots {
             self.commands.push(Command::Wait)?;
         }
+        self.pay();
         self.harmonics = wanted;
         Ok(())
     }
@@ -48,6 +60,7 @@ impl Draft {
         for command in commands {
             self.commands.push(*command)?;
         }
+        self.pay();
         Ok(())
     }
 }
@@ -57,14 +70,62 @@ fn is_flip(step: &[Command]) -> bool {
     step.len() == 1 && step[0] == Command::Flip
 }
 
-/// The commands with Flips of their own, counted in a ledger of its own.
+/// The work of machines that run proposals, in voxels: so many as each has to start with, and those that begin to float or cease to;
+/// and the most that is allowed.
+#[derive(Clone, Copy, Debug)]
+pub(crate) struct Work {
+    done: u64,
+    allowed: u64,
+    start: u32,
+}
+
+impl Work {
+    /// No work yet, of which so much is allowed, where a start takes so much.
+    pub(crate) fn allowing(allowed: u64, start: u32) -> Work {
+        Work {
+            done: 0,
+            allowed,
+            start,
+        }
+    }
+
+    /// No work yet, of which any is allowed.
+    pub(crate) fn any() -> Work {
+        Work::allowing(u64::MAX, 0)
+    }
+
+    /// Adds the work of a machine that starts.
+    pub(crate) fn start(&mut self) {
+        self.add(self.start);
+    }
+
+    /// Adds some work.
+    fn add(&mut self, more: u32) {
+        self.done = self.done.saturating_add(u64::from(more));
+    }
+
+    /// Whether more was done than is allowed.
+    pub(crate) fn is_over(self) -> bool {
+        self.done > self.allowed
+    }
+}
+
+/// How far two numbers are apart.
+fn difference(a: u32, b: u32) -> u32 {
+    a.max(b).saturating_sub(a.min(b))
+}
+
+/// The commands with Flips of their own, counted in a ledger of its own. None if their upkeep is more than that of so many steps under
+/// Low, or if they take more work than is allowed.
 fn lowered_in<L: Ledger>(
     alloc: Global,
     source: &Planes,
     profile: Profile,
     commands: &[Command],
+    most: u64,
+    work: &mut Work,
     blank: Blank,
-) -> Result<CommandList, Memory>
+) -> Result<Option<CommandList>, Memory>
     requires run { CanRun source.now profile }
     requires blank { IsBlankOf blank L.name L.parts }
 {
@@ -73,13 +134,19 @@ fn lowered_in<L: Ledger>(
     let mut draft = Draft {
         commands: CommandList::new(alloc),
         harmonics: Harmonics::Low,
+        upkeep: 0,
     };
+    work.start();
+    let mut floating = 0;
     let mut rest = commands;
     while !rest.is_empty() {
         let bots = machine.active();
         let count = rest.len().min(usize::from(bots));
         if count == 0 || machine.steps_done() >= MOST_STEPS {
             break;
+        }
+        if draft.upkeep > most || work.is_over() {
+            return Ok(None);
         }
         let (step, later) = rest.split_at(count);
         rest = later;
@@ -88,7 +155,10 @@ fn lowered_in<L: Ledger>(
             Err(StepFault::Memory) => return Err(Memory),
             Err(StepFault::Broken(_) | StepFault::Spent) => break,
         }
-        let floats = machine.forest().floating() > 0;
+        let before = floating;
+        floating = machine.forest().floating();
+        work.add(difference(before, floating));
+        let floats = floating > 0;
         if is_flip(step) {
             continue;
         }
@@ -100,20 +170,23 @@ fn lowered_in<L: Ledger>(
             draft.set(Harmonics::Low, machine.active())?;
         }
     }
-    Ok(draft.commands)
+    Ok(Some(draft.commands))
 }
 
-/// A plan's commands with other Flips: harmonics are High only while some full voxel is not grounded. It is a proposal: whether the
-/// definitions accept it, [`cheaper`] finds out.
-pub fn lower_commands(
+/// A plan's commands with other Flips: harmonics are High only while some full voxel is not grounded. None if their upkeep is more than
+/// that of so many steps under Low, or if they take more work than is allowed. It is a proposal: whether the definitions accept it,
+/// [`cheaper`] finds out.
+pub(crate) fn lower_commands(
     alloc: Global,
     source: &Planes,
     profile: Profile,
     commands: &[Command],
-) -> Result<CommandList, Memory>
+    most: u64,
+    work: &mut Work,
+) -> Result<Option<CommandList>, Memory>
     requires { CanRun source.now profile }
 {
-    lowered_in::<Brand>(alloc, source, profile, commands, Blank::new(1))
+    lowered_in::<Brand>(alloc, source, profile, commands, most, work, Blank::new(1))
 }
 
 /// The plan with Flips of its own, where that is accepted with less energy and within the bounds; else the plan. A plan of one
@@ -137,6 +210,11 @@ pub fn lower(
     if u64::from(plan.steps) > affordable(source.resolution(), ceiling).saturating_add(FLIPS) {
         return Ok(plan);
     }
-    let proposal = lower_commands(alloc, source, profile, plan.commands.as_slice())?;
+    let room = affordable(source.resolution(), plan.energy.min(ceiling));
+    let commands = plan.commands.as_slice();
+    let mut work = Work::any();
+    let Some(proposal) = lower_commands(alloc, source, profile, commands, room, &mut work)? else {
+        return Ok(plan);
+    };
     cheaper(alloc, source, target, profile, plan, proposal, most)
 }

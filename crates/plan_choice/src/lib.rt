@@ -24,7 +24,7 @@ pub use bounds::Bounds;
 pub use builder::build_attached;
 pub use choice::{Price, cheaper, improvement};
 pub use crew::choose_crew_plan;
-pub use flips::{lower, lower_commands};
+pub use flips::lower;
 pub use four::by_slabs;
 pub use laws::worked_plans;
 pub use many::{by_few, by_squads};

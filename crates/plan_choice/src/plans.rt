@@ -1,15 +1,17 @@
 //! The planners' plans under Low wherever that can be. Each call promises what the planner's own does.
-ghost use Rattle.std.specs.Prelude.{◌≡◌, ◌*◌, IfErr, IfOk, None};
+ghost use Rattle.std.specs.Prelude.{◌≡◌, ◌*◌, IfErr, IfOk, IfSome, None};
 ghost use Rattle.nano_spec.specs.Legal.{IsLegal};
 ghost use Rattle.nano_spec.specs.Matrix.{empty};
 ghost use Rattle.plan_tape.specs.Models.{AreLegalModels};
 ghost use Rattle.low_planner.specs.Fault.{HasCause};
 ghost use Rattle.low_planner.specs.Supported.{FirstUnsupported};
+ghost use Rattle.plan_choice.specs.Crew.{IsLeast};
 ghost use Rattle.plan_choice.specs.Planners.{IsGroupPlan, IsLayerPlan, IsLowPlan, IsSwarmPlan, IsVoidPlan};
 ghost use Rattle.group_planner.specs.Bounds.{most_bytes, most_group_steps};
 
-use crate::alone::{attach, attach_low};
+use crate::alone::{affordable, attach, attach_low};
 use crate::bounds::Bounds;
+use crate::extent::extent_of;
 use crate::flips::lower;
 use crate::four::by_slabs;
 use crate::many::{by_few, by_squads};
@@ -25,15 +27,55 @@ use void_planner::plan_void;
 use vox_geom::Memory;
 use vox_planes::Planes;
 
-/// A plan of one bot that makes the target of the source, where it need be no cheaper than any that costs so much.
+/// The least energy of a planner's plan, as far as it was sought: the energy of the plan that was found, or a ceiling, if that is less,
+/// since proposals that cannot cost less than the ceiling are not made. Only the planners' calls below make one.
+#[derive(Clone, Copy, Debug)]
+pub(crate) struct LeastEnergy {
+    energy: i64,
+}
+
+/// A planner's plan that was sought below a ceiling.
+#[derive(Drop)]
+pub(crate) struct Sought {
+    pub(crate) plan: Plan,
+    pub(crate) least: LeastEnergy,
+}
+
+/// The plan, as one that was sought below a ceiling.
+fn sought_below(ceiling: i64, plan: Plan) -> Sought
+    ensures plan { result.plan ≡ plan }
+    ensures least { IsLeast ceiling plan.energy result.least.energy }
+{
+    let energy = plan.energy.min(ceiling);
+    Sought {
+        plan,
+        least: LeastEnergy { energy },
+    }
+}
+
+/// The ceiling, if no plan of one bot, which fills or voids at most one voxel a step, can cost less.
+pub(crate) fn least_alone(source: &Planes, target: &Planes, ceiling: i64) -> Option<LeastEnergy>
+    ensures { IfSome result (λ least. least.energy ≡ ceiling) }
+{
+    let (here, there) = (extent_of(source).count, extent_of(target).count);
+    let steps = here.max(there).saturating_sub(here.min(there));
+    if u64::from(steps) <= affordable(source.resolution(), ceiling) {
+        return None;
+    }
+    Some(LeastEnergy { energy: ceiling })
+}
+
+/// Seeks a plan of one bot that makes the target of the source and costs less than the ceiling.
 pub(crate) fn layer_plan(
     alloc: Global,
     source: &Planes,
     target: &Planes,
     ceiling: i64,
-) -> Result<Plan, Memory>
+) -> Result<Sought, Memory>
     requires { AreLegalModels source.now target.now }
-    ensures { IfOk result (λ plan. IsLayerPlan source.now target.now plan.commands plan.energy plan.steps) }
+    ensures plan { IfOk result
+        (λ it. IsLayerPlan source.now target.now it.plan.commands it.plan.energy it.plan.steps) }
+    ensures least { IfOk result (λ it. IsLeast ceiling it.plan.energy it.least.energy) }
 {
     let plan = plan_layers(alloc, source, target)?;
     let r = u64::from(source.resolution());
@@ -45,7 +87,7 @@ pub(crate) fn layer_plan(
     let plan = attach(alloc, source, target, profile, plan, most, ceiling)?;
     let plan = by_few(alloc, source, target, plan, most, ceiling)?;
     recall_all(plan.commands.as_slice());
-    Ok(plan)
+    Ok(sought_below(ceiling, plan))
 }
 
 /// The plan of one bot that makes the target of the source.
@@ -53,7 +95,7 @@ pub fn choose_layer_plan(alloc: Global, source: &Planes, target: &Planes) -> Res
     requires { AreLegalModels source.now target.now }
     ensures { IfOk result (λ plan. IsLayerPlan source.now target.now plan.commands plan.energy plan.steps) }
 {
-    layer_plan(alloc, source, target, i64::MAX)
+    Ok(layer_plan(alloc, source, target, i64::MAX)?.plan)
 }
 
 /// What a plan of two bots has at most.
@@ -76,25 +118,27 @@ pub(crate) fn group_bounds(source: &Planes, target: &Planes) -> Bounds
     }
 }
 
-/// A plan of two bots that makes the target of the source, where it need be no cheaper than any that costs so much.
+/// Seeks a plan of two bots that makes the target of the source and costs less than the ceiling.
 pub(crate) fn group_plan(
     alloc: Global,
     source: &Planes,
     target: &Planes,
     ceiling: i64,
-) -> Result<Plan, Memory>
+) -> Result<Sought, Memory>
     requires { AreLegalModels source.now target.now }
-    ensures { IfOk result (λ plan. IsGroupPlan source.now target.now plan.commands plan.energy plan.steps) }
+    ensures plan { IfOk result
+        (λ it. IsGroupPlan source.now target.now it.plan.commands it.plan.energy it.plan.steps) }
+    ensures least { IfOk result (λ it. IsLeast ceiling it.plan.energy it.least.energy) }
 {
     let plan = plan_groups(alloc, source, target)?;
     let most = group_bounds(source, target);
     let energy = plan.energy;
     let plan = by_few(alloc, source, target, plan, most, ceiling)?;
-    let ceiling = if plan.energy < energy { 0 } else { ceiling };
+    let lowest = if plan.energy < energy { 0 } else { ceiling };
     let profile = Profile::full();
-    let plan = lower(alloc, source, target, profile, plan, most, ceiling)?;
+    let plan = lower(alloc, source, target, profile, plan, most, lowest)?;
     recall_all(plan.commands.as_slice());
-    Ok(plan)
+    Ok(sought_below(ceiling, plan))
 }
 
 /// The plan of two bots that makes the target of the source.
@@ -102,14 +146,15 @@ pub fn choose_group_plan(alloc: Global, source: &Planes, target: &Planes) -> Res
     requires { AreLegalModels source.now target.now }
     ensures { IfOk result (λ plan. IsGroupPlan source.now target.now plan.commands plan.energy plan.steps) }
 {
-    group_plan(alloc, source, target, i64::MAX)
+    Ok(group_plan(alloc, source, target, i64::MAX)?.plan)
 }
 
-/// A plan of four bots that makes the empty model of the source, where it need be no cheaper than any that costs so much.
-pub(crate) fn void_plan(alloc: Global, source: &Planes, ceiling: i64) -> Result<Plan, Memory>
+/// Seeks a plan of four bots that makes the empty model of the source and costs less than the ceiling.
+pub(crate) fn void_plan(alloc: Global, source: &Planes, ceiling: i64) -> Result<Sought, Memory>
     requires { IsLegal source.now }
-    ensures { IfOk result
-        (λ plan. IsVoidPlan source.now (empty source.now.resolution) plan.commands plan.energy plan.steps) }
+    ensures plan { IfOk result
+        (λ it. IsVoidPlan source.now (empty source.now.resolution) it.plan.commands it.plan.energy it.plan.steps) }
+    ensures least { IfOk result (λ it. IsLeast ceiling it.plan.energy it.least.energy) }
 {
     let plan = plan_void(alloc, source)?;
     let nothing = Planes::empty(alloc, source.resolution())?;
@@ -122,7 +167,7 @@ pub(crate) fn void_plan(alloc: Global, source: &Planes, ceiling: i64) -> Result<
     let plan = lower(alloc, source, &nothing, profile, plan, most, ceiling)?;
     let plan = by_slabs(alloc, source, &nothing, plan, most, ceiling)?;
     recall_all(plan.commands.as_slice());
-    Ok(plan)
+    Ok(sought_below(ceiling, plan))
 }
 
 /// The plan of four bots that makes the empty model of the source.
@@ -131,15 +176,15 @@ pub fn choose_void_plan(alloc: Global, source: &Planes) -> Result<Plan, Memory>
     ensures { IfOk result
         (λ plan. IsVoidPlan source.now (empty source.now.resolution) plan.commands plan.energy plan.steps) }
 {
-    void_plan(alloc, source, i64::MAX)
+    Ok(void_plan(alloc, source, i64::MAX)?.plan)
 }
 
-/// A plan of up to twenty bots that builds the target from nothing, under the light profile, where it need be no cheaper than any that
-/// costs so much.
-pub(crate) fn swarm_plan(alloc: Global, target: &Planes, ceiling: i64) -> Result<Plan, Memory>
+/// Seeks a plan of up to twenty bots that builds the target from nothing, under the light profile, and costs less than the ceiling.
+pub(crate) fn swarm_plan(alloc: Global, target: &Planes, ceiling: i64) -> Result<Sought, Memory>
     requires { IsLegal target.now }
-    ensures { IfOk result
-        (λ plan. IsSwarmPlan (empty target.now.resolution) target.now plan.commands plan.energy plan.steps) }
+    ensures plan { IfOk result
+        (λ it. IsSwarmPlan (empty target.now.resolution) target.now it.plan.commands it.plan.energy it.plan.steps) }
+    ensures least { IfOk result (λ it. IsLeast ceiling it.plan.energy it.least.energy) }
 {
     full_accepts_what_light_accepts();
     let plan = plan_swarm(alloc, target)?;
@@ -150,12 +195,12 @@ pub(crate) fn swarm_plan(alloc: Global, target: &Planes, ceiling: i64) -> Result
     most.bots = 20;
     let energy = plan.energy;
     let plan = by_squads(alloc, target, plan, most, ceiling)?;
-    let ceiling = if plan.energy < energy { 0 } else { ceiling };
+    let lowest = if plan.energy < energy { 0 } else { ceiling };
     let nothing = Planes::empty(alloc, target.resolution())?;
     let profile = Profile::light();
-    let plan = lower(alloc, &nothing, target, profile, plan, most, ceiling)?;
+    let plan = lower(alloc, &nothing, target, profile, plan, most, lowest)?;
     recall_all(plan.commands.as_slice());
-    Ok(plan)
+    Ok(sought_below(ceiling, plan))
 }
 
 /// The plan of up to twenty bots that builds the target from nothing, under the light profile.
@@ -164,17 +209,17 @@ pub fn choose_swarm_plan(alloc: Global, target: &Planes) -> Result<Plan, Memory>
     ensures { IfOk result
         (λ plan. IsSwarmPlan (empty target.now.resolution) target.now plan.commands plan.energy plan.steps) }
 {
-    swarm_plan(alloc, target, i64::MAX)
+    Ok(swarm_plan(alloc, target, i64::MAX)?.plan)
 }
 
-/// A plan of one bot that builds the target from nothing, under Low all the time, where it need be no cheaper than any that costs so
-/// much.
-pub(crate) fn low_plan(alloc: Global, target: &Planes, ceiling: i64) -> Result<Plan, LowFault>
+/// Seeks a plan of one bot that builds the target from nothing, under Low all the time, and costs less than the ceiling.
+pub(crate) fn low_plan(alloc: Global, target: &Planes, ceiling: i64) -> Result<Sought, LowFault>
     requires { IsLegal target.now }
     ensures unsupported { IfErr result (HasCause target.now) }
     ensures supported { IfOk result (λ _. FirstUnsupported target.now None) }
     ensures plan { IfOk result
-        (λ plan. IsLowPlan (empty target.now.resolution) target.now plan.commands plan.energy plan.steps) }
+        (λ it. IsLowPlan (empty target.now.resolution) target.now it.plan.commands it.plan.energy it.plan.steps) }
+    ensures least { IfOk result (λ it. IsLeast ceiling it.plan.energy it.least.energy) }
 {
     full_accepts_what_light_accepts();
     let plan = plan_low(alloc, target)?;
@@ -183,7 +228,7 @@ pub(crate) fn low_plan(alloc: Global, target: &Planes, ceiling: i64) -> Result<P
     most.bots = 1;
     let plan = attach_low(alloc, target, plan, most, ceiling)?;
     recall_all(plan.commands.as_slice());
-    Ok(plan)
+    Ok(sought_below(ceiling, plan))
 }
 
 /// The plan of one bot that builds the target from nothing, under Low all the time.
@@ -194,5 +239,5 @@ pub fn choose_low_plan(alloc: Global, target: &Planes) -> Result<Plan, LowFault>
     ensures plan { IfOk result
         (λ plan. IsLowPlan (empty target.now.resolution) target.now plan.commands plan.energy plan.steps) }
 {
-    low_plan(alloc, target, i64::MAX)
+    Ok(low_plan(alloc, target, i64::MAX)?.plan)
 }

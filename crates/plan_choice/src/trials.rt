@@ -5,8 +5,8 @@ ghost use Rattle.plan_choice.specs.Better.{CanImprove, CanRun, MayStandFor};
 use crate::alone::{affordable, is_void};
 use crate::bounds::Bounds;
 use crate::choice::cheaper;
-use crate::extent::is_full_at;
-use crate::flips::lower_commands;
+use crate::extent::{extent_of, is_full_at};
+use crate::flips::{Work, lower_commands};
 use crate::rebuild::join;
 use crate::slabs::slabs;
 use nano_spec::{CommandList, Profile};
@@ -31,8 +31,11 @@ pub(crate) enum Trial {
     Fours(u16, bool),
 }
 
-/// More steps than voids of all voxels of a model pay for under Low, each of which gives 12 where a step takes 3 for each voxel.
-const PAID_BY_VOIDS: u64 = 4;
+/// The most work of all trials besides as much as a model's space has voxels.
+const MOST_WORK: u64 = 4_000_000;
+
+/// Which part of a model's full voxels a machine counts that starts with them: it takes far less for each than for one that floats.
+const START: u32 = 8;
 
 /// Whether a row along z is the same with x and z exchanged, as far as its voxels lie before x.
 fn is_symmetric_row(planes: &Planes, x: u16, y: u16) -> bool {
@@ -132,7 +135,14 @@ fn by_trial(
     }
 }
 
-/// The commands of a trial, if there are any that take no more steps than that.
+/// The work that all trials between two models may take.
+fn work_between(source: &Planes, target: &Planes) -> Work {
+    let r = u64::from(source.resolution());
+    let full = extent_of(source).count.max(extent_of(target).count);
+    Work::allowing((r * r * r).saturating_add(MOST_WORK), full / START)
+}
+
+/// The commands of a trial, if there are any that take no more steps than that, and no more work than is allowed.
 fn propose(
     alloc: Global,
     source: &Planes,
@@ -142,6 +152,7 @@ fn propose(
     trial: Trial,
     steps: u64,
     bots: u8,
+    work: &mut Work,
 ) -> Result<Option<CommandList>, Memory>
     requires { CanRun source.now profile }
 {
@@ -151,7 +162,7 @@ fn propose(
     let Some(commands) = by_trial(alloc, source, target, poled, trial, steps)? else {
         return Ok(None);
     };
-    Ok(Some(lower_commands(alloc, source, profile, commands.as_slice())?))
+    lower_commands(alloc, source, profile, commands.as_slice(), steps, work)
 }
 
 /// Whether a trial is another one with x and z exchanged.
@@ -187,11 +198,6 @@ fn poled_for(
     with_poles(alloc, source, most)
 }
 
-/// The most steps of a plan that costs less than that.
-fn worth_trying(resolution: u16, energy: i64) -> u64 {
-    affordable(resolution, energy).saturating_add(PAID_BY_VOIDS)
-}
-
 /// The plan, or the cheapest of the trials that cost less and keep the bounds, if any do. What cannot cost less than the ceiling need
 /// not be tried.
 pub(crate) fn cheapest(
@@ -208,20 +214,22 @@ pub(crate) fn cheapest(
     ensures { IfOk result (λ it. MayStandFor source.now target.now profile most plan it) }
 {
     let symmetric = is_symmetric(source) && is_symmetric(target);
-    let steps = worth_trying(source.resolution(), plan.energy.min(ceiling));
+    let steps = affordable(source.resolution(), plan.energy.min(ceiling));
     let poled = poled_for(alloc, source, trials, steps)?;
+    let mut work = work_between(source, target);
     let mut best = plan;
     for trial in trials {
-        if symmetric && is_turned(*trial) {
+        if work.is_over() || (symmetric && is_turned(*trial)) {
             continue;
         }
-        let steps = worth_trying(source.resolution(), best.energy.min(ceiling));
+        let steps = affordable(source.resolution(), best.energy.min(ceiling));
         let made = propose(
-            alloc, source, target, profile, &poled, *trial, steps, most.bots,
+            alloc, source, target, profile, &poled, *trial, steps, most.bots, &mut work,
         )?;
         let Some(proposal) = made else {
             continue;
         };
+        work.start();
         best = cheaper(alloc, source, target, profile, best, proposal, most)?;
     }
     Ok(best)

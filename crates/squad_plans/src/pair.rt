@@ -138,48 +138,71 @@ impl Squad {
     }
 
     /// Whether each piece of a piece's column, or of one farther away, takes no less than an offer.
-    fn is_too_far(&self, best: Option<Offer>, number: usize, x: i16) -> bool {
-        let Some(piece) = piece_at(self.pieces.as_slice(), number) else {
-            return true;
-        };
+    fn is_too_far(&self, best: Option<Offer>, piece: Piece, x: i16) -> bool {
         let away = apart(piece.x, x);
         let least = moves(away.wrapping_sub(1).max(0)).wrapping_mul(4);
         least.wrapping_add(away.min(3)) >= cost_of(best)
     }
 
+    /// Whether a voxel of a piece's row may be filled.
+    fn has_some_at(&self, yard: &Yard, piece: Piece, sight: Sight) -> bool {
+        let y = sight.rear.y.wrapping_sub(1);
+        yard.site().may_fill_in_row(piece.x, y, sight.float)
+    }
+
     /// The nearest job: of the pieces from the bots' column on.
-    fn nearest_on(&self, yard: &Yard, from: usize, sight: Sight) -> Option<Offer> {
+    fn nearest_on(&mut self, yard: &Yard, from: usize, sight: Sight) -> Option<Offer> {
         let mut best = None;
-        for number in from..self.pieces.len() {
-            if self.is_too_far(best, number, sight.rear.x) {
+        let mut number = from;
+        for _ in from..self.pieces.len() {
+            let Some(piece) = piece_at(self.pieces.as_slice(), number) else {
+                break;
+            };
+            if self.is_too_far(best, piece, sight.rear.x) {
                 break;
             }
-            best = self.better(yard, best, number, sight);
+            self.count(1);
+            if self.has_some_at(yard, piece, sight) {
+                best = self.better(yard, best, number, sight);
+                number = number.wrapping_add(1);
+            } else {
+                number = self.first_from(piece.x.wrapping_add(1));
+            }
         }
         best
     }
 
     /// The nearest job, and of the pieces before a number only what takes less than an offer.
     fn nearest_back(
-        &self,
+        &mut self,
         yard: &Yard,
         to: usize,
         sight: Sight,
         other: Option<Offer>,
     ) -> Option<Offer> {
         let mut best = other;
-        for k in 0..to {
-            let number = to.saturating_sub(1).saturating_sub(k);
-            if self.is_too_far(best, number, sight.rear.x) {
+        let mut end = to;
+        for _ in 0..to {
+            let number = end.wrapping_sub(1);
+            let Some(piece) = piece_at(self.pieces.as_slice(), number) else {
+                break;
+            };
+            if self.is_too_far(best, piece, sight.rear.x) {
                 break;
             }
-            best = self.better(yard, best, number, sight);
+            self.count(1);
+            if self.has_some_at(yard, piece, sight) {
+                best = self.better(yard, best, number, sight);
+                end = number;
+            } else {
+                end = self.first_from(piece.x);
+            }
         }
         best
     }
 
     /// The nearest job.
-    fn nearest(&self, yard: &Yard, mate: u8, float: bool) -> Option<Offer> {
+    fn nearest(&mut self, yard: &Yard, mate: u8, float: bool) -> Option<Offer> {
         let sight = Sight {
             rear: yard.spot(self.lead),
             front: yard.spot(mate),
@@ -191,7 +214,7 @@ impl Squad {
     }
 
     /// The piece of one voxel in the job's lane that the other bot can fill at the same time, with the shortest way.
-    fn second(&self, yard: &Yard, mate: u8, job: Job, float: bool) -> Option<usize> {
+    fn second(&mut self, yard: &Yard, mate: u8, job: Job, float: bool) -> Option<usize> {
         let (rear, front) = (yard.spot(self.lead).z, yard.spot(mate).z);
         let lane = self.strip.lane(self.strip.lane_of(job.x));
         let y = self.layer();
@@ -204,6 +227,7 @@ impl Squad {
             if piece.x > lane.high {
                 break;
             }
+            self.count(1);
             let z = piece.first;
             let (is_beyond, way) = match job.rear_column {
                 Some(_) => (z > job.rear, apart(z, front)),
@@ -254,6 +278,8 @@ impl Squad {
             self.pieces.clear();
             let strip = self.strip;
             list_layer(&mut self.pieces, yard.site(), strip, y)?;
+            let columns = usize::from(strip.high.wrapping_sub(strip.low).unsigned_abs());
+            self.count(columns.saturating_mul(yard.site().width()));
             self.listed = y;
         }
         Ok(())

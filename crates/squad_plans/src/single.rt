@@ -37,13 +37,17 @@ impl Squad {
     }
 
     /// The first row from this one on at which something may be filled in a lane.
-    fn next_row(&self, yard: &Yard, lane: i16, from: i16, by: i16, float: bool) -> Option<i16> {
+    fn next_row(&mut self, yard: &Yard, lane: i16, from: i16, by: i16, float: bool) -> Option<i16> {
+        if !self.may_fill_in(yard, self.strip.lane(lane), float) {
+            return None;
+        }
         let side = yard.site().side();
         let mut z = from;
         for _ in 0..side {
             if z < 0 || z >= side {
                 return None;
             }
+            self.count(1);
             if self.has(yard, lane, z, float) {
                 return Some(z);
             }
@@ -53,7 +57,7 @@ impl Squad {
     }
 
     /// The nearer end of what may be filled in a lane.
-    fn nearer_end(&self, yard: &Yard, lane: i16, at: i16, float: bool) -> Option<Aim> {
+    fn nearer_end(&mut self, yard: &Yard, lane: i16, at: i16, float: bool) -> Option<Aim> {
         let end = yard.site().side().wrapping_sub(1);
         let low = self.next_row(yard, lane, 0, 1, float)?;
         let high = self.next_row(yard, lane, end, -1, float)?;
@@ -75,7 +79,7 @@ impl Squad {
     }
 
     /// The first lane from this one on that has something to fill.
-    fn next_lane(&self, yard: &Yard, from: i16, by: i16, float: bool) -> Option<Aim> {
+    fn next_lane(&mut self, yard: &Yard, from: i16, by: i16, float: bool) -> Option<Aim> {
         let at = yard.spot(self.lead).z;
         let lanes = self.strip.lanes();
         let mut lane = from;
@@ -92,7 +96,7 @@ impl Squad {
     }
 
     /// Where to go on within a lane: first the way that the bot goes, then back.
-    fn aim_within(&self, yard: &Yard, lane: i16, float: bool) -> Option<Aim> {
+    fn aim_within(&mut self, yard: &Yard, lane: i16, float: bool) -> Option<Aim> {
         let z = yard.spot(self.lead).z;
         for along in [self.along, self.along.wrapping_neg()] {
             if let Some(z) = self.next_row(yard, lane, z, along, float) {
@@ -103,7 +107,7 @@ impl Squad {
     }
 
     /// Where to go on: in this lane, in the lanes ahead, or in those behind.
-    fn aim(&self, yard: &Yard, float: bool) -> Option<Aim> {
+    fn aim(&mut self, yard: &Yard, float: bool) -> Option<Aim> {
         let x = yard.spot(self.lead).x;
         let lane = self.strip.lane_of(x);
         let in_lane = x == self.strip.lane(lane).middle();

@@ -13,10 +13,38 @@ const MOST_SIDE: u16 = 1000;
 pub(crate) enum Cell {
     /// It stays void.
     Blank,
-    /// It is to be filled.
+    /// It is to be filled, and hangs still.
     Wanted,
+    /// It is to be filled, and is attached: on the floor, or above or beside one that was filled.
+    Ready,
     /// It was filled.
     Made,
+}
+
+impl Cell {
+    /// Whether the voxel is to be filled, and is not yet: only where it is attached, unless voxels may float.
+    fn may_fill(self, float: bool) -> bool {
+        self == Cell::Ready || (float && self == Cell::Wanted)
+    }
+}
+
+/// How many voxels of a row along z may be filled: attached ones, or any, if voxels may float.
+#[derive(Clone, Copy, PartialEq, Eq, Debug)]
+struct Row {
+    ready: u16,
+    wanted: u16,
+}
+
+impl Row {
+    /// The row once a voxel of it became another cell.
+    fn with(self, was: Cell, now: Cell) -> Row {
+        let ready = u16::from(now.may_fill(false)).wrapping_sub(u16::from(was.may_fill(false)));
+        let wanted = u16::from(now.may_fill(true)).wrapping_sub(u16::from(was.may_fill(true)));
+        Row {
+            ready: self.ready.wrapping_add(ready),
+            wanted: self.wanted.wrapping_add(wanted),
+        }
+    }
 }
 
 /// Whether the voxel of a model is full; beyond it none is.
@@ -25,12 +53,13 @@ fn is_full_at(planes: &Planes, c: Coord) -> bool {
     c.x < r && c.y < r && c.z < r && is_full(planes, c)
 }
 
-/// A cube of voxels, and how many of them were to be filled.
+/// A cube of voxels with its rows along z, and how many voxels were to be filled.
 #[derive(Drop)]
 pub(crate) struct Site {
     side: i16,
     width: u16,
     cells: Vec<Cell>,
+    rows: Vec<Row>,
     wanted: u64,
 }
 
@@ -43,6 +72,7 @@ impl Site {
             side: side as i16,
             width: side,
             cells: Vec::with_capacity(alloc, n * n * n)?,
+            rows: Vec::with_capacity(alloc, n * n)?,
             wanted: 0,
         };
         for x in 0..side {
@@ -61,6 +91,11 @@ impl Site {
 
     /// Adds the voxels of a target in a row along z.
     fn add_row(&mut self, target: &Planes, x: u16, y: u16, turned: bool) -> Result<(), Memory> {
+        let wanted = if y == 0 { Cell::Ready } else { Cell::Wanted };
+        let mut row = Row {
+            ready: 0,
+            wanted: 0,
+        };
         for z in 0..self.width {
             let c = if turned {
                 Coord { x: z, y, z: x }
@@ -68,11 +103,12 @@ impl Site {
                 Coord { x, y, z }
             };
             let full = is_full_at(target, c);
-            let cell = if full { Cell::Wanted } else { Cell::Blank };
+            let cell = if full { wanted } else { Cell::Blank };
+            row = row.with(Cell::Blank, cell);
             self.cells.push(cell).map_err(|_| Memory)?;
-            self.wanted = self.wanted.wrapping_add(u64::from(full));
         }
-        Ok(())
+        self.wanted = self.wanted.wrapping_add(u64::from(row.wanted));
+        self.rows.push(row).map_err(|_| Memory)
     }
 
     /// How many voxels the target had.
@@ -130,7 +166,7 @@ impl Site {
 
     /// Whether a voxel is to be filled, and is not yet.
     pub(crate) fn is_wanted(&self, c: Spot) -> bool {
-        self.cell(c) == Cell::Wanted
+        self.may_fill(c, true)
     }
 
     /// Whether the voxel with a number was filled.
@@ -151,47 +187,73 @@ impl Site {
         self.cell(c) != Cell::Blank
     }
 
-    /// Whether a voxel is on the floor or beside one that was filled in its layer, or above one.
-    pub(crate) fn is_attached(&self, c: Spot) -> bool {
-        c.y == 0
-            || self.is_made(c.below())
-            || self.is_made(c.beside(-1, 0))
-            || self.is_made(c.beside(1, 0))
-            || self.is_made(c.beside(0, -1))
-            || self.is_made(c.beside(0, 1))
-    }
-
     /// Whether a voxel may be filled now: attached or, where voxels may float, any.
     pub(crate) fn may_fill(&self, c: Spot, float: bool) -> bool {
-        self.is_wanted(c) && (float || self.is_attached(c))
+        self.cell(c).may_fill(float)
+    }
+
+    /// Whether some voxel of a row along z may be filled now.
+    pub(crate) fn may_fill_in_row(&self, x: i16, y: i16, float: bool) -> bool {
+        let Some(number) = self.number(Spot { x, y, z: 0 }) else {
+            return false;
+        };
+        match self.rows.get(number as usize / self.width().max(1)) {
+            Some(row) => row.ready > 0 || (float && row.wanted > 0),
+            None => false,
+        }
     }
 
     /// Sets what is to become of a voxel.
     fn set(&mut self, c: Spot, to: Cell) {
-        if let Some(number) = self.number(c) {
-            if let Some(cell) = self.cells.get_mut(number as usize) {
-                *cell = to;
-            }
+        let Some(number) = self.number(c) else {
+            return;
+        };
+        let number = number as usize;
+        let was = self.cell(c);
+        if let Some(cell) = self.cells.get_mut(number) {
+            *cell = to;
+        }
+        let width = self.width().max(1);
+        if let Some(row) = self.rows.get_mut(number / width) {
+            *row = row.with(was, to);
         }
     }
 
-    /// Keeps that a voxel is to be filled.
+    /// Keeps that a voxel is to be filled, before any is.
     pub(crate) fn want(&mut self, c: Spot) {
-        self.set(c, Cell::Wanted);
+        let to = if c.y == 0 { Cell::Ready } else { Cell::Wanted };
+        self.set(c, to);
+    }
+
+    /// Keeps that a voxel is attached, if it is to be filled.
+    fn attach(&mut self, c: Spot) {
+        if self.cell(c) == Cell::Wanted {
+            self.set(c, Cell::Ready);
+        }
     }
 
     /// Keeps that a voxel was filled.
     pub(crate) fn make(&mut self, c: Spot) {
         self.set(c, Cell::Made);
+        self.attach(c.above());
+        for (dx, dz) in [(-1, 0), (1, 0), (0, -1), (0, 1)] {
+            self.attach(c.beside(dx, dz));
+        }
     }
 
     /// Keeps that all that was to be filled was.
     pub(crate) fn make_all(&mut self) {
         for i in 0..self.cells.len() {
             if let Some(cell) = self.cells.get_mut(i) {
-                if *cell == Cell::Wanted {
+                if *cell != Cell::Blank {
                     *cell = Cell::Made;
                 }
+            }
+        }
+        for i in 0..self.rows.len() {
+            if let Some(row) = self.rows.get_mut(i) {
+                row.ready = 0;
+                row.wanted = 0;
             }
         }
     }

@@ -44,6 +44,14 @@ impl Spot {
         self.plus(Diff { dx, dy: 0, dz })
     }
 
+    /// The place right above.
+    pub(crate) fn above(self) -> Spot {
+        Spot {
+            y: self.y.wrapping_add(1),
+            ..self
+        }
+    }
+
     /// The place right below.
     pub(crate) fn below(self) -> Spot {
         Spot {

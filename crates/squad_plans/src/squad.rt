@@ -6,6 +6,9 @@ use crate::yard::Yard;
 use std::alloc::Global;
 use vox_geom::{Diff, Memory};
 
+/// What a bot's step counts, where a row or a piece that is looked at counts 1.
+const STEP: u64 = 4;
+
 /// What became of a squad's turn.
 #[derive(Clone, Copy, PartialEq, Eq, Debug)]
 pub(crate) enum Stance {
@@ -17,8 +20,8 @@ pub(crate) enum Stance {
     IsHome,
 }
 
-/// A squad: its strip, its bots, where it began, how high it is to be, what is left of each layer, and which way it goes along its
-/// lane and to the next one.
+/// A squad: its strip, its bots, where it began, how high it is to be, what is left of each layer, which way it goes along its
+/// lane and to the next one, and its work so far.
 #[derive(Drop)]
 pub(crate) struct Squad {
     pub(crate) strip: Strip,
@@ -33,6 +36,7 @@ pub(crate) struct Squad {
     pub(crate) pieces: Vec<Piece>,
     pub(crate) listed: i16,
     pub(crate) job: Option<Job>,
+    pub(crate) work: u64,
 }
 
 impl Squad {
@@ -60,6 +64,7 @@ impl Squad {
             pieces: Vec::new(alloc),
             listed: -1,
             job: None,
+            work: 0,
         })
     }
 
@@ -134,13 +139,34 @@ impl Squad {
         }
     }
 
+    /// Whether something may be filled in its layer in some columns.
+    pub(crate) fn may_fill_in(&self, yard: &Yard, columns: Strip, float: bool) -> bool {
+        let y = self.layer();
+        for x in columns.low..=columns.high {
+            if yard.site().may_fill_in_row(x, y, float) {
+                return true;
+            }
+        }
+        false
+    }
+
+    /// Counts rows or pieces that were looked at.
+    pub(crate) fn count(&mut self, looked: usize) {
+        self.work = self.work.saturating_add(looked as u64);
+    }
+
     /// Has its turn in this step.
     pub(crate) fn turn(&mut self, yard: &mut Yard, float: bool) -> Result<Stance, Memory> {
+        let bots = if self.mate.is_some() { 2 } else { 1 };
+        self.work = self.work.saturating_add(STEP * bots);
         if !self.done && self.rise(yard) && !self.done {
             return Ok(Stance::Acts);
         }
         if self.done {
             return Ok(self.come_home(yard));
+        }
+        if self.job.is_none() && !self.may_fill_in(yard, self.strip, float) {
+            return Ok(Stance::Waits);
         }
         let acts = match self.mate {
             Some(mate) => self.build_by_two(yard, mate, float)?,

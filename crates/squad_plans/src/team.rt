@@ -23,6 +23,12 @@ const MOST_RUN: u64 = 31;
 /// The most squads.
 const MOST_SQUADS: u8 = 40;
 
+/// The most work for each voxel of a model's space.
+const WORK_EACH: u64 = 8;
+
+/// The most work besides.
+const MOST_WORK: u64 = 8_000_000;
+
 /// How squads are to build: how many there are at most, whether each has two bots, how many columns wide their lanes are, from 1 to
 /// 3, whether x and z are exchanged, whether parts that hang get poles, whether all is taken down in place of built, and how many steps
 /// they may take.
@@ -63,6 +69,7 @@ pub(crate) struct Team {
     poles: Vec<Pole>,
     rounds: u8,
     each: u8,
+    work: u64,
 }
 
 /// The most voxels that squads fill in the steps that they may take.
@@ -102,6 +109,7 @@ impl Team {
             poles,
             rounds: 0,
             each,
+            work: 0,
         }))
     }
 
@@ -119,6 +127,7 @@ impl Team {
             poles: Vec::new(alloc),
             rounds: 0,
             each,
+            work: 0,
         })
     }
 
@@ -276,6 +285,7 @@ impl Team {
     fn turns(&mut self) -> Result<(bool, bool), Memory> {
         let float = self.yard.is_high();
         let (mut acts, mut home) = (false, true);
+        let mut work = 0u64;
         for i in 0..self.squads.len() {
             if let Some(squad) = self.squads.get_mut(i) {
                 let mut turn = squad.turn(&mut self.yard, false)?;
@@ -284,8 +294,10 @@ impl Team {
                 }
                 acts = acts || turn == Stance::Acts;
                 home = home && turn == Stance::IsHome;
+                work = work.saturating_add(squad.work);
             }
         }
+        self.work = work;
         Ok((acts, home))
     }
 
@@ -307,6 +319,13 @@ impl Team {
         Ok(())
     }
 
+    /// Whether the squads took more steps than that, or worked more than is worth it: models with long ways take them more than they gain.
+    fn is_over(&self, most: u64) -> bool {
+        let voxels = self.yard.site().count() as u64;
+        let allowed = voxels.saturating_mul(WORK_EACH).saturating_add(MOST_WORK);
+        self.yard.steps() > most || self.work > allowed
+    }
+
     /// All squads build and come home. Whether they do, in at most so many steps.
     fn work(&mut self, alloc: Global, most: u64) -> Result<bool, Memory> {
         for _ in 0..MOST_STEPS {
@@ -323,7 +342,7 @@ impl Team {
                 self.yard.watch(alloc)?;
                 self.yard.flip()?;
             }
-            if self.yard.steps() > most {
+            if self.is_over(most) {
                 return Ok(false);
             }
         }

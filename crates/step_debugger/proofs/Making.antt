@@ -17,7 +17,7 @@ use Rattle.step_machine.specs.Undoing.{MayUndo, state_before}
 use Rattle.step_machine.specs.declared.machine.StepOk.{StepOk}
 use Rattle.step_machine.specs.declared.machine.StepFault.TheVariants as fault
 use Rattle.step_machine.specs.declared.undo.Undo.{Undo}
-use Rattle.step_debugger.specs.Session.{Made, Moment, Refused, Session, TriesStep, dropped, latest, made, most_past, next_commands, none_left, refused}
+use Rattle.step_debugger.specs.Session.{Made, SessionPoint, Refused, Session, TriesStep, dropped, latest, made, most_past, next_commands, none_left, refused}
 use Rattle.step_debugger.specs.Debugging.{Debugging, debugging_of, point_before, point_of, points_of}
 use Rattle.step_debugger.specs.Kept.{Begin, Fit, IsKept, LeadTo, LeadsTo}
 use Rattle.step_debugger.specs.Touches.{IsRefusedWithin, IsWithinWorkOf}
@@ -98,7 +98,7 @@ module _ (v : Situation) (notes : Buffer Undo) (commands : List Command) (taken 
         leads_all =
             subst (λ (us : List Undo). LeadTo (point_of w (taken + n)) us) (sym latest_is)
             (lead_drop (point_of w (taken + n)) (length (notes.items ++ undo ∷ []) - most_past) (notes.items ++ undo ∷ [])
-            (lead_more (point_of w (taken + n)) notes.items undo (subst (λ (q : Moment). LeadTo q notes.items) (sym point_is) here.notes_lead) leads))
+            (lead_more (point_of w (taken + n)) notes.items undo (subst (λ (q : SessionPoint). LeadTo q notes.items) (sym point_is) here.notes_lead) leads))
 
         begins : (now : List ℕ) → now ≡ [] → (standing : List Bot) → standing ≡ w.state.bots
             → Begin commands (point_of w (taken + n)) now left standing
@@ -201,10 +201,10 @@ module _ (v : Situation) (notes : Buffer Undo) (commands : List Command) (taken 
             few = kept.few;
             capacity = kept.capacity;
             fit = λ _. record {
-              well_formed = subst (λ (q : Moment). IsWellFormed q.state) (sym point_anew) here.well_formed;
-              counted = subst (λ (q : Moment). q.steps ≤ q.taken) (sym point_anew) here.counted;
+              well_formed = subst (λ (q : SessionPoint). IsWellFormed q.state) (sym point_anew) here.well_formed;
+              counted = subst (λ (q : SessionPoint). q.steps ≤ q.taken) (sym point_anew) here.counted;
               taken = here.taken;
-              notes_lead = subst (λ (q : Moment). LeadTo q notes.items) (sym point_anew) here.notes_lead;
+              notes_lead = subst (λ (q : SessionPoint). LeadTo q notes.items) (sym point_anew) here.notes_lead;
               begin = begins_anew now none standing g;
               within = subst (λ (bs : List Bot). All (λ b. IsInSpace u.state.matrix.resolution b.pos) bs) (sym g) ready.within;
             };

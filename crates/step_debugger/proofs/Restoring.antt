@@ -9,7 +9,7 @@ use Rattle.nano_spec.specs.Matrix.{is_full}
 use Rattle.nano_spec.specs.Next.{Breaks, Goes, Outcome}
 use Rattle.nano_spec.specs.Rules.{broken}
 use Rattle.nano_spec.specs.State.{State}
-use Rattle.step_debugger.specs.Session.{AnswersLine, Back, BeginsGroup, Begun, Bots, Crew, Ended, FollowsStep, GoesBack, Group, IsFull, IsVoid, DebugLine, Made, NoHistory, NoLeader, Moment, Refused, DebugReport, Session, Step, TriesStep, TakesBack, UnlessEnded, Voxel, is_last, is_returned, latest, made, may_begin, most_past, next_commands}
+use Rattle.step_debugger.specs.Session.{AnswersLine, Back, BeginsGroup, Begun, Bots, Crew, Ended, FollowsStep, GoesBack, Group, IsFull, IsVoid, DebugLine, Made, NoHistory, NoLeader, SessionPoint, Refused, DebugReport, Session, Step, TriesStep, TakesBack, UnlessEnded, Voxel, is_last, is_returned, latest, made, may_begin, most_past, next_commands}
 
 -- whether a step was made
 abbrev pub is_made : DebugReport → Bool
@@ -53,7 +53,7 @@ grouped : (commands : List Command) (bid : ℕ) (s t : Session) (r : DebugReport
 grouped commands bid s t r None m h = begun_so commands bid s t r m h
 grouped commands bid s t r (Some w) m h = absurd (never r (Refused w) h.1 m refl)
 
-went_back : (past : List Moment) (s t : Session) (r : DebugReport) → is_made r ≡ true → TakesBack past s t r
+went_back : (past : List SessionPoint) (s t : Session) (r : DebugReport) → is_made r ≡ true → TakesBack past s t r
     → WasMade s t
 went_back [] s t r m h = absurd (never r NoHistory h.1 m refl)
 went_back (p ∷ past) s t r m h = absurd (never r (is_returned h.last) h.report_is m refl)
@@ -78,12 +78,13 @@ was_made commands (Voxel c) s t r m h = absurd (by (is_full s.point.state.matrix
 
 -- ---- the last points of a list with one more
 
-drop_push : (k : ℕ) (xs : List Moment) (x : Moment) → k ≤ length xs → drop k (xs ++ x ∷ []) ≡ drop k xs ++ x ∷ []
+drop_push : (k : ℕ) (xs : List SessionPoint) (x : SessionPoint) → k ≤ length xs
+    → drop k (xs ++ x ∷ []) ≡ drop k xs ++ x ∷ []
 drop_push zero xs x l = refl
 drop_push (suc k) [] x l = absurd (omega arith)
 drop_push (suc k) (y ∷ xs) x l = drop_push k xs x (omega arith)
 
-latest_push : (xs : List Moment) (x : Moment) → latest most_past (xs ++ x ∷ []) ≡ latest 4095 xs ++ x ∷ []
+latest_push : (xs : List SessionPoint) (x : SessionPoint) → latest most_past (xs ++ x ∷ []) ≡ latest 4095 xs ++ x ∷ []
 latest_push xs x =
     let length_is = length-append xs (x ∷ []) in
     let same : length (xs ++ x ∷ []) - 4096 ≡ length xs - 4095 = omega (arith, length_is) in
@@ -91,12 +92,12 @@ latest_push xs x =
 
 -- ---- what is taken back
 
-restored_past : (past : List Moment) (s t u : Session) (r : DebugReport) → past ≡ t.past → (v : State) → t ≡ made s v
-    → TakesBack past t u r
+restored_past : (past : List SessionPoint) (s t u : Session) (r : DebugReport) → past ≡ t.past → (v : State)
+    → t ≡ made s v → TakesBack past t u r
     → (u ≡ record { point = s.point; past = latest 4095 s.past; begun = [] }) × (r ≡ is_returned s.point)
 restored_past [] s t u r p v e h = absurd (empty (latest 4095 s.past) (p ∙ (ap (λ (x : Session). x.past) e ∙ latest_push s.past s.point)))
   where
-    empty : (xs : List Moment) → [] ≡ xs ++ s.point ∷ [] → ⊥
+    empty : (xs : List SessionPoint) → [] ≡ xs ++ s.point ∷ [] → ⊥
     empty [] f = cc
     empty (x ∷ xs) f = cc
 restored_past (q ∷ past) s t u r p v e h =
@@ -124,5 +125,5 @@ pub restored_report : (commands : List Command) (line : DebugLine) (s t u : Sess
     → r ≡ is_returned s.point
 restored_report commands line s t u n energy ended r h k = (restored commands line s t u n energy ended r h k).1
 
-pub all_latest : (xs : List Moment) → length xs < most_past → latest 4095 xs ≡ xs
+pub all_latest : (xs : List SessionPoint) → length xs < most_past → latest 4095 xs ≡ xs
 all_latest xs l = let none : length xs - 4095 ≡ 0 = omega (arith, l) in ap (λ k. drop k xs) none

@@ -9,7 +9,7 @@ use Rattle.vox_geom.specs.Space.{IsInSpace}
 use Rattle.step_machine.specs.Situation.{Situation}
 use Rattle.step_machine.specs.Undoing.{IsUndoneBy, MayUndo, state_before}
 use Rattle.step_machine.specs.declared.undo.Undo.{Undo}
-use Rattle.step_debugger.specs.Session.{GoesBack, IsBack, Moment, DebugReport, Session, TakesBack, is_returned}
+use Rattle.step_debugger.specs.Session.{GoesBack, IsBack, SessionPoint, DebugReport, Session, TakesBack, is_returned}
 use Rattle.step_debugger.specs.Debugging.{Debugging, debugging_of, point_before, point_of, points_of}
 use Rattle.step_debugger.specs.Kept.{Begin, Fit, IsKept, LeadTo, LeadsTo}
 use Rattle.step_debugger.specs.Touches.{IsTouchedBack}
@@ -17,7 +17,7 @@ use Rattle.step_debugger.proofs.Notes.{last_split, lead_less, points_more}
 use Rattle.step_debugger.proofs.TouchedBack.{touched_back}
 
 -- where the past has a last point
-takes_back : (past earlier : List Moment) (last : Moment) (s t : Session) (report : DebugReport)
+takes_back : (past earlier : List SessionPoint) (last : SessionPoint) (s t : Session) (report : DebugReport)
     → past ≡ earlier ++ last ∷ [] → IsBack s t report → TakesBack past s t report
 takes_back (p ∷ past) earlier last s t report e h = h
 takes_back [] [] last s t report e h = cc
@@ -66,7 +66,7 @@ module _ (v : Situation) (notes : Buffer Undo) (commands : List Command) (taken 
       kept_back now g = record {
         few = kept.few;
         capacity = ap (λ (b : Buffer Undo). b.capacity) popped ∙ kept.capacity;
-        fit = λ _. subst (λ (q : Moment). Fit q rest.items commands begun left now) point_is (subst (λ (us : List Undo). Fit (point_before (point_of v taken) undo) us commands begun left now) (sym (ap (λ (b : Buffer Undo). b.items) popped)) (record {
+        fit = λ _. subst (λ (q : SessionPoint). Fit q rest.items commands begun left now) point_is (subst (λ (us : List Undo). Fit (point_before (point_of v taken) undo) us commands begun left now) (sym (ap (λ (b : Buffer Undo). b.items) popped)) (record {
           well_formed = leads.0.may.before.well_formed;
           counted = let leads_taken = leads.0.taken in omega (arith, leads_taken);
           taken = let fit_taken = fit.taken in omega (arith, fit_taken);

@@ -11,7 +11,7 @@ use Rattle.step_machine.proofs.Weighing.{step_work}
 use Rattle.step_machine.proofs.Working.{acts_work, judged_touches}
 use Rattle.step_debugger.specs.declared.fault.DebugFault.{DebugFault}
 use Rattle.step_debugger.specs.declared.fault.DebugFault.TheVariants as fault
-use Rattle.step_debugger.specs.Session.{Moment, next_commands}
+use Rattle.step_debugger.specs.Session.{SessionPoint, next_commands}
 use Rattle.step_debugger.specs.Touches.{IfRefused, IsRefusedWithin, IsWithinWorkOf}
 
 -- the work of a step that breaks no rule at its start is no less than what is volatile
@@ -20,7 +20,7 @@ volatile_most : (s : State) (commands : List Command) (step n : ℕ) → broken 
 volatile_most s commands step n keeps work = let acts_work_here = (acts_work s commands step n keeps work).1 in omega (arith, acts_work_here)
 
 -- where the next step cannot be judged nothing is touched
-pub untouched_at : (T : Type 0) (most : ℕ) (commands : List Command) (p : Moment) (r : DebugFault) (began : ℕ)
+pub untouched_at : (T : Type 0) (most : ℕ) (commands : List Command) (p : SessionPoint) (r : DebugFault) (began : ℕ)
     → IfRefused {T = T} (Err r) (λ b. IsRefusedWithin most commands p b began began)
 untouched_at T most commands p (fault.Broken b) began = let work = step_work p.state (next_commands commands p) (p.steps + 1) in (work.0, work.1, omega arith)
 untouched_at T most commands p fault.Ended began = tt
@@ -29,7 +29,7 @@ untouched_at T most commands p (fault.NotLeader leader) began = tt
 untouched_at T most commands p fault.Memory began = tt
 
 -- the step of a group is refused where it is judged
-pub judged_within : (commands : List Command) (p : Moment) (b : Broken) (began ended : ℕ)
+pub judged_within : (commands : List Command) (p : SessionPoint) (b : Broken) (began ended : ℕ)
     → broken p.state (next_commands commands p) (p.steps + 1) ≡ Some b
     → length (next_commands commands p) ≡ length p.state.bots
     → ended ≤ began + 2 * volatile_total p.state.matrix (acts p.state.bots (next_commands commands p))
@@ -39,7 +39,7 @@ judged_within commands p b began ended breaks all judged =
     let few = judged_touches p.state (next_commands commands p) (p.steps + 1) b began ended work.0 breaks (omega (arith, judged)) (λ l. absurd (omega (arith, all, l))) work.1 in
     (work.0, work.1, omega (arith, few))
 
-module _ (commands : List Command) (p : Moment) (keeps : broken p.state (next_commands commands p) (p.steps + 1) ≡ None) (began middle : ℕ) (judged : middle ≤ began + 2 * volatile_total p.state.matrix (acts p.state.bots (next_commands commands p))) where
+module _ (commands : List Command) (p : SessionPoint) (keeps : broken p.state (next_commands commands p) (p.steps + 1) ≡ None) (began middle : ℕ) (judged : middle ≤ began + 2 * volatile_total p.state.matrix (acts p.state.bots (next_commands commands p))) where
   -- a group that is begun: its step is judged
   pub begun_within : IsWithinWorkOf 102 commands p began middle
   begun_within =

@@ -3,7 +3,7 @@ use Rattle.std.specs.Prelude.{ℕ, ◌+◌, Option, Some, None, Result, Ok, Err}
 use Rattle.step_machine.specs.declared.machine.StepOk.{StepOk}
 use Rattle.step_debugger.specs.declared.fault.DebugFault.{DebugFault}
 use Rattle.step_debugger.specs.declared.fault.DebugFault.TheVariants as fault
-use Rattle.step_debugger.specs.Session.{Begun, Ended, Made, NoHistory, NoLeader, Moment, Refused, DebugReport, is_returned}
+use Rattle.step_debugger.specs.Session.{Begun, Ended, Made, NoHistory, NoLeader, SessionPoint, Refused, DebugReport, is_returned}
 
 -- a fault, but for want of memory, of which a session knows nothing
 abbrev pub fault_report : DebugFault → Option DebugReport
@@ -25,7 +25,7 @@ group_report leader steps (Ok (Some ok)) = Some (Made steps ok.energy ok.halted)
 group_report leader steps (Err fault) = fault_report fault
 
 -- a way back, after which the point stands
-abbrev pub back_report : Moment → Result Unit DebugFault → Option DebugReport
+abbrev pub back_report : SessionPoint → Result Unit DebugFault → Option DebugReport
 back_report p (Ok _) = Some (is_returned p)
 back_report p (Err fault) = fault_report fault
 

@@ -4,7 +4,7 @@ use Rattle.nano_spec.specs.declared.commands.Command.{Command}
 use Rattle.step_machine.specs.Situation.{Situation}
 use Rattle.step_machine.specs.Undoing.{state_before}
 use Rattle.step_machine.specs.declared.undo.Undo.{Undo}
-use Rattle.step_debugger.specs.Session.{Moment, Session}
+use Rattle.step_debugger.specs.Session.{SessionPoint, Session}
 
 -- the session, the commands of the trace, and whether memory was refused
 pub record Debugging : Type 0 where
@@ -13,25 +13,25 @@ pub record Debugging : Type 0 where
   pub spent : Bool
 
 -- where a machine stands that was given so many commands
-abbrev pub point_of : Situation → ℕ → Moment
+abbrev pub point_of : Situation → ℕ → SessionPoint
 point_of machine taken = record { state = machine.state; steps = machine.steps; taken = taken }
 
 -- what is seen of the machine of a point
-abbrev pub situation_of : Moment → Bool → Situation
+abbrev pub situation_of : SessionPoint → Bool → Situation
 situation_of p spent = record { state = p.state; steps = p.steps; spent = spent }
 
 -- the point before the step of a note: each of its bots took a command
-abbrev pub point_before : Moment → Undo → Moment
+abbrev pub point_before : SessionPoint → Undo → SessionPoint
 point_before p undo =
     record { state = state_before p.state undo; steps = undo.steps; taken = p.taken - length undo.crew }
 
 -- the point before the steps of all notes, of which the last is that of the last step
-abbrev pub earliest : Moment → List Undo → Moment
+abbrev pub earliest : SessionPoint → List Undo → SessionPoint
 earliest p [] = p
 earliest p (undo ∷ notes) = point_before (earliest p notes) undo
 
 -- the points before the steps of the notes
-abbrev pub points_of : Moment → List Undo → List Moment
+abbrev pub points_of : SessionPoint → List Undo → List SessionPoint
 points_of p [] = []
 points_of p (undo ∷ notes) = earliest p (undo ∷ notes) ∷ points_of p notes
 

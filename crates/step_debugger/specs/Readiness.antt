@@ -4,10 +4,10 @@ use Rattle.nano_spec.specs.declared.commands.Command.{Command}
 use Rattle.nano_spec.specs.Rules.{broken}
 use Rattle.step_debugger.specs.declared.fault.DebugFault.{DebugFault}
 use Rattle.step_debugger.specs.declared.fault.DebugFault.TheVariants as fault
-use Rattle.step_debugger.specs.Session.{Moment, next_commands}
+use Rattle.step_debugger.specs.Session.{SessionPoint, next_commands}
 
 -- no bot is active, or the commands that are left break a rule
-abbrev pub IsUnready : List Command → Moment → DebugFault → Type 0
+abbrev pub IsUnready : List Command → SessionPoint → DebugFault → Type 0
 IsUnready commands p fault.Ended = p.state.bots ≡ []
 IsUnready commands p (fault.Broken b) =
     (1 ≤ length p.state.bots) × (broken p.state (next_commands commands p) (p.steps + 1) ≡ Some b)

@@ -18,7 +18,7 @@ use Rattle.nano_spec.specs.Serial.{leader_bids, serial}
 use Rattle.nano_spec.specs.State.{State, opening}
 
 -- a state, with how many steps were made and how many commands were taken until then
-pub record Moment : Type 0 where
+pub record SessionPoint : Type 0 where
   pub state : State
   pub steps : ℕ
   pub taken : ℕ
@@ -26,8 +26,8 @@ pub record Moment : Type 0 where
 -- the point where it stands, the points before it, of which the last comes last, and the leaders of the groups that are
 -- begun, in the order in which they were begun
 pub record Session : Type 0 where
-  pub point : Moment
-  pub past : List Moment
+  pub point : SessionPoint
+  pub past : List SessionPoint
   pub begun : List ℕ
 
 -- how many points are kept
@@ -44,11 +44,11 @@ opened source profile =
     record { point = record { state = opening source profile; steps = 0; taken = 0 }; past = []; begun = [] }
 
 -- the commands of the next step: one for each bot, as far as there are any
-abbrev pub next_commands : List Command → Moment → List Command
+abbrev pub next_commands : List Command → SessionPoint → List Command
 next_commands commands p = take (length p.state.bots) (drop p.taken commands)
 
 -- the bids of the leaders of the next step, in rising order
-abbrev pub next_leaders : List Command → Moment → List ℕ
+abbrev pub next_leaders : List Command → SessionPoint → List ℕ
 next_leaders commands p = leader_bids (acts p.state.bots (next_commands commands p))
 
 -- the state after the begun groups alone, one after another
@@ -148,19 +148,19 @@ TriesGroup commands bid s t report =
     (BeginsGroup commands bid s t report) (λ b. (t ≡ s) × (report ≡ Refused b))
 
 -- the point stands again
-abbrev pub is_returned : Moment → DebugReport
+abbrev pub is_returned : SessionPoint → DebugReport
 is_returned p = Returned p.steps p.state.energy
 
 -- the last point of the past stands again
 pub record IsBack (s t : Session) (report : DebugReport) : Type 0 where
-  pub earlier : List Moment
-  pub last : Moment
+  pub earlier : List SessionPoint
+  pub last : SessionPoint
   pub past : s.past ≡ earlier ++ last ∷ []
   pub session : t ≡ record { point = last; past = earlier; begun = [] }
   pub report_is : report ≡ is_returned last
 
 -- where nothing is begun the last step is taken back
-abbrev pub TakesBack : List Moment → Session → Session → DebugReport → Type 0
+abbrev pub TakesBack : List SessionPoint → Session → Session → DebugReport → Type 0
 TakesBack [] s t report = (t ≡ s) × (report ≡ NoHistory)
 TakesBack (p ∷ past) s t report = IsBack s t report
 

@@ -8,16 +8,16 @@ use Rattle.step_machine.specs.Situation.{searched_for}
 use Rattle.step_machine.specs.Undoing.{LevelsThrough, levels_moved}
 use Rattle.step_debugger.specs.declared.fault.DebugFault.{DebugFault}
 use Rattle.step_debugger.specs.declared.fault.DebugFault.TheVariants as fault
-use Rattle.step_debugger.specs.Session.{Moment, next_commands}
+use Rattle.step_debugger.specs.Session.{SessionPoint, next_commands}
 
 -- the touches from began to ended are at most so many for each unit of the work of the next step
-abbrev pub IsWithinWorkOf : ℕ → List Command → Moment → ℕ → ℕ → Type 0
+abbrev pub IsWithinWorkOf : ℕ → List Command → SessionPoint → ℕ → ℕ → Type 0
 IsWithinWorkOf most commands p began ended =
     (n : ℕ) × WorkOfStep p.state (next_commands commands p) (p.steps + 1) n × (ended ≤ began + most * n)
 
 -- they are so where the step is refused too, but for 92 at each voxel where it breaks the rule of grounding: those of a
 -- search, and of a machine that is made anew
-abbrev pub IsRefusedWithin : ℕ → List Command → Moment → Broken → ℕ → ℕ → Type 0
+abbrev pub IsRefusedWithin : ℕ → List Command → SessionPoint → Broken → ℕ → ℕ → Type 0
 IsRefusedWithin most commands p b began ended =
     IsWithinWorkOf most commands p (began + 92 * searched_for b.rule p.state.matrix) ended
 

@@ -98,7 +98,7 @@ impl Debugger {
     }
 
     /// The leaders of the groups that are begun, in the order in which they were begun.
-    pub fn begun_leaders(&self) -> &[u8]
+    pub fn begun(&self) -> &[u8]
         ensures { result.now ≡ self.now.session.begun }
     {
         self.begun.as_slice()

@@ -15,7 +15,7 @@ use Rattle.nano_spec.specs.declared.system.Bot.{Bot}
 use Rattle.nano_spec.specs.Act.{Act, acts, stays_in_space}
 use Rattle.nano_spec.specs.Group.{are_together, is_leader, leaders, members}
 use Rattle.nano_spec.specs.Matrix.{Matrix, all_of, differ_at, is_full}
-use Rattle.nano_spec.specs.Rules.{broken, judge_bots, judge_pairs, judge_trace, rules_of_bots}
+use Rattle.nano_spec.specs.Rules.{broken, judge_bots, judge_pairs, judge_trace}
 use Rattle.nano_spec.specs.State.{IsReady, State}
 use Rattle.nano_spec.specs.Step.{after, is_filled, is_voided, matrix_after}
 use Rattle.nano_spec.specs.Volatile.{is_volatile_of}

@@ -90,7 +90,7 @@ fn assert_middle_full<L: Ledger>(
 /// The leaders of the begun groups, the energy before the step, and how many steps can be taken back.
 fn assert_stands(rt: &impl Abort, debugger: &Debugger, begun: &[u8], energy: i64, history: u16) {
     assert!(rt; !debugger.spent());
-    assert_eq!(rt; debugger.begun_leaders(), begun);
+    assert_eq!(rt; debugger.begun(), begun);
     assert_eq!(rt; debugger.machine().energy(), energy);
     assert_eq!(rt; debugger.history(), history);
 }

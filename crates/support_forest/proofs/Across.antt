@@ -62,14 +62,16 @@ square_of_bricks n h =
     let at_most_n : n * n ≤ 51 * n = grind arith in
     omega arith
 
-pub stands_below : (r number slot_place : ℕ) (c : Coord) → StandsIn r number slot_place c → number < side r * side r * side r
+pub stands_below : (r number slot_place : ℕ) (c : Coord) → StandsIn r number slot_place c
+    → number < side r * side r * side r
 unfolding brick_number
 stands_below r number slot_place c s = let below = place_below (side r) (brick c) s.within in let in_brick = s.in_brick in omega arith
 
 -- ---- where the neighbour stands
 
 -- so many bricks are before it where it is not in the first of them
-pub own_below : (r : ℕ) (c : Coord) (number slot_place : ℕ) → IsOwnSpot r c number slot_place → side r ≤ 51 → number < 132651
+pub own_below : (r : ℕ) (c : Coord) (number slot_place : ℕ) → IsOwnSpot r c number slot_place → side r ≤ 51
+    → number < 132651
 unfolding brick_number
 own_below r c number slot_place own few =
     let below = place_below (side r) (brick c) (brick_inside r c own.within) in
@@ -77,18 +79,18 @@ own_below r c number slot_place own few =
     let in_brick = own.in_brick in
     omega arith
 
-pub wall_before_own : (r : ℕ) (c : Coord) (number slot_place : ℕ) → IsOwnSpot r c number slot_place → c.x % 8 ≡ 0 → 0 < c.x
-    → side r * side r ≤ number
+pub wall_before_own : (r : ℕ) (c : Coord) (number slot_place : ℕ) → IsOwnSpot r c number slot_place → c.x % 8 ≡ 0
+    → 0 < c.x → side r * side r ≤ number
 unfolding brick_number
 wall_before_own r c number slot_place own last some = wall_fits (side r) (c.x / 8) (c.y / 8) (c.z / 8) number (omega arith) own.in_brick
 
-pub row_before_own : (r : ℕ) (c : Coord) (number slot_place : ℕ) → IsOwnSpot r c number slot_place → c.y % 8 ≡ 0 → 0 < c.y
-    → side r ≤ number
+pub row_before_own : (r : ℕ) (c : Coord) (number slot_place : ℕ) → IsOwnSpot r c number slot_place → c.y % 8 ≡ 0
+    → 0 < c.y → side r ≤ number
 unfolding brick_number
 row_before_own r c number slot_place own last some = row_fits (side r) (c.x / 8) (c.y / 8) (c.z / 8) number (omega arith) own.in_brick
 
-pub one_before_own : (r : ℕ) (c : Coord) (number slot_place : ℕ) → IsOwnSpot r c number slot_place → c.z % 8 ≡ 0 → 0 < c.z
-    → 1 ≤ number
+pub one_before_own : (r : ℕ) (c : Coord) (number slot_place : ℕ) → IsOwnSpot r c number slot_place → c.z % 8 ≡ 0
+    → 0 < c.z → 1 ≤ number
 unfolding brick_number
 one_before_own r c number slot_place own last some = let in_brick = own.in_brick in omega arith
 

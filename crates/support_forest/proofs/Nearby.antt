@@ -39,8 +39,8 @@ same_slot g c d own e h = subst (λ (n : ℕ). own ≡ slot_at g.table n) (sym (
 
 -- ---- the place of a neighbour's word in the same brick
 
-pub stands_left : (c : Coord) (d slot_place i : ℕ) → d ≡ 1 → slot_place ≡ place_in_slot c → 0 < c.x % 8 → i + 8 ≡ slot_place
-    → StandsToward c d i
+pub stands_left : (c : Coord) (d slot_place i : ℕ) → d ≡ 1 → slot_place ≡ place_in_slot c → 0 < c.x % 8
+    → i + 8 ≡ slot_place → StandsToward c d i
 unfolding place_in_slot
 stands_left c d slot_place i n e h k = record {
   there = record { x = c.x - 1; y = c.y; z = c.z };
@@ -49,8 +49,8 @@ stands_left c d slot_place i n e h k = record {
   at_place = omega arith;
 }
 
-pub stands_right : (c : Coord) (d slot_place i : ℕ) → d ≡ 2 → slot_place ≡ place_in_slot c → c.x % 8 < 7 → i ≡ slot_place + 8
-    → StandsToward c d i
+pub stands_right : (c : Coord) (d slot_place i : ℕ) → d ≡ 2 → slot_place ≡ place_in_slot c → c.x % 8 < 7
+    → i ≡ slot_place + 8 → StandsToward c d i
 unfolding place_in_slot
 stands_right c d slot_place i n e h k = record {
   there = record { x = c.x + 1; y = c.y; z = c.z };
@@ -59,8 +59,8 @@ stands_right c d slot_place i n e h k = record {
   at_place = omega arith;
 }
 
-pub stands_under : (c : Coord) (d slot_place i : ℕ) → d ≡ 3 → slot_place ≡ place_in_slot c → 0 < c.y % 8 → i + 64 ≡ slot_place
-    → StandsToward c d i
+pub stands_under : (c : Coord) (d slot_place i : ℕ) → d ≡ 3 → slot_place ≡ place_in_slot c → 0 < c.y % 8
+    → i + 64 ≡ slot_place → StandsToward c d i
 unfolding place_in_slot
 stands_under c d slot_place i n e h k = record {
   there = record { x = c.x; y = c.y - 1; z = c.z };
@@ -69,8 +69,8 @@ stands_under c d slot_place i n e h k = record {
   at_place = omega arith;
 }
 
-pub stands_over : (c : Coord) (d slot_place i : ℕ) → d ≡ 4 → slot_place ≡ place_in_slot c → c.y % 8 < 7 → i ≡ slot_place + 64
-    → StandsToward c d i
+pub stands_over : (c : Coord) (d slot_place i : ℕ) → d ≡ 4 → slot_place ≡ place_in_slot c → c.y % 8 < 7
+    → i ≡ slot_place + 64 → StandsToward c d i
 unfolding place_in_slot
 stands_over c d slot_place i n e h k = record {
   there = record { x = c.x; y = c.y + 1; z = c.z };
@@ -79,8 +79,8 @@ stands_over c d slot_place i n e h k = record {
   at_place = omega arith;
 }
 
-pub stands_near : (c : Coord) (d slot_place i : ℕ) → d ≡ 5 → slot_place ≡ place_in_slot c → 0 < c.z % 8 → i + 1 ≡ slot_place
-    → StandsToward c d i
+pub stands_near : (c : Coord) (d slot_place i : ℕ) → d ≡ 5 → slot_place ≡ place_in_slot c → 0 < c.z % 8
+    → i + 1 ≡ slot_place → StandsToward c d i
 unfolding place_in_slot
 stands_near c d slot_place i n e h k = record {
   there = record { x = c.x; y = c.y; z = c.z - 1 };
@@ -89,8 +89,8 @@ stands_near c d slot_place i n e h k = record {
   at_place = omega arith;
 }
 
-pub stands_far : (c : Coord) (d slot_place i : ℕ) → d ≡ 6 → slot_place ≡ place_in_slot c → c.z % 8 < 7 → i ≡ slot_place + 1
-    → StandsToward c d i
+pub stands_far : (c : Coord) (d slot_place i : ℕ) → d ≡ 6 → slot_place ≡ place_in_slot c → c.z % 8 < 7
+    → i ≡ slot_place + 1 → StandsToward c d i
 unfolding place_in_slot
 stands_far c d slot_place i n e h k = record {
   there = record { x = c.x; y = c.y; z = c.z + 1 };

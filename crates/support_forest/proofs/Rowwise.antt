@@ -91,7 +91,8 @@ is_rowed g c slot index word (suc k) h l =
 pub record WroteRow (g : Grid) (v : Slots) (c : Coord) (word : ℕ) : Type 0 where
   pub store : IsStore (record { resolution = g.resolution; table = g.table; bricks = v })
   pub floating : floating_count (record { resolution = g.resolution; table = g.table; bricks = v }) ≡ floating_count g
-  pub leaning : count_words leans (record { resolution = g.resolution; table = g.table; bricks = v }) ≡ count_words leans g
+  pub leaning :
+      count_words leans (record { resolution = g.resolution; table = g.table; bricks = v }) ≡ count_words leans g
   pub written : AreWritten g (record { resolution = g.resolution; table = g.table; bricks = v }) c word
 
 pub wrote_row : (g : Grid) (v : Slots) (c : Coord) (slot index word : ℕ) → CanRow g c slot index word

@@ -423,7 +423,8 @@ stands_by_bits m g c k count bits within row whole stacked f h = elim (cases_lt 
           before = omega arith;
         }
 
-    full_word : (j : ℕ) → j < 8 → (0 < word_at g (under (further (along c k) j))) ⊎ Contains [] (under (further (along c k) j))
+    full_word : (j : ℕ) → j < 8
+        → (0 < word_at g (under (further (along c k) j))) ⊎ Contains [] (under (further (along c k) j))
         → 0 < word_at g (under (further (along c k) j))
     full_word j l (inl w) = w
     full_word j l (inr n) = absurd (no_member [] (under (further (along c k) j)) refl n)

@@ -76,8 +76,8 @@ near_y a b n = by n.toward
     by (lies_far d) = (omega (arith, d.2), omega (arith, d.2))
 
 -- a void voxel that stands on a full one fits
-pub fits_straight : (r : ℕ) (w : Coord → ℕ) (c : Coord) (under : ℕ) → AreExact r w → IsStraight w → IsWordToward w c 3 under
-    → 0 < under → Fits r w c (8 * (under / 8) + 11)
+pub fits_straight : (r : ℕ) (w : Coord → ℕ) (c : Coord) (under : ℕ) → AreExact r w → IsStraight w
+    → IsWordToward w c 3 under → 0 < under → Fits r w c (8 * (under / 8) + 11)
 fits_straight r w c under e s k f =
     let down = k.some f in
     let same : w down.0 ≡ under = k.each down.0 down.1 in

@@ -117,8 +117,8 @@ row_in_chunk g chunk slot slot_place from n c h e r f = let full = h.full in ome
 -- what holds of the words of the chunk holds of those of the row, which may lie beyond space
 pub row_in_slot : (g : Grid) (chunk : List ℕ) (slot slot_place from n : ℕ) (c : Coord) (P : ℕ → Type 0) → IsStore g
     → IsInSpace (side g.resolution) (brick c) → c.z % 8 + n ≤ 8 → slot_of g c ≡ Some slot → HasSlot g.bricks slot chunk
-    → slot_place ≡ place_in_slot c → from ≡ start_in_chunk slot + slot_place → ((k : ℕ) → k < n → P (get_or chunk (from + k) 0))
-    → (k : ℕ) → k < n → P (word_at g (further c k))
+    → slot_place ≡ place_in_slot c → from ≡ start_in_chunk slot + slot_place
+    → ((k : ℕ) → k < n → P (get_or chunk (from + k) 0)) → (k : ℕ) → k < n → P (word_at g (further c k))
 row_in_slot g chunk slot slot_place from n c P s b r e h i f w k l =
     let same : brick (further c k) ≡ brick c = row_brick c n k r l in
     let at : place_in_slot (further c k) ≡ slot_place + k = row_place c n k slot_place r l i in
@@ -139,9 +139,9 @@ unfolding place_in_slot
 row_part q slot_place n e r = omega arith
 
 -- the words of a row that stands in a brick of the table, which may lie beyond space
-pub standing_row : (g : Grid) (chunk : List ℕ) (slot number slot_place from n : ℕ) (q : Coord) (P : ℕ → Type 0) → IsStore g
-    → StandsIn g.resolution number slot_place q → slot_place % 8 + n ≤ 8 → Some slot ≡ slot_at g.table number
-    → HasSlot g.bricks slot chunk → from ≡ start_in_chunk slot + slot_place
+pub standing_row : (g : Grid) (chunk : List ℕ) (slot number slot_place from n : ℕ) (q : Coord) (P : ℕ → Type 0)
+    → IsStore g → StandsIn g.resolution number slot_place q → slot_place % 8 + n ≤ 8
+    → Some slot ≡ slot_at g.table number → HasSlot g.bricks slot chunk → from ≡ start_in_chunk slot + slot_place
     → ((k : ℕ) → k < n → P (get_or chunk (from + k) 0)) → (k : ℕ) → k < n → P (word_at g (further q k))
 standing_row g chunk slot number slot_place from n q P store s r e h f w =
     row_in_slot g chunk slot slot_place from n q P store s.within (row_part q slot_place n s.at_place r)

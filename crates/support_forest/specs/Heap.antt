@@ -96,7 +96,8 @@ pub record CanPileAhead (m : Matrix) (g : Grid) (c : Coord) (from n bits : ℕ) 
   pub heaped : IsHeaped m g (place m.resolution c + from) rest
 
 -- of some voxels of a row those up to one, which begins a row of its brick, are in the heap or listed
-pub record ArePiledTo (m : Matrix) (g : Grid) (c : Coord) (from n : ℕ) (rest : List Coord) (before after k : ℕ) : Type 0 where
+pub record ArePiledTo (m : Matrix) (g : Grid) (c : Coord) (from n : ℕ) (rest : List Coord) (before after k : ℕ)
+    : Type 0 where
   pub heaped : IsHeaped m g (place m.resolution c + k) rest
   pub order : (from ≤ k) × (k ≤ n)
   pub whole : k < n → (c.z + k) % 8 ≡ 0

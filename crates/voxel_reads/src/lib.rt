@@ -1,4 +1,5 @@
-//! Reads of a matrix whose touches nobody counts: for planners and for what looks at models, and not for the machine.
+//! Reads of a matrix in counters that nobody else sees: for planners and for what looks at models. The machine cannot use
+//! them: its crates hold no permit to open a counter.
 #![tactic(auto)]
 
 mod reads;

@@ -30,28 +30,27 @@ fn put_back(system: &mut System, undo: &Undo)
     system.set_energy(undo.energy);
 }
 
-/// The forest before the step of a note, unless the machine is spent or memory is refused: whether it is spent then.
-fn spent_back<L: Ledger>(
+/// Makes the forest again that stood before the step of a note, unless the machine is spent already.
+fn forest_back<L: Ledger>(
     forest: &mut Forest,
     filled: &[Coord],
     voided: &[Coord],
     spent: bool,
     steps: &mut Steps<L>,
-) -> bool
+) -> Result<(), Memory>
     requires stands { spent ≡ false → forest.old.spent ≡ false }
     requires filled { spent ≡ false → MayRemove forest.old.matrix filled.now }
     requires voided { spent ≡ false → MayAdd (without_filled forest.old.matrix filled.now) voided.now }
-    ensures was { result ≡ false → spent ≡ false }
-    ensures stands { result ≡ false → forest.new.spent ≡ false }
-    ensures value { result ≡ false → forest.new.matrix ≡ matrix_before forest.old.matrix filled.now voided.now }
+    ensures stands { IfOk result (λ _. spent ≡ false → forest.new.spent ≡ false) }
+    ensures value { IfOk result (λ _. spent ≡ false
+        → forest.new.matrix ≡ matrix_before forest.old.matrix filled.now voided.now) }
+    ensures touches { IfOk result (λ _. spent ≡ false
+        → IsUndoneBy forest.old.matrix filled.now voided.now steps.old steps.new) }
 {
     if spent {
-        return true;
+        return Ok(());
     }
-    match refit_back(forest, filled, voided, steps) {
-        Ok(()) => false,
-        Err(Memory) => true,
-    }
+    refit_back(forest, filled, voided, steps)
 }
 
 impl Machine {
@@ -136,17 +135,26 @@ impl Machine {
         Ok(())
     }
 
-    /// Takes the step of a note back in every case: one that is spent stays so, and memory that is refused spends the machine.
-    pub fn restore<L: Ledger>(&mut self, undo: &Undo, steps: &mut Steps<L>)
+    /// Takes the step of a note back, whatever the answer. If allocation fails, the machine is spent. A machine that is
+    /// spent already stays so.
+    pub fn restore<L: Ledger>(&mut self, undo: &Undo, steps: &mut Steps<L>) -> Result<(), Memory>
         requires { MayUndo self.old.state undo.now }
         ensures state { self.new.state ≡ state_before self.old.state undo.now }
         ensures steps { self.new.steps ≡ undo.now.steps }
+        ensures stands { IfOk result (λ _. self.new.spent ≡ self.old.spent) }
+        ensures memory { IfErr result (λ _. self.new.spent ≡ true) }
+        ensures touches { IfOk result (λ _. self.old.spent ≡ false
+            → IsUndoneBy self.old.state.matrix undo.now.filled.items undo.now.voided.items steps.old steps.new) }
     {
         let filled = undo.filled.as_slice();
         let voided = undo.voided.as_slice();
-        let spent = spent_back(&mut self.forest, filled, voided, self.spent, steps);
+        let back = forest_back(&mut self.forest, filled, voided, self.spent, steps);
         put_back(&mut self.system, undo);
-        self.spent = spent;
         self.steps = undo.steps;
+        if let Err(Memory) = back {
+            self.spent = true;
+            return Err(Memory);
+        }
+        Ok(())
     }
 }

@@ -14,14 +14,14 @@ pub returns-in-Ok-clause-crew : goal.returns-in-Ok-clause-crew
 returns-in-Ok-clause-crew c =
     let source = c.args.source.now in
     let target = c.args.target.now in
-    let other = c.in-Ok.other in
+    let other = c.in-Ok.other.plan in
     let void : source ≡ c.in_ok-nothing.nothing = search rules in
     let is : source ≡ empty c.resolution.result = void ∙ c.in_ok-nothing.ensures.value in
     let here : source ≡ empty target.resolution = is ∙ ap empty (c.resolution.ensures.value ∙ c.requires.same) in
     let plan = subst (λ (m : Matrix). IsLowPlan m target other.commands other.energy other.steps) (sym here) c.in-Ok.ensures.plan in
     let few = c.seeds_bound_the_bots.ensures source full_profile other.commands c.recall.ensures.whole plan.plan.are_commands in
     let most : target.resolution ≤ 400 = subst (λ (r : ℕ). r ≤ 400) c.requires.same c.recall.ensures.whole.most in
-    either_crew source target c.args.plan other c.cheaper_of.result c.requires.crew (low_crew source target other most few plan) c.cheaper_of.ensures.either
+    either_crew source target c.args.plan other c.compare.result.plan c.requires.crew (low_crew source target other most few plan) c.compare.ensures.either
 
 none_or_some : (o : Option Coord) (at : Coord) → None ≡ Some at → ⊥
 none_or_some o at e = cc

@@ -9,10 +9,10 @@ pub returns-clause-crew : goal.returns-clause-crew
 returns-clause-crew c =
     let source = c.args.source.now in
     let target = c.args.target.now in
-    let other = c.in_ok-other.other in
+    let other = c.in_ok-other.other.plan in
     let void : source ≡ c.in_ok-nothing.nothing = search rules in
     let here : source ≡ empty target.resolution = void ∙ (c.in_ok-nothing.ensures.value ∙ ap empty (c.resolution.ensures.value ∙ c.requires.same)) in
-    let plan = subst (λ (m : Matrix). IsSwarmPlan m target other.commands other.energy other.steps) (sym here) c.in_ok-other.ensures in
+    let plan = subst (λ (m : Matrix). IsSwarmPlan m target other.commands other.energy other.steps) (sym here) c.in_ok-other.ensures.plan in
     let few = c.seeds_bound_the_bots.ensures source full_profile other.commands c.recall.ensures.whole plan.plan.are_commands in
     let most : target.resolution ≤ 400 = subst (λ (r : ℕ). r ≤ 400) c.requires.same c.recall.ensures.whole.most in
-    either_crew source target c.args.plan other c.cheaper_of.result c.requires.crew (swarm_crew source target other most few plan) c.cheaper_of.ensures.either
+    either_crew source target c.args.plan other c.compare.result.plan c.requires.crew (swarm_crew source target other most few plan) c.compare.ensures.either

@@ -8,8 +8,8 @@ pub returns-clause-crew : goal.returns-clause-crew
 returns-clause-crew c =
     let source = c.args.source.now in
     let target = c.args.target.now in
-    let other = c.in_ok-other.other in
+    let other = c.in_ok-other.other.plan in
     let void : target ≡ c.in_ok-nothing.nothing = search rules in
     let there : target ≡ empty source.resolution = void ∙ (c.in_ok-nothing.ensures.value ∙ ap empty (c.resolution.ensures.value ∙ sym c.requires.same)) in
-    let plan = subst (λ (m : Matrix). IsVoidPlan source m other.commands other.energy other.steps) (sym there) c.in_ok-other.ensures in
-    either_crew source target c.args.plan other c.cheaper_of.result c.requires.crew (void_crew source target other c.recall.ensures.whole.most plan) c.cheaper_of.ensures.either
+    let plan = subst (λ (m : Matrix). IsVoidPlan source m other.commands other.energy other.steps) (sym there) c.in_ok-other.ensures.plan in
+    either_crew source target c.args.plan other c.compare.result.plan c.requires.crew (void_crew source target other c.recall.ensures.whole.most plan) c.compare.ensures.either

@@ -6,11 +6,13 @@ use Rattle.nano_spec.specs.Spelling.{spellings}
 use Rattle.group_planner.specs.Bounds.{most_bytes, most_group_steps}
 use Rattle.plan_tape.specs.Progress.{IsAccepted}
 use Rattle.plan_tape.specs.Reaches.{HasAtMost}
+use Rattle.plan_tape.specs.declared.tape.Plan.{Plan}
+use Rattle.plan_choice.specs.Planners.{IsGroupPlan}
 use Rattle.plan_choice.proofs.Chosen.{alone_stays}
 use Rattle.plan_choice.proofs.plans.group_plan.Goals as goal
 
-pub returns : goal.returns
-returns c =
+pub returns-clause-plan : goal.returns-clause-plan
+returns-clause-plan c =
     let source = c.args.source.now in
     let target = c.args.target.now in
     let it = c.in_ok-plan-3.plan in
@@ -21,7 +23,7 @@ returns c =
     let steps : it.steps ≤ most_group_steps source target = search rules in
     let commands : length it.commands ≤ 2 * most_group_steps source target = search rules in
     let bytes : length (spellings it.commands) ≤ most_bytes source target = search rules in
-    record {
+    let its : IsGroupPlan source target it.commands it.energy it.steps = record {
       plan = record {
         are_commands = subst AreCommands c.as_slice.ensures c.recall_all.ensures;
         accepted = subst (λ (p : Profile). IsAccepted source target it.commands p it.energy it.steps) c.full-profile.ensures lowered.stands.accepted;
@@ -31,4 +33,5 @@ returns c =
       few_steps = steps;
       few_commands = commands;
       few_bytes = bytes;
-    }
+    } in
+    subst (λ (p : Plan). IsGroupPlan source target p.commands p.energy p.steps) (sym c.sought_below.ensures.plan) its

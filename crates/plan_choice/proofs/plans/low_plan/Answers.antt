@@ -1,9 +1,11 @@
-use Rattle.std.proofs.Common.{◌+◌, ◌*◌, ◌≤◌, rules, subst}
+use Rattle.std.proofs.Common.{◌+◌, ◌*◌, ◌≤◌, rules, subst, sym}
 use Rattle.nano_spec.specs.Cutting.{AreCommands}
 use Rattle.nano_spec.specs.Matrix.{empty, full_count}
 use Rattle.nano_spec.specs.Model.{volume}
 use Rattle.low_planner.specs.Commands.{IsEmpty}
 use Rattle.plan_tape.proofs.LegalModels.{empty_is_void}
+use Rattle.plan_tape.specs.declared.tape.Plan.{Plan}
+use Rattle.plan_choice.specs.Planners.{IsLowPlan}
 use Rattle.plan_choice.proofs.Chosen.{alone_stays}
 use Rattle.plan_choice.proofs.plans.low_plan.Goals as goal
 
@@ -14,7 +16,7 @@ returns-clause-plan c =
     let it = c.in_ok-plan-2.plan in
     let attached = c.in_ok-plan-2.ensures in
     let steps : it.steps ≤ 4 * full_count target + volume target.resolution + 200 = search rules in
-    record {
+    let its : IsLowPlan (empty target.resolution) target it.commands it.energy it.steps = record {
       plan = record {
         are_commands = subst AreCommands c.as_slice.ensures c.recall_all.ensures;
         accepted = c.full_accepts_what_light_accepts.ensures (empty target.resolution) target it.commands it.energy it.steps attached.stands.accepted;
@@ -24,4 +26,5 @@ returns-clause-plan c =
       accepted_as_light = attached.stands.accepted;
       plain = attached.plain first.plain;
       few_steps = steps;
-    }
+    } in
+    subst (λ (p : Plan). IsLowPlan (empty target.resolution) target p.commands p.energy p.steps) (sym c.sought_below.ensures.plan) its

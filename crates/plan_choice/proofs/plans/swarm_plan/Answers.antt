@@ -7,6 +7,8 @@ use Rattle.nano_spec.proofs.EmptyModel.{empty_is_grounded}
 use Rattle.plan_tape.specs.Progress.{IsAccepted}
 use Rattle.plan_tape.specs.Reaches.{HasAtMost}
 use Rattle.swarm_planner.specs.Bounds.{width}
+use Rattle.plan_tape.specs.declared.tape.Plan.{Plan}
+use Rattle.plan_choice.specs.Planners.{IsSwarmPlan}
 use Rattle.plan_choice.proofs.Chosen.{alone_stays}
 use Rattle.plan_choice.proofs.plans.swarm_plan.Goals as goal
 
@@ -23,8 +25,8 @@ lower-requires c =
           (subst (λ (p : Profile). IsAccepted (empty target.resolution) target plan.commands p plan.energy plan.steps) (sym c.light-profile.ensures) c.in_ok-plan-2.ensures.stands.accepted);
     }
 
-pub returns : goal.returns
-returns c =
+pub returns-clause-plan : goal.returns-clause-plan
+returns-clause-plan c =
     let target = c.args.target.now in
     let it = c.in_ok-plan-3.plan in
     let squads = c.in_ok-plan-2.ensures in
@@ -36,7 +38,7 @@ returns c =
     let light = subst (λ (m : Matrix). IsAccepted m target it.commands light_profile it.energy it.steps) void
     (subst (λ (p : Profile). IsAccepted c.in_ok-nothing.nothing target it.commands p it.energy it.steps) c.light-profile.ensures lowered.stands.accepted) in
     let steps : it.steps ≤ 4 * width target.resolution * target.resolution * target.resolution + 8 * target.resolution + 2000 = search rules in
-    record {
+    let its : IsSwarmPlan (empty target.resolution) target it.commands it.energy it.steps = record {
       plan = record {
         are_commands = subst AreCommands c.as_slice.ensures c.recall_all.ensures;
         accepted = c.full_accepts_what_light_accepts.ensures (empty target.resolution) target it.commands it.energy it.steps light;
@@ -46,4 +48,5 @@ returns c =
       };
       accepted_as_light = light;
       few_steps = steps;
-    }
+    } in
+    subst (λ (p : Plan). IsSwarmPlan (empty target.resolution) target p.commands p.energy p.steps) (sym c.sought_below.ensures.plan) its

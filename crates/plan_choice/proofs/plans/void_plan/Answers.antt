@@ -6,11 +6,13 @@ use Rattle.nano_spec.specs.Profile.{full_profile}
 use Rattle.plan_tape.specs.Progress.{IsAccepted}
 use Rattle.plan_tape.specs.Reaches.{HasAtMost}
 use Rattle.void_planner.specs.Bounds.{most_void_steps}
+use Rattle.plan_tape.specs.declared.tape.Plan.{Plan}
+use Rattle.plan_choice.specs.Planners.{IsVoidPlan}
 use Rattle.plan_choice.proofs.Chosen.{alone_stays}
 use Rattle.plan_choice.proofs.plans.void_plan.Goals as goal
 
-pub returns : goal.returns
-returns c =
+pub returns-clause-plan : goal.returns-clause-plan
+returns-clause-plan c =
     let source = c.args.source.now in
     let first = c.in_ok-plan.plan in
     let it = c.in_ok-plan-3.plan in
@@ -19,7 +21,7 @@ returns c =
     let void : c.in_ok-nothing.nothing ≡ empty source.resolution = search rules in
     let four = subst (λ (p : Profile). HasAtMost source p first.commands 4) (sym c.full-profile.ensures) c.in_ok-plan.ensures.few in
     let steps : it.steps ≤ most_void_steps source.resolution = search rules in
-    record {
+    let its : IsVoidPlan source (empty source.resolution) it.commands it.energy it.steps = record {
       plan = record {
         are_commands = subst AreCommands c.as_slice.ensures c.recall_all.ensures;
         accepted = subst (λ (m : Matrix). IsAccepted source m it.commands full_profile it.energy it.steps) void slabs.stands.accepted;
@@ -27,4 +29,5 @@ returns c =
         halt_alone = λ same. alone_stays _ _ (alone_stays _ _ (c.in_ok-plan.ensures.halt_alone same) lowered.alone) slabs.alone;
       };
       few_steps = steps;
-    }
+    } in
+    subst (λ (p : Plan). IsVoidPlan source (empty source.resolution) p.commands p.energy p.steps) (sym c.sought_below.ensures.plan) its

@@ -11,9 +11,10 @@ use Rattle.support_forest.proofs.Voxels.{spot_small, voxel_along}
 use Rattle.support_forest.proofs.heap.pile_ahead.Goals as goal
 
 -- the spot so far along a line through space is that of the voxel, in a store of the same resolution
-there : (m : Matrix) (old now : Grid) (at : Coord) (line spot : ℕ) → old.resolution ≡ m.resolution → now.resolution ≡ m.resolution
-    → IsInSpace m.resolution at → line ≡ spot_of old.resolution (record { x = at.x; y = at.y; z = 0 })
-    → spot ≡ line + 512 * (at.z / 8) + at.z % 8 → voxel_in now spot ≡ at
+there : (m : Matrix) (old now : Grid) (at : Coord) (line spot : ℕ) → old.resolution ≡ m.resolution
+    → now.resolution ≡ m.resolution → IsInSpace m.resolution at
+    → line ≡ spot_of old.resolution (record { x = at.x; y = at.y; z = 0 }) → spot ≡ line + 512 * (at.z / 8) + at.z % 8
+    → voxel_in now spot ≡ at
 there m old now at line spot r s within line_is spot_is =
     ap (λ (n : ℕ). voxel_of (side n) spot) (s ∙ sym r)
     ∙ (ap (voxel_of (side old.resolution)) spot_is

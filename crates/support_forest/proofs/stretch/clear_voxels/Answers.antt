@@ -12,8 +12,8 @@ use Rattle.support_forest.proofs.Voxels.{part_there, spot_small, voxel_further}
 use Rattle.support_forest.proofs.stretch.clear_voxels.Goals as goal
 
 -- the voxel at a later spot of the row, in a store of the same resolution
-later : (old now : Grid) (spot n k behind : ℕ) → now.resolution ≡ old.resolution → LieInRow old (voxel_in old spot) n → k < n
-    → behind ≡ k → voxel_in now (spot + behind) ≡ further (voxel_in old spot) k
+later : (old now : Grid) (spot n k behind : ℕ) → now.resolution ≡ old.resolution → LieInRow old (voxel_in old spot) n
+    → k < n → behind ≡ k → voxel_in now (spot + behind) ≡ further (voxel_in old spot) k
 later old now spot n k behind same row l e =
     let part = part_there (side old.resolution) spot n row.row in
     ap (λ (r : ℕ). voxel_of (side r) (spot + behind)) same ∙ (voxel_further (side old.resolution) spot behind (omega arith) ∙ ap (further (voxel_in old spot)) e)
