@@ -88,13 +88,6 @@ static void lose(int descriptor)
         return fault(OPEN) ? -1 : real(file, flags, mode); \
     }
 
-static void lose(int descriptor)
-{
-    int error = errno;
-    if (lseek(descriptor, 0, SEEK_CUR) > 0 && ftruncate(descriptor, 0)) errno = 0;
-    errno = error;
-}
-
 OPENING(open)
 OPENING(open64)
 TRANSFER(read, READ, void *bytes)
@@ -106,7 +99,7 @@ CALL(int, fsync, FSYNC, (int descriptor), (descriptor), -1, (void)0)
 CALL(int, fdatasync, FSYNC, (int descriptor), (descriptor), -1, (void)0)
 CALL(int, chmod, CHMOD, (const char *file, mode_t mode), (file, mode), -1, (void)0)
 CALL(int, rename, RENAME, (const char *from, const char *to), (from, to), -1, (void)0)
-CALL(int, close, CLOSE, (int descriptor), (descriptor), -1, (lose(descriptor), real(descriptor)))
+CALL(int, close, CLOSE, (int descriptor), (descriptor), -1, lose(descriptor))
 CALL(void *, malloc, MALLOC, (size_t size), (size), NULL, (void)0)
 CALL(void *, realloc, REALLOC, (void *block, size_t size), (block, size), NULL, (void)0)
 CALL(void *, aligned_alloc, ALIGNED, (size_t alignment, size_t size), (alignment, size), NULL, (void)0)
