@@ -1,6 +1,6 @@
 /* Fails calls of a program, by LD_PRELOAD. FAULT=NAME:NUMBER:HOW fails the call NUMBER of NAME, counted from 1: HOW is the number of an
- * error, or `short`, which does one byte at most, or `end`, which does nothing and returns 0, or `kill`, which ends the program there.
- * A close that fails loses what was written. COUNTED=FILE stores how many calls of each name there were. */
+ * error, or `short`, which does one byte at most, or `end`, which does nothing and returns 0, or `kill`, which kills the program
+ * there. A `close` that fails loses what was written. COUNTED=FILE stores how many calls of each name there were. */
 #define _GNU_SOURCE
 #include <dlfcn.h>
 #include <errno.h>
@@ -11,6 +11,7 @@
 #include <stdlib.h>
 #include <string.h>
 #include <sys/stat.h>
+#include <sys/syscall.h>
 #include <sys/uio.h>
 #include <unistd.h>
 
@@ -39,6 +40,13 @@ static int fault(int name)
     if (how == KILL) raise(SIGKILL);
     errno = error;
     return how;
+}
+
+/* Closes a file, and empties it if it was written. */
+static void lose(int descriptor)
+{
+    if (syscall(SYS_lseek, descriptor, 0, SEEK_CUR) > 0) (void)!ftruncate(descriptor, 0);
+    syscall(SYS_close, descriptor);
 }
 
 #define REAL(type, name, parameters) \
@@ -80,13 +88,6 @@ static int fault(int name)
         return fault(OPEN) ? -1 : real(file, flags, mode); \
     }
 
-static void lose(int descriptor)
-{
-    int error = errno;
-    if (lseek(descriptor, 0, SEEK_CUR) > 0 && ftruncate(descriptor, 0)) errno = 0;
-    errno = error;
-}
-
 OPENING(open)
 OPENING(open64)
 TRANSFER(read, READ, void *bytes)
@@ -98,7 +99,7 @@ CALL(int, fsync, FSYNC, (int descriptor), (descriptor), -1, (void)0)
 CALL(int, fdatasync, FSYNC, (int descriptor), (descriptor), -1, (void)0)
 CALL(int, chmod, CHMOD, (const char *file, mode_t mode), (file, mode), -1, (void)0)
 CALL(int, rename, RENAME, (const char *from, const char *to), (from, to), -1, (void)0)
-CALL(int, close, CLOSE, (int descriptor), (descriptor), -1, (lose(descriptor), real(descriptor)))
+CALL(int, close, CLOSE, (int descriptor), (descriptor), -1, lose(descriptor))
 CALL(void *, malloc, MALLOC, (size_t size), (size), NULL, (void)0)
 CALL(void *, realloc, REALLOC, (void *block, size_t size), (block, size), NULL, (void)0)
 CALL(void *, aligned_alloc, ALIGNED, (size_t alignment, size_t size), (alignment, size), NULL, (void)0)
