@@ -224,7 +224,8 @@ static void check_undo(nanobot_machine *machine)
 {
     nanobot_machine copy = {0};
     uint32_t count, copied;
-    CHECK(nanobot_machine_undo(machine) == (state_of(machine).noted ? NANOBOT_DONE : NANOBOT_NO_NOTE));
+    uint32_t can_undo = state_of(machine).noted ? NANOBOT_DONE : NANOBOT_NO_NOTE;
+    CHECK(nanobot_machine_undo(machine) == can_undo);
     CHECK(nanobot_machine_copy(machine, &copy) == NANOBOT_DONE);
     CHECK(nanobot_machine_count(machine, &count) == NANOBOT_DONE && nanobot_machine_count(&copy, &copied) == NANOBOT_DONE);
     CHECK(count == copied);

@@ -1,6 +1,7 @@
-use Rattle.std.proofs.Common.{◌≡◌, ◌∙◌, ◌≤◌, ℕ, rules, ap, subst, sym}
+use Rattle.std.proofs.Common.{◌≡◌, ◌∙◌, ◌≤◌, ℕ, rules, ap, subst, sym, ℤ, w64, to_z, of_z}
 use Rattle.nano_spec.specs.Matrix.{Matrix, empty}
 use Rattle.nano_spec.specs.Profile.{full_profile}
+use Rattle.plan_choice.specs.Crew.{IsLeast}
 use Rattle.plan_choice.specs.Planners.{IsSwarmPlan}
 use Rattle.plan_choice.proofs.Crews.{either_crew, swarm_crew}
 use Rattle.plan_choice.proofs.crew.or_swarm.Goals as goal
@@ -16,3 +17,9 @@ returns-clause-crew c =
     let few = c.seeds_bound_the_bots.ensures source full_profile other.commands c.recall.ensures.whole plan.plan.are_commands in
     let most : target.resolution ≤ 400 = subst (λ (r : ℕ). r ≤ 400) c.requires.same c.recall.ensures.whole.most in
     either_crew source target c.args.plan other c.compare.result.plan c.requires.crew (swarm_crew source target other most few plan) c.compare.ensures.either
+
+pub compare-requires : goal.compare-requires
+compare-requires c =
+    let same : to_z w64 (of_z w64 c.args.plan.energy) ≡ c.args.plan.energy = search rules in
+    let other = c.in_ok-other.other in
+    subst (λ (k : ℤ). IsLeast k other.plan.energy other.least.energy) same c.in_ok-other.ensures.least

@@ -1,9 +1,10 @@
-use Rattle.std.proofs.Common.{◌+◌, ◌*◌, ◌≤◌, rules, length, subst, sym}
+use Rattle.std.proofs.Common.{◌+◌, ◌*◌, ◌≤◌, rules, length, subst, sym, ◌≡◌, ℤ, w64, to_z, of_z}
 use Rattle.nano_spec.specs.declared.system.Profile.{Profile}
 use Rattle.nano_spec.specs.Cutting.{AreCommands}
 use Rattle.nano_spec.specs.Spelling.{spellings}
 use Rattle.plan_tape.specs.Reaches.{HasAtMost}
 use Rattle.plan_tape.specs.declared.tape.Plan.{Plan}
+use Rattle.plan_choice.specs.Crew.{IsLeast}
 use Rattle.plan_choice.specs.Planners.{IsLayerPlan}
 use Rattle.plan_choice.proofs.Chosen.{alone_stays}
 use Rattle.plan_choice.proofs.OwnLayer.{eight_each}
@@ -30,3 +31,10 @@ returns-clause-plan c =
       bytes = eight_each source.resolution (length (spellings it.commands)) short;
     } in
     subst (λ (p : Plan). IsLayerPlan source target p.commands p.energy p.steps) (sym c.sought_below.ensures.plan) its
+
+pub returns-clause-least : goal.returns-clause-least
+returns-clause-least c =
+    let same : to_z w64 (of_z w64 c.args.ceiling) ≡ c.args.ceiling = search rules in
+    let found = c.sought_below.result in
+    subst (λ (k : ℤ). IsLeast k found.plan.energy found.least.energy) same
+    (subst (λ (p : Plan). IsLeast (to_z w64 (of_z w64 c.args.ceiling)) p.energy found.least.energy) (sym c.sought_below.ensures.plan) c.sought_below.ensures.least)

@@ -1,4 +1,4 @@
-use Rattle.std.proofs.Common.{◌≡◌, ◌≤◌, rules, subst, sym}
+use Rattle.std.proofs.Common.{◌≡◌, ◌≤◌, rules, subst, sym, ℤ, w64, to_z, of_z}
 use Rattle.nano_spec.specs.declared.system.Profile.{Profile}
 use Rattle.nano_spec.specs.Cutting.{AreCommands}
 use Rattle.nano_spec.specs.Matrix.{Matrix, empty}
@@ -7,6 +7,7 @@ use Rattle.plan_tape.specs.Progress.{IsAccepted}
 use Rattle.plan_tape.specs.Reaches.{HasAtMost}
 use Rattle.void_planner.specs.Bounds.{most_void_steps}
 use Rattle.plan_tape.specs.declared.tape.Plan.{Plan}
+use Rattle.plan_choice.specs.Crew.{IsLeast}
 use Rattle.plan_choice.specs.Planners.{IsVoidPlan}
 use Rattle.plan_choice.proofs.Chosen.{alone_stays}
 use Rattle.plan_choice.proofs.plans.void_plan.Goals as goal
@@ -31,3 +32,10 @@ returns-clause-plan c =
       few_steps = steps;
     } in
     subst (λ (p : Plan). IsVoidPlan source (empty source.resolution) p.commands p.energy p.steps) (sym c.sought_below.ensures.plan) its
+
+pub returns-clause-least : goal.returns-clause-least
+returns-clause-least c =
+    let same : to_z w64 (of_z w64 c.args.ceiling) ≡ c.args.ceiling = search rules in
+    let found = c.sought_below.result in
+    subst (λ (k : ℤ). IsLeast k found.plan.energy found.least.energy) same
+    (subst (λ (p : Plan). IsLeast (to_z w64 (of_z w64 c.args.ceiling)) p.energy found.least.energy) (sym c.sought_below.ensures.plan) c.sought_below.ensures.least)
