@@ -70,8 +70,8 @@ fn is_flip(step: &[Command]) -> bool {
     step.len() == 1 && step[0] == Command::Flip
 }
 
-/// The work of machines that run proposals, in voxels: so many as each has to start with, and those that begin to float or cease to;
-/// and the most that is allowed.
+/// The work of the machines that run proposals, in voxels: those that each machine starts with, and those that lose or gain their
+/// ground; and the limit of that work.
 #[derive(Clone, Copy, Debug)]
 pub(crate) struct Work {
     done: u64,
@@ -115,8 +115,8 @@ fn difference(a: u32, b: u32) -> u32 {
     a.max(b).saturating_sub(a.min(b))
 }
 
-/// The commands with Flips of their own, counted in a ledger of its own. None if their upkeep is more than that of so many steps under
-/// Low, or if they take more work than is allowed.
+/// Returns the commands with Flips of their own, with touches counted in the ledger. Returns None if their upkeep exceeds that of
+/// `most` steps under Low, or if they take more work than the limit.
 fn lowered_in<L: Ledger>(
     alloc: Global,
     source: &Planes,
@@ -173,9 +173,9 @@ fn lowered_in<L: Ledger>(
     Ok(Some(draft.commands))
 }
 
-/// A plan's commands with other Flips: harmonics are High only while some full voxel is not grounded. None if their upkeep is more than
-/// that of so many steps under Low, or if they take more work than is allowed. It is a proposal: whether the definitions accept it,
-/// [`cheaper`] finds out.
+/// A plan's commands with other Flips: harmonics are High only while some full voxel is not grounded. Returns None if their
+/// upkeep exceeds that of `most` steps under Low, or if they take more work than the limit. This is a proposal: [`cheaper`] has it
+/// judged by the definitions.
 pub(crate) fn lower_commands(
     alloc: Global,
     source: &Planes,

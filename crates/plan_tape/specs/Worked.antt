@@ -1,4 +1,4 @@
--- Worked examples of commands that have more bots than so many.
+-- Worked examples of commands that exceed a number of bots.
 use Rattle.std.specs.Prelude.{pos, List, [], ◌∷◌, ◌++◌}
 use Rattle.nano_spec.specs.declared.commands.Command.{Command}
 use Rattle.nano_spec.specs.declared.commands.Command.TheVariants.{Halt, FusionP, FusionS, Fission}

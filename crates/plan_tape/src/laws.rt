@@ -41,7 +41,7 @@ pub fn runs_go_through_reached_states()
         ↔ ReachesTarget source target profile commands energy steps) }
 {}
 
-/// Worked examples of commands that have more bots than so many.
+/// Worked examples of commands that exceed a number of bots.
 pub fn worked_crews()
     ensures { WorkedCrews }
 {}

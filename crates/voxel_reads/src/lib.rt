@@ -1,5 +1,5 @@
-//! Reads of a matrix in counters that nobody else sees: for planners and for what looks at models. The machine cannot use
-//! them: its crates hold no permit to open a counter.
+//! Reads of a matrix that count no touch of the caller, for planners and for the code that examines models. The machine cannot
+//! use them: its crates hold no permit to open a counter.
 #![tactic(auto)]
 
 mod reads;
