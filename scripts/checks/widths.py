@@ -1,22 +1,13 @@
-#!/usr/bin/env python3
-"""Breaks the statements of lemmas and the fields of records that are wider than 120 columns, and in specs/ the definitions and the
-first lines of records too: before arrows, where a premise is wider by itself before its other operators, and where a term has none
-of those between its arguments. `rt fmt` then lays out the records that go over several lines. A module of proofs/ that is broken
-is checked again, and none that cites it; one of specs/ with all that cites it.
+"""Widths: statements of lemmas, fields of records, and in specs/ definitions and the first lines of records, that are wider than 120
+columns and could be broken: before arrows, and within a premise that is wider by itself before its other operators, or between the
+arguments of a term that has none. A module of proofs/ that is broken is checked again alone, and one of specs/ with all that cite it."""
+from __future__ import annotations
 
-Usage: scripts/break_statements           breaks them in all specs/ and proofs/ of crates/
-       scripts/break_statements --check   only tells how many are wider; ends with 1 where one could be broken
-       scripts/break_statements --help
-"""
-import glob
-import os
 import re
-import signal
-import sys
+from typing import Iterator
 
-signal.signal(signal.SIGPIPE, signal.SIG_DFL)
+from checks.tree import Tree
 
-TOP = os.path.dirname(os.path.dirname(os.path.realpath(__file__)))
 MOST = 120
 STATEMENT = re.compile(r"^(\s*)((?:pub |abbrev |unfoldable )*[^\s(){}:;,=]+ : )(.*)$")
 NO_NAMES = ("let", "use", "in", "where", "--", "|", "λ")
@@ -25,7 +16,7 @@ OPEN, CLOSE = "([{⟦", ")]}⟧"
 OPERATORS = [" → ", " ⊎ ", " × ", " ≡ ", " ≤ ", " < ", " ∙ ", " || ", " && ", " ++ ", " ∷ ", " +ℤ ", " + "]
 
 
-def depths(text):
+def depths(text: str) -> list[int]:
     """How many brackets are open behind each character; a text's quotes are brackets too."""
     found, depth, in_text = [], 0, False
     for at, character in enumerate(text):
@@ -38,30 +29,30 @@ def depths(text):
     return found
 
 
-def cut(text, places):
+def cut(text: str, places: list[int]) -> list[str]:
     """The parts between these places, each without the blank before it."""
     return [text[a:b].strip() for a, b in zip([0, *places], [*places, len(text)])]
 
 
-def at_operator(text, operator):
+def at_operator(text: str, operator: str) -> list[str]:
     """The parts of a term at an operator outside of brackets: each but the first begins with it."""
     open_at = depths(text)
     return cut(text, [at for at in range(len(text)) if open_at[at] == 0 and text.startswith(operator, at)])
 
 
-def at_groups(text):
+def at_groups(text: str) -> list[str]:
     """A term cut between one bracket's end and the next one's begin: between groups of bound variables, or arguments."""
     open_at = depths(text)
     return cut(text, [at for at in range(1, len(text) - 1) if open_at[at] == 0 and text[at] == " " and text[at - 1] in ")}" and text[at + 1] in "({"])
 
 
-def at_variables(text):
+def at_variables(text: str) -> list[str]:
     """A term cut between the groups of variables that it binds first, if it does."""
     groups = at_groups(text)
     return groups if all(" : " in group for group in groups) else [text]
 
 
-def at_arguments(text):
+def at_arguments(text: str) -> list[str]:
     """A term cut between its arguments; one that binds a variable behind what it binds, and a record's fields one from another."""
     open_at = depths(text)
     if text.startswith("λ "):
@@ -72,7 +63,7 @@ def at_arguments(text):
     return cut(text, [at for at in range(1, len(text)) if open_at[at] == 0 and text[at] == " "])
 
 
-def pieces(text, room):
+def pieces(text: str, room: int) -> list[str]:
     """What of a term may stand on lines of its own, in pieces of at most so many columns where it can be had."""
     if len(text) <= room:
         return [text]
@@ -94,7 +85,7 @@ def pieces(text, room):
     return [*pieces(lead + first, room), *(it for part in others for it in pieces(part, room))]
 
 
-def broken(line):
+def broken(line: str) -> list[str] | None:
     """The lines of a statement, or None where it is none, or cannot be broken."""
     found = STATEMENT.match(line)
     if not found or found[2].split()[0] in NO_NAMES or depths(found[3])[-1] != 0 or line.endswith((";", "{", "=", ",")) or len(at_operator(found[3], " = ")) > 1:
@@ -109,7 +100,7 @@ def broken(line):
     return lines if len(lines) > 1 and "".join(lines).replace(" ", "") == line.replace(" ", "") else None
 
 
-def filled(first, parts, deep):
+def filled(first: str, parts: list[str], deep: str) -> list[str]:
     """The first line and the parts behind it, each on a line as long as it fits."""
     lines = [first]
     for part in parts:
@@ -120,13 +111,13 @@ def filled(first, parts, deep):
     return lines
 
 
-def broken_head(line):
+def broken_head(line: str) -> list[str] | None:
     """The lines of a record's first line, between its parameters, or None where it is none."""
     found = re.match(r"^((?:pub )?record \S+) ([({].*[)}]) (: .* where)$", line)
     return filled(found[1], [*at_arguments(found[2]), found[3]], "    ") if found else None
 
 
-def broken_definition(line):
+def broken_definition(line: str) -> list[str] | None:
     """The lines of a definition's equation, or None where it is none, or has cases or local names."""
     sides = at_operator(line, " = ")
     if len(sides) != 2 or line[:1] in ("", " ", "-") or re.search(r"\b(elim|let|where|in|use)\b", line):
@@ -134,16 +125,16 @@ def broken_definition(line):
     return [sides[0] + " =", *filled("   ", pieces(sides[1].removeprefix("= "), MOST - 4), "    ")]
 
 
-def indent_of(line):
+def indent_of(line: str) -> int:
     return len(line) - len(line.lstrip())
 
 
-def too_wide(rows):
+def too_wide(rows: list[str]) -> int:
     """How many columns stand beyond the 120th."""
     return sum(max(0, len(row) - MOST) for row in rows)
 
 
-def statement_at(rows, at):
+def statement_at(rows: list[str], at: int) -> list[str]:
     """The lines of what begins at a line and goes on where those behind it stand further in."""
     end = at + 1
     while end < len(rows) and rows[end].strip() not in ("", "where") and indent_of(rows[end]) > indent_of(rows[at]):
@@ -151,7 +142,7 @@ def statement_at(rows, at):
     return rows[at:end]
 
 
-def all_broken(rows, defines):
+def all_broken(rows: list[str], defines: bool) -> list[str]:
     """The lines of a file with their statements broken, and where it defines, its definitions too. One of several lines is joined
     first."""
     out, at = [], 0
@@ -170,25 +161,26 @@ def all_broken(rows, defines):
     return out
 
 
-def main():
-    if len(sys.argv) > 2 or sys.argv[1:] not in ([], ["--check"]):
-        print(__doc__.strip())
-        sys.exit(0 if sys.argv[1:] == ["--help"] else 2)
-    count = 0
-    for path in sorted(it for part in ("specs", "proofs") for it in glob.glob(f"{TOP}/crates/*/{part}/**/*.antt", recursive=True)):
-        with open(path, encoding="utf-8") as file:
-            rows = file.read().split("\n")
-        out = all_broken(rows, "/specs/" in path[len(TOP):])
-        if out == rows:
-            continue
-        count += len([it for it in rows if it not in out])
-        if sys.argv[1:] == ["--check"]:
-            print(path[len(TOP) + 1:])
-        else:
-            with open(path, "w", encoding="utf-8") as file:
-                file.write("\n".join(out))
-    print(f"{count} statements wider than {MOST} columns could be broken" if sys.argv[1:] else f"{count} statements were broken")
-    sys.exit(1 if count and sys.argv[1:] else 0)
+def _files(tree: Tree) -> Iterator[tuple[str, list[str], list[str]]]:
+    """The files with statements that could be broken: path, lines, and lines once they are broken."""
+    for path, text in tree.files("(?:proofs|specs)/", ".antt"):
+        rows = text.split("\n")
+        if any(len(row) > MOST for row in rows):
+            out = all_broken(rows, "/specs/" in path)
+            if out != rows:
+                yield path, rows, out
 
 
-main()
+def faults(tree: Tree) -> Iterator[str]:
+    for path, rows, out in _files(tree):
+        for number, row in enumerate(rows, 1):
+            if row not in out:
+                yield f"{path}:{number}: wider than {MOST} columns, and could be broken: scripts/check --fix"
+
+
+def fix(tree: Tree) -> Iterator[str]:
+    """Breaks the statements; the files that changed."""
+    for path, rows, out in _files(tree):
+        with open(tree.top / path, "w", encoding="utf-8", newline="") as file:
+            file.write("\n".join(out))
+        yield path
