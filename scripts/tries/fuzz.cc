@@ -1,4 +1,4 @@
-// What scripts/fuzz gives libFuzzer: calls of the library on models, traces and texts that are made of the fuzzer's bytes, or are these
+// What scripts/try fuzz gives libFuzzer: calls of the library on models, traces and texts that are made of the fuzzer's bytes, or are these
 // bytes. What is lent lies in heap blocks of exactly its size, so that ASan sees each access beyond, and what two calls say of one
 // thing is compared.
 #include "nanobot.h"

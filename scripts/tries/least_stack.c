@@ -1,4 +1,4 @@
-/* For scripts/try_linked: measures the least stack of each call of the library, and compares it with the headers' figures.
+/* For scripts/try linked: measures the least stack of each call of the library, and compares it with the headers' figures.
  *
  *     least_stack MODEL CALL START OTHER
  *
