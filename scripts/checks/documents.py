@@ -12,13 +12,16 @@ MOST_WIDTH = 600
 # Crates of tests alone, and of a planner to copy, of which nothing is promised.
 UNPROMISED = {"voxel_tests", "file_tests", "step_tests", "planner_tests", "worked_rows", "floor_planner"}
 LINK = re.compile(r"\]\(([^)#:\s]+)(?:#[^)]*)?\)")
-NAMED = re.compile(r"`((?:bench|bindings|crates|docs|examples|include|mistakes|package|reference|scripts)/[\w./-]+)`")
+NAMED = re.compile(r"`((?:bench|bindings|crates|docs|examples|include|mistakes|package|reference|scripts)/[\w./-]+)(?: [^`]*)?`")
+TRY = re.compile(r"\bscripts/try((?: [a-z]+)+)`")
+SCRIPT = re.compile(r"\bscripts/(?:tries/|checks/)?[\w.]*\w")
 SAMPLE = re.compile(r"^```rust\n(.*?)\n```$", re.MULTILINE | re.DOTALL)
 FILE_ROW = re.compile(r"^\| `((?:src|specs)/[\w./]+)` ", re.MULTILINE)
 REEXPORT = re.compile(r"^pub use [\w:]+?::(?:\{([^}]*)\}|(\w+));", re.MULTILINE)
 
 
 def faults(tree: Tree) -> Iterator[str]:
+    yield from _faults_of_mentions(tree)
     pages = {path: text for path, text in tree.texts.items() if path.endswith(".md")}
     sources = [text for _, text in tree.files("src/", ".rt")]
     for path, text in pages.items():
@@ -41,8 +44,18 @@ def _faults_of_page(tree: Tree, path: str, text: str) -> Iterator[str]:
         if not (folder / link).exists():
             yield f"{path}: links to {link}, which does not exist"
     for name in NAMED.findall(text):
-        if "NAME" not in name and not (tree.top / name).exists():
+        if "NAME" not in name and not name.startswith("scripts/") and not (tree.top / name).exists():
             yield f"{path}: names {name}, which does not exist"
+
+
+def _faults_of_mentions(tree: Tree) -> Iterator[str]:
+    """Scripts that a document, a script or a header names exist, and so do the tries that a document names."""
+    for path, text in tree.texts.items():
+        if path.startswith(("bench/", "bindings/", "include/", "prove", "scripts/")) or path.endswith((".md", ".sh")):
+            names = set(SCRIPT.findall(text)) | {f"scripts/tries/{name}" for words in TRY.findall(text) for name in words.split()}
+            for name in sorted(names - {"scripts/tries/all"}):
+                if not (tree.top / name).exists():
+                    yield f"{path}: names {name}, which does not exist"
 
 
 def _faults_of_samples(path: str, text: str, sources: list[str]) -> Iterator[str]:
