@@ -76,4 +76,5 @@ def listed(trace: bytes, first: int = 1, last: Optional[int] = None) -> Iterator
             yield f"step {step} breaks a rule: the trace alone shows no more"
             return
     if offset < len(trace) and not bots:
-        yield f"byte {offset} command {number}: no bot is left"
+        row, _, _ = _step(trace, offset, 1)
+        yield f"byte {offset} command {number}: no bot is left for {row[0][1] if row else 'it'}"
