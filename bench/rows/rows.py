@@ -152,18 +152,18 @@ def table(files: list[Path]) -> None:
 
 
 def main(words: list[str]) -> int:
-    match words:
-        case ["--help"]:
-            print(__doc__.strip())
-        case ["make", folder]:
-            make(Path(folder))
-        case ["count", folder, program, out, *chosen]:
-            count(Path(folder), Path(program), Path(out), chosen)
-        case ["table", *files] if files:
-            table([Path(file) for file in files])
-        case _:
-            print("usage: rows.py make FOLDER | count FOLDER PROGRAM OUT [ROW..] | table OUT.. | --help", file=sys.stderr)
-            return 2
+    name, given = (words[0], words[1:]) if words else ("", [])
+    if name == "--help" and not given:
+        print((__doc__ or "").strip())
+    elif name == "make" and len(given) == 1:
+        make(Path(given[0]))
+    elif name == "count" and len(given) >= 3:
+        count(Path(given[0]), Path(given[1]), Path(given[2]), given[3:])
+    elif name == "table" and given:
+        table([Path(file) for file in given])
+    else:
+        print("usage: rows.py make FOLDER | count FOLDER PROGRAM OUT [ROW..] | table OUT.. | --help", file=sys.stderr)
+        return 2
     return 0
 
 

@@ -10,7 +10,6 @@ import tempfile
 import unittest
 
 from nanobot.explain import explain
-from nanobot.models import coords_of, resolution_of, voxels_of
 from nanobot.walk import Walk
 
 HERE = os.path.dirname(os.path.dirname(os.path.abspath(__file__)))
@@ -85,16 +84,6 @@ class Explaining(unittest.TestCase):
     def test_what_follows_a_halt(self):
         told = lines(P3, P3, b"\xff\xfe")
         self.assertEqual(told[1], "the last bot halts in step 1, and 1 bytes are left from byte 1 on")
-
-
-class Models(unittest.TestCase):
-    def test_both_forms(self):
-        self.assertEqual((resolution_of(P3), list(coords_of(voxels_of(P3), 3))), (3, [(1, 0, 1)]))
-        # padding bits belong to no voxel
-        self.assertEqual(voxels_of(b"\x01\xfe"), 0)
-        # one full voxel at place 251 * 251 + 1: (1,0,1)
-        wide = b"\xff\x00\xfb" + b"".join(n.to_bytes(4, "big") for n in (63002, 1, 251**3 - 63003))
-        self.assertEqual((resolution_of(wide), list(coords_of(voxels_of(wide), 251))), (251, [(1, 0, 1)]))
 
 
 class Walking(unittest.TestCase):
