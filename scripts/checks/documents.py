@@ -33,6 +33,8 @@ def faults(tree: Tree) -> Iterator[str]:
     yield from _faults_of_counts(tree)
     if f'#define NANOBOT_VERSION "{tree.texts["VERSION"].strip()}"' not in tree.texts["include/nanobot.h"]:
         yield "include/nanobot.h has another version than VERSION"
+    if tree.texts["KIT"].strip() not in tree.texts["README.md"]:
+        yield "README.md has another sum of the kit than KIT"
 
 
 def _faults_of_page(tree: Tree, path: str, text: str) -> Iterator[str]:
