@@ -79,7 +79,7 @@ class Halt(Command):
 
 @dataclass(frozen=True)
 class Wait(Command):
-    """Does nothing."""
+    """Does nothing in the step: the bot stays."""
 
     code = 0xFE
 

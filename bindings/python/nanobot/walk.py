@@ -201,5 +201,6 @@ class Walk(cmd.Cmd):
         return False
 
     def postcmd(self, stop: bool, line: str) -> bool:
+        self.stdout.flush()
         self._ask()
         return stop
