@@ -2,7 +2,9 @@
 
 The shared library goes in from where `build_library` has put it beside the package's modules. If it is not there, the build is refused,
 unless the environment variable NANOBOT_LIBRARY is set: it then names the library whenever the package is used. `pip install -e` installs a
-link to this folder."""
+link to this folder.
+
+With NANOBOT_PROGRAM the wheel has the program of that name too, and `nanobot` then starts it; `scripts/package` makes such a wheel."""
 
 import base64
 import hashlib
@@ -15,18 +17,27 @@ NAME, VERSION = "nanobot", "0.9.0"
 LIBRARY = "libnanobot.so"
 INFO = f"{NAME}-{VERSION}.dist-info"
 SUMMARY = "The proved machine, judge and planners of nanobot, from Python"
-SCRIPTS = "[console_scripts]\nnanobot-explain = nanobot.__main__:explain_main\nnanobot-walk = nanobot.__main__:walk_main\n"
+SCRIPTS = "[console_scripts]\nnanobot-tools = nanobot.__main__:tools_main\nnanobot-explain = nanobot.__main__:explain_main\nnanobot-walk = nanobot.__main__:walk_main\n"
 # The oldest C library that a manylinux tag of this form names.
 OLDEST_MINOR = 17
 
 
 def _package_files():
     """Yields the files of the package, by their names in the wheel."""
-    folder = os.path.join(HERE, NAME)
-    for name in sorted(os.listdir(folder)):
-        if name.endswith(".py") or name in ("py.typed", LIBRARY):
-            with open(os.path.join(folder, name), "rb") as file:
-                yield f"{NAME}/{name}", file.read()
+    for folder, below, names in os.walk(os.path.join(HERE, NAME)):
+        below.sort()
+        for name in sorted(names):
+            if name.endswith(".py") or name in ("py.typed", LIBRARY):
+                path = os.path.join(folder, name)
+                with open(path, "rb") as file:
+                    yield os.path.relpath(path, HERE), file.read()
+
+
+def _program():
+    """Yields the program that the environment names, as a script of the wheel."""
+    if os.environ.get("NANOBOT_PROGRAM"):
+        with open(os.environ["NANOBOT_PROGRAM"], "rb") as file:
+            yield f"{NAME}-{VERSION}.data/scripts/{NAME}", file.read()
 
 
 def _metadata():
@@ -69,9 +80,11 @@ def _write_wheel(folder, files, tag):
     files = [*files, *((f"{INFO}/{name}", text.encode()) for name, text in info.items())]
     record = "".join(f"{name},{_sum(data)},{len(data)}\n" for name, data in files) + f"{INFO}/RECORD,,\n"
     made = f"{NAME}-{VERSION}-{tag}.whl"
-    with zipfile.ZipFile(os.path.join(folder, made), "w", zipfile.ZIP_DEFLATED) as out:
+    with zipfile.ZipFile(os.path.join(folder, made), "w") as out:
         for name, data in [*files, (f"{INFO}/RECORD", record.encode())]:
-            out.writestr(zipfile.ZipInfo(name, (2026, 1, 1, 0, 0, 0)), data)
+            entry = zipfile.ZipInfo(name, (2026, 1, 1, 0, 0, 0))
+            entry.external_attr = (0o100755 if "/scripts/" in name else 0o100644) << 16
+            out.writestr(entry, data, zipfile.ZIP_DEFLATED)
     return made
 
 
@@ -86,7 +99,7 @@ def _stop_without_library(files):
 
 def build_wheel(wheel_directory, config_settings=None, metadata_directory=None):
     """The hook of `pip install` and `pip wheel`."""
-    files = dict(_package_files())
+    files = {**dict(_package_files()), **dict(_program())}
     _stop_without_library(files)
     return _write_wheel(wheel_directory, files.items(), _tag(files.get(f"{NAME}/{LIBRARY}")))
 

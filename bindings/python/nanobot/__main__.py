@@ -1,7 +1,11 @@
-"""`python -m nanobot explain [light] S T B` tells why a trace is refused, and `.. walk [light] S T B` walks it, by the lines of
-standard input (`help` lists them). One of S and T may be `-`, the empty model of the other's resolution. Ends with 0 where the
-trace is accepted or was walked, with 1 where it is refused, and with 2 where the words are not understood or a file cannot be
-read. `--version` prints the version of the library. nanobot-explain and nanobot-walk do the same without the first word."""
+"""Tools for traces and models: `python -m nanobot NAME ..`, or `nanobot-tools NAME ..`.
+
+    explain [light] S T B     says why a trace is refused, down to the commands
+    walk [light] S T B        walks a trace by the lines of standard input; `help` lists them
+TOOLS
+`NAME --help` says more. S and T are models, of which one may be `-`, the empty model of the other's resolution; B is a trace.
+Ends with 0, with 1 if a trace is refused, and with 2 if the arguments are wrong or a file cannot be read. `--version` prints the
+version of the library. nanobot-explain and nanobot-walk do the same without the first word."""
 
 from __future__ import annotations
 
@@ -12,7 +16,10 @@ from typing import List
 from .errors import NanobotError
 from .explain import explain
 from .machine import version
+from .tools import cli
 from .walk import Walk
+
+HELP = (__doc__ or "").replace("TOOLS\n", "".join(f"    {name:<25} {tool.summary}\n" for name, tool in cli.TOOLS.items()))
 
 
 def _explain(words: List[str], light: bool) -> int:
@@ -45,11 +52,16 @@ def run(words: List[str]) -> int:
     if words == ["--version"]:
         print(version())
         return 0
+    if words and words[0] in cli.TOOLS:
+        try:
+            return cli.run(words[0], words[1:])
+        except KeyboardInterrupt:
+            return _end_as_interrupted()
     light = words[1:2] == ["light"] and len(words) == 5
     rest = words[2:] if light else words[1:]
     if len(rest) != 3 or rest[:2] == ["-", "-"] or words[0] not in ("explain", "walk"):
         asked = bool({"-h", "--help"} & set(words))
-        print(__doc__, file=sys.stdout if asked else sys.stderr)
+        print(HELP, file=sys.stdout if asked else sys.stderr)
         return 0 if asked else 2
     try:
         return _explain(rest, light) if words[0] == "explain" else _walk(rest, light)
@@ -58,6 +70,11 @@ def run(words: List[str]) -> int:
     except (NanobotError, OSError, ValueError) as fault:
         print(fault, file=sys.stderr)
         return 2
+
+
+def tools_main() -> int:
+    """The command nanobot-tools."""
+    return run(sys.argv[1:])
 
 
 def explain_main() -> int:

@@ -1,4 +1,4 @@
-"""Tests of the tools over small traces, and of a walk in a terminal. `scripts/try_explain` of the repository breaks each rule by each
+"""Tests of the tools over small traces, and of a walk in a terminal. `scripts/try explain` of the repository breaks each rule by each
 command that can break it."""
 
 import io
