@@ -13,7 +13,7 @@
  * - `malloc`, `realloc` and `free` of the program come from one allocator and align as the C library's do. No call is made
  *   from a signal handler, or from the forked child of a process with threads.
  * - The thread has 192 KB of stack for the call: a thread of glibc has 8 MB, but one of musl only 128 KB. That is measured
- *   (scripts/try_linked); no clause bounds it.
+ *   (scripts/try linked); no clause bounds it.
  *
  * Calls keep nothing between them, so threads may call at the same time. A call takes memory and frees it before it
  * returns. It returns for all bytes, junk too; time and memory are promised by no clause.
@@ -27,7 +27,7 @@
  * wanted, and the buffer is as it was. Behind what is given the buffer is as it was, too.
  *
  * To build and link: `./prove` makes out/libnanobot.a, and a package has it as lib/libnanobot.a; it links by itself, as in
- * `cc -Iinclude call.c out/libnanobot.a`. scripts/try_linked does so for C, Rust and Python.
+ * `cc -Iinclude call.c out/libnanobot.a`. scripts/try linked does so for C, Rust and Python.
  */
 #ifndef NANOBOT_H
 #define NANOBOT_H

@@ -2,7 +2,7 @@
 """nanobot from Python, each call of the library once: `linked.py LIBRARY run S T B`, `.. run light S T B` and `.. check M` print
 what the program prints, `.. cost S T B` the line of an accepted run from its numbers, and `.. plan KIND S T B` stores what the
 program stores and prints its line without the number of commands. Each ends with the program's status. LIBRARY is libnanobot.so,
-which a package has and scripts/try_linked makes."""
+which a package has and scripts/try linked makes."""
 
 import ctypes
 import sys

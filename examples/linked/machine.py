@@ -5,11 +5,8 @@ copy. It needs the package of bindings/python."""
 
 import sys
 
-from nanobot import BrokenRule, Coord
-from nanobot.explain import machine_of
-from nanobot.machine import bytes_of
-from nanobot.models import coords_of, voxels_of
-from nanobot.trace import next_step
+from nanobot import BrokenRule, Coord, Machine, Model
+from nanobot.trace import orders_at
 
 
 def step_twice(machine, commands):
@@ -26,10 +23,7 @@ def finish(machine, target, left):
     """What is told at the end, where so many bytes of commands are left."""
     if left:
         raise BrokenRule(13, machine.steps, 0, Coord(0, 0, 0))
-    if target:
-        wrong = machine.difference(target)
-    else:
-        wrong = next(coords_of(voxels_of(machine.model()), machine.state.resolution), None)
+    wrong = machine.difference(target or Model.empty(machine.resolution))
     if wrong:
         raise BrokenRule(14, machine.steps, 0, wrong)
     return f"ok energy {machine.energy} steps {machine.steps}"
@@ -41,11 +35,10 @@ def run(machine, target, trace):
         bots = machine.bots()
         if not bots:
             return finish(machine, target, len(trace) - at)
-        commands = next_step(trace, at, len(bots))
-        if len(commands) < len(bots):
-            bot = bots[len(commands)]
+        orders, end = orders_at(trace, at, bots)
+        if len(orders) < len(bots):
+            bot = bots[len(orders)]
             raise BrokenRule(1, machine.steps + 1, bot.bid, bot.at)
-        end = at + sum(command.size for command in commands)
         step_twice(machine, trace[at:end])
         if at < len(trace) // 2 <= end:
             copy = machine.copy()
@@ -56,10 +49,12 @@ def run(machine, target, trace):
 
 def main():
     light = sys.argv[2:3] == ["light"] and len(sys.argv) == 6
-    source, target = (None if name == "-" else bytes_of(name) for name in sys.argv[2 + light : 4 + light])
-    machine = machine_of(source, target, light=light, notes=4)
+    source, target = (None if name == "-" else Model.read(name) for name in sys.argv[2 + light : 4 + light])
+    machine = Machine(source or Model.empty(target.resolution), light=light, notes=4)
+    with open(sys.argv[4 + light], "rb") as file:
+        trace = file.read()
     try:
-        print(run(machine, target, bytes_of(sys.argv[4 + light])))
+        print(run(machine, target, trace))
     except BrokenRule as broken:
         print(broken)
         return 1

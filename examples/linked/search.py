@@ -3,24 +3,26 @@
 moves deep, stores the trace that it made as B, and prints what `nanobot run - T B` prints of it. It needs the package of
 bindings/python."""
 
+import itertools
 import sys
 
 import nanobot
-from nanobot import BrokenRule, Machine, NanobotError
-from nanobot.machine import bytes_of
-from nanobot.models import resolution_of
+from nanobot import BrokenRule, Fill, Halt, Machine, Model, NanobotError, SMove
 
-STEPS, HALT = 12, b"\xff"
+STEPS, HALT = 12, Halt()
 
 
 def moves():
     """The fills of all near coordinates, and the moves by one."""
-    for code in range(27):
-        if sum(abs(n - 1) for n in (code // 9, code // 3 % 3, code % 3)) in (1, 2):
-            yield bytes([code << 3 | 3])
-    for axis in (1, 2, 3):
+    for d in itertools.product((-1, 0, 1), repeat=3):
+        if sum(map(abs, d)) in (1, 2):
+            yield Fill(*d)
+    for axis in range(3):
         for way in (-1, 1):
-            yield bytes([axis << 4 | 4, way + 15])
+            yield SMove(*(way if axis == it else 0 for it in range(3)))
+
+
+MOVES = list(moves())
 
 
 def score(machine, target):
@@ -39,9 +41,9 @@ def accepts(machine, commands):
 def search(machine, target, depth):
     """The best score that so many moves lead to, and the first of them."""
     if depth == 0:
-        return score(machine, target), b""
-    best = (2**32, 0), b""
-    for move in moves():
+        return score(machine, target), None
+    best = (2**32, 0), None
+    for move in MOVES:
         judged = accepts(machine, move)
         if not judged:
             continue
@@ -63,8 +65,8 @@ def check(made, scout, trace):
 def main():
     if len(sys.argv) != 3:
         sys.exit(__doc__)
-    target = bytes_of(sys.argv[1])
-    with Machine(resolution=resolution_of(target), notes=2, trace=True) as made, made.copy() as scout:
+    target = Model.read(sys.argv[1])
+    with Machine(resolution=target.resolution, notes=2, trace=True) as made, made.copy() as scout:
         for _ in range(STEPS):
             if not made.differences(target):
                 break

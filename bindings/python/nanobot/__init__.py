@@ -1,6 +1,25 @@
 """nanobot from Python: a machine that is kept between steps, the judge and the planners of a library whose calls are proved to do what
-the rules say. The package around it is tested."""
+the rules say. The package around it is tested.
 
+`Machine` makes, judges and takes back steps; `SMove`, `Fill`, `GFill` and the other commands are its steps; `Model` reads and writes models;
+`judge` and the `plan_` calls are the program's; `steps` goes through a trace."""
+
+from .commands import (
+    Command,
+    Fill,
+    Fission,
+    Flip,
+    FusionP,
+    FusionS,
+    GFill,
+    GVoid,
+    Halt,
+    LMove,
+    SMove,
+    Void,
+    Wait,
+    read_commands,
+)
 from .errors import (
     BadCommands,
     Begun,
@@ -9,17 +28,19 @@ from .errors import (
     Coord,
     Ended,
     NanobotError,
+    NoBot,
     NothingNoted,
     OtherResolution,
     OutOfSpace,
+    Refused,
     RefusedModel,
     TooManySteps,
     WrongCount,
 )
 from .machine import Bot, Judged, Machine, State, Step, version
+from .models import Model, Voxels
 from .rows import (
     Cost,
-    Refused,
     asm,
     check,
     count_commands,
@@ -32,6 +53,7 @@ from .rows import (
     plan_swarm,
     plan_void,
 )
+from .trace import Order, TracedStep, steps
 
 __version__ = "0.9.0"
 
@@ -41,20 +63,38 @@ __all__ = [
     "Bot",
     "BrokenRule",
     "Closed",
+    "Command",
     "Coord",
     "Cost",
     "Ended",
+    "Fill",
+    "Fission",
+    "Flip",
+    "FusionP",
+    "FusionS",
+    "GFill",
+    "GVoid",
+    "Halt",
     "Judged",
+    "LMove",
     "Machine",
+    "Model",
     "NanobotError",
+    "NoBot",
     "NothingNoted",
+    "Order",
     "OtherResolution",
     "OutOfSpace",
     "Refused",
     "RefusedModel",
+    "SMove",
     "State",
     "Step",
     "TooManySteps",
+    "TracedStep",
+    "Void",
+    "Voxels",
+    "Wait",
     "WrongCount",
     "asm",
     "check",
@@ -67,5 +107,7 @@ __all__ = [
     "plan_low",
     "plan_swarm",
     "plan_void",
+    "read_commands",
+    "steps",
     "version",
 ]

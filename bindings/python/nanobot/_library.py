@@ -3,8 +3,10 @@
 from __future__ import annotations
 
 import ctypes
+import mmap
 import os
 from ctypes import POINTER, byref, c_bool, c_int64, c_size_t, c_uint8, c_uint32, c_uint64, c_void_p
+from typing import Any, Callable, Dict, List, Tuple
 
 NAME = "libnanobot.so"
 
@@ -46,12 +48,13 @@ class BotTold(ctypes.Structure):
     _fields_ = [("seeds", c_uint64)] + [(name, c_uint32) for name in ("bid", "x", "y", "z")]
 
 
-BYTES = [POINTER(c_uint8), c_size_t]
-GIVEN = BYTES + [POINTER(c_size_t)]
+# Bytes that a call reads. ctypes lends the inside of a `bytes` object, which ends with a zero byte: the pointer is never null.
+BYTES = [c_void_p, c_size_t]
+GIVEN = [POINTER(c_uint8), c_size_t, POINTER(c_size_t)]
 MACHINE = POINTER(Handle)
 
 # What each call takes. Each answers a status, but for the end of a machine, which answers nothing.
-CALLS = {
+CALLS: Dict[str, List[Any]] = {
     "nanobot_judge": 3 * BYTES + [c_bool] + GIVEN,
     "nanobot_cost": 3 * BYTES + [c_bool, POINTER(c_int64), POINTER(c_uint32)],
     "nanobot_check": BYTES + GIVEN,
@@ -85,6 +88,15 @@ CALLS = {
 }
 
 
+
+# The most bytes of a trace, and so of any plan.
+MOST_TRACE = 2**30
+# Buffers up to this size are filled with zeros; a larger one is mapped, and takes memory only as far as it is written.
+SMALL_BUFFER = 2**16
+
+Call = Callable[..., int]
+
+
 def _path() -> str:
     """The library that the environment names, or else the one in the package's folder."""
     named = os.environ.get("NANOBOT_LIBRARY")
@@ -97,36 +109,66 @@ class _Library:
     def __init__(self) -> None:
         self._loaded: ctypes.CDLL | None = None
 
-    def __getattr__(self, name: str):
+    def _load(self) -> ctypes.CDLL:
         if self._loaded is None:
             path = _path()
             if not os.path.exists(path):
                 raise ImportError(f"there is no {path}: build it with bindings/python/build_library, or name it in NANOBOT_LIBRARY")
             self._loaded = ctypes.CDLL(path)
+        return self._loaded
+
+    def __getattr__(self, name: str) -> Call:
+        loaded = self._load()
         try:
-            call = getattr(self._loaded, "nanobot_" + name)
+            call = getattr(loaded, "nanobot_" + name)
         except AttributeError:
             lacks = f"{_path()} has no nanobot_{name}: it is the library of another version"
             raise ImportError(f"{lacks}; build it with bindings/python/build_library") from None
         call.argtypes = CALLS["nanobot_" + name]
         call.restype = None if name == "machine_end" else c_uint32
         setattr(self, name, call)
-        return call
+        return call  # type: ignore[no-any-return]
 
 
 library = _Library()
 
 
-def lend(data: bytes):
-    """A pointer and a length. The pointer is not null, also where the length is 0."""
-    return (c_uint8 * (len(data) + 1)).from_buffer_copy(data + b"\0"), len(data)
+def lend(data: bytes) -> Tuple[bytes, int]:
+    """What a call takes for bytes: a pointer, which is never null, and a length."""
+    return data, len(data)
 
 
-def given(call, *lent, room: int = 256) -> tuple[int, bytes]:
-    """The status and the bytes that a call gives, whose buffer is made larger where it is too small."""
+def _mapped(room: int, least: int) -> mmap.mmap:
+    """Zeros that take memory only as far as they are written: as many as the room, or as the system gives, but not fewer than the least."""
+    flags = mmap.MAP_PRIVATE | mmap.MAP_ANONYMOUS | getattr(mmap, "MAP_NORESERVE", 0x4000)
     while True:
-        buffer, size = (c_uint8 * room)(), c_size_t()
+        try:
+            return mmap.mmap(-1, room, flags=flags)
+        except (OSError, MemoryError):
+            if room // 2 < least:
+                raise MemoryError from None
+            room //= 2
+
+
+def _call_once(call: Call, lent: Tuple[Any, ...], room: int, least: int) -> Tuple[int, int, bytes]:
+    """The status, the size and the bytes that a call gives into a buffer of this room, which may be smaller, but has the least."""
+    size = c_size_t()
+    if room <= SMALL_BUFFER:
+        buffer = (c_uint8 * room)()
         status = call(*lent, buffer, room, byref(size))
+        return status, size.value, b"" if status == TOO_SMALL else ctypes.string_at(buffer, size.value)
+    with _mapped(room, least) as pages:
+        lent_pages = (c_uint8 * len(pages)).from_buffer(pages)
+        status = call(*lent, lent_pages, len(pages), byref(size))
+        del lent_pages  # what is lent cannot be unmapped
+        return status, size.value, b"" if status == TOO_SMALL else pages[: size.value]
+
+
+def given(call: Call, *lent: Any, room: int = 256) -> Tuple[int, bytes]:
+    """The status and the bytes that a call gives. If the room is too small, the call is made again with what it needs."""
+    least = 0
+    while True:
+        status, size, data = _call_once(call, lent, room, least)
         if status != TOO_SMALL:
-            return status, bytes(buffer[: size.value])
-        room = size.value
+            return status, data
+        room = least = size

@@ -6,21 +6,14 @@ from itertools import islice
 from typing import Iterator, Optional, Tuple
 
 from . import _library as lib
-from .errors import BrokenRule
+from .commands import command_at
+from .errors import BrokenRule, Coord, Refused
 from .machine import Machine, Source, bytes_of
-from .models import coords_of, resolution_of, voxels_of
-from .rows import Refused, judge
-from .trace import command_at, next_step
+from .models import Model
+from .progress import Progress
+from .rows import judge, side
+from .trace import Player, machine_of, orders_at, trace_ends
 from .why import Row, spaced, why
-
-
-def machine_of(source: Optional[Source], target: Optional[Source], *, light: bool = False, notes: int = 0) -> Machine:
-    """A machine over the source, or over the empty model of the target's resolution."""
-    if source is not None:
-        return Machine(source, light=light, notes=notes)
-    if target is None:
-        raise ValueError("neither a source nor a target")
-    return Machine(resolution=resolution_of(bytes_of(target)), light=light, notes=notes)
 
 
 def _around(data: bytes, offset: int) -> str:
@@ -31,30 +24,47 @@ def _around(data: bytes, offset: int) -> str:
 
 def walk_to_the_end(machine: Machine, data: bytes) -> Tuple[int, Optional[BrokenRule], Row]:
     """Makes the steps of a trace as far as they go: the byte that comes next, the rule that stops it, and the step's commands."""
-    offset = 0
-    while machine.state.active:
-        bots = machine.bots()
-        commands = next_step(data, offset, len(bots))
-        row = list(zip(bots, commands))
-        if len(commands) < len(bots):
-            bot = bots[len(commands)]
-            return offset, BrokenRule(1, machine.steps + 1, bot.bid, bot.at), row
-        size = sum(command.size for command in commands)
-        try:
-            machine.step(data[offset : offset + size])
-        except BrokenRule as broken:
-            return offset, broken, row
-        offset += size
-    return offset, None, []
+    player, progress = Player(machine, data), Progress("explain", len(data))
+    try:
+        player.play(progress=progress)
+    finally:
+        progress.clear()
+    bots = machine.bots()
+    if not bots:
+        return player.offset, None, []
+    row, end = orders_at(data, player.offset, bots)
+    if len(row) < len(bots):
+        return player.offset, trace_ends(machine, len(row)), row
+    try:
+        machine.step(data[player.offset : end])
+    except BrokenRule as broken:
+        return player.offset, broken, row
+    raise AssertionError("a step was refused and then made")
 
 
-def _differences(machine: Machine, target: Optional[bytes]) -> Iterator[str]:
-    """How many voxels differ from the target, and the least ones; none of it is the empty model."""
-    differing = voxels_of(machine.model()) ^ (voxels_of(target) if target is not None else 0)
-    yield f"{bin(differing).count('1')} voxels differ from the target; the least:"
-    for c in islice(coords_of(differing, machine.state.resolution), 10):
-        here, wanted = ("full", "void") if machine.full(c) else ("void", "full")
-        yield f"  {spaced(c)} is {here}, wanted: {wanted}"
+class Runs:
+    """The run of a trace from its source, begun anew as often as it is asked for."""
+
+    def __init__(self, source: bytes, target: bytes, data: bytes, light: bool) -> None:
+        """An empty source or target is the empty model of the other's resolution."""
+        self.source, self.target, self.data, self.light = source, target, data, light
+
+    def start(self) -> Machine:
+        return machine_of(self.source or None, self.target or None, light=self.light)
+
+    def wanted(self, resolution: int) -> Model:
+        """The target."""
+        return Model.from_bytes(self.target) if self.target else Model.empty(resolution)
+
+
+def _differences(machine: Machine, wanted: Model) -> Iterator[str]:
+    """How many voxels differ from the target, and the least ones."""
+    made = machine.matrix()
+    differing = (made ^ wanted).full
+    yield f"{len(differing)} voxels differ from the target; the least:"
+    for c in islice(differing, 10):
+        here, there = ("full", "void") if made[c] else ("void", "full")
+        yield f"  {spaced(c)} is {here}, wanted: {there}"
 
 
 def _bad_bytes(machine: Machine, data: bytes, offset: int, is_cut: bool) -> Iterator[str]:
@@ -69,24 +79,63 @@ def _bad_bytes(machine: Machine, data: bytes, offset: int, is_cut: bool) -> Iter
         yield f"before it the last bot halts in step {machine.steps}, which ends at byte {start}"
 
 
-def _broken_run(machine: Machine, data: bytes, target: Optional[bytes]) -> Iterator[str]:
+def _first_step_with(runs: Runs, extra: Model, last: int) -> Tuple[int, Coord]:
+    """The step after which one of these voxels is full that are void at the start and full after the last step, and that voxel: the first
+    such step, unless some of them are voided in between. It halves the steps, so that each is made some two times."""
+    machine, found = runs.start(), extra
+    low, high, offset = 0, last, 0
+    progress = Progress("explain", len(runs.data))
+    while low + 1 < high:
+        middle = (low + high) // 2
+        ahead = machine.copy()
+        player = Player(ahead, runs.data, offset=offset)
+        player.play(middle - low, progress)
+        there = ahead.matrix() & extra
+        if there.full:
+            high, found = middle, there
+        else:
+            machine, low, offset = ahead, middle, player.offset
+    progress.clear()
+    return high, next(iter(found.full))
+
+
+def _first_extra(machine: Machine, runs: Runs) -> Iterator[str]:
+    """Since which step a voxel is full that is full in neither the source nor the target, if there is one: a list of commands that is shifted
+    shows so, long before a rule is broken."""
+    made = machine.matrix()
+    extra = made - runs.wanted(machine.resolution)
+    if runs.source:
+        extra = extra - Model.from_bytes(runs.source)
+    if not extra.full:
+        return
+    step, at = _first_step_with(runs, extra, machine.steps)
+    yield f"since step {step} the voxel {spaced(at)} is full, which is void in the target"
+
+
+def _broken_run(machine: Machine, runs: Runs) -> Iterator[str]:
     """What a step did that breaks a rule, or what is wrong once no bot is left."""
+    data = runs.data
     offset, broken, row = walk_to_the_end(machine, data)
     if broken:
         yield f"step {broken.step} begins at byte {offset}, with {len(row)} commands for {machine.state.active} bots"
         yield from why(machine, broken, row)
+        yield from _first_extra(machine, runs)
     elif offset < len(data):
         yield f"the last bot halts in step {machine.steps}, and {len(data) - offset} bytes are left from byte {offset} on"
         yield f"wanted: no command there; it has {command_at(data, offset)}"
     else:
-        yield from _differences(machine, target)
+        yield from _differences(machine, runs.wanted(machine.resolution))
 
 
 def explain(source: Optional[Source], target: Optional[Source], trace: Source, *, light: bool = False) -> Iterator[str]:
-    """The lines that tell why a trace is refused, or what it costs: first what the program says of it."""
-    data = bytes_of(trace)
+    """Yields the lines that tell why a trace is refused, or what it costs: first the line that the program prints of it.
+
+    Takes what `judge` takes. A trace is judged, and if it is refused its steps are made once, and once more to find the first voxel that
+    the target has not. Raises ValueError if neither a source nor a target is given, TypeError, OSError or MemoryError."""
+    data = bytes_of(trace, "the trace (after the source and the target)")
+    runs = Runs(side(source, "the source"), side(target, "the target"), data, light)
     try:
-        cost = judge(source, target, data, light=light)
+        cost = judge(runs.source, runs.target, data, light=light)
         yield f"ok energy {cost.energy} steps {cost.steps}"
         return
     except Refused as it:
@@ -94,8 +143,8 @@ def explain(source: Optional[Source], target: Optional[Source], trace: Source, *
     yield refused.line
     if refused.status not in (lib.BROKEN, lib.TRACE):
         return
-    with machine_of(source, target, light=light) as machine:
+    with runs.start() as machine:
         if refused.status == lib.BROKEN:
-            yield from _broken_run(machine, data, bytes_of(target) if target is not None else None)
+            yield from _broken_run(machine, runs)
         elif " at " in refused.line:
             yield from _bad_bytes(machine, data, int(refused.line.split()[-1]), "cut" in refused.line)

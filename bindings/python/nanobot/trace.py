@@ -1,134 +1,167 @@
-"""The commands of a trace, cut from its bytes (docs/FORMATS.md, "Trace files")."""
+"""The steps of a trace: each bot's command with its first byte, one step after another, and a quick way through many."""
 
 from __future__ import annotations
 
-from dataclasses import dataclass
-from typing import Iterator, List, Optional, Tuple
+import ctypes
+from array import array
+from typing import Iterator, List, NamedTuple, Optional, Sequence, Tuple
 
-from .errors import BadCommands, Coord
+from . import _library as lib
+from ._library import library
+from .commands import SIZES, Command, Fill, Flip, GFill, GVoid, Void, command_at
+from .errors import BrokenRule
+from .geometry import region, volume
+from .machine import Bot, Machine, Source, bytes_of
+from .models import Model
+from .progress import Progress
 
-Difference = Tuple[int, int, int]
+# How many steps are made between two looks at the clock.
+STRETCH = 8192
+COSTS = {"SMove": 0, "LMove": 4, "Fission": 24, "FusionP": -24}
 
-SINGLE = {0xFF: "Halt", 0xFE: "Wait", 0xFD: "Flip"}
-NEAR = {7: "FusionP", 6: "FusionS", 5: "Fission", 3: "Fill", 2: "Void", 1: "GFill", 0: "GVoid"}
 
+class Order(NamedTuple):
+    """The command of a bot in a step, with its first byte in the trace."""
 
-@dataclass(frozen=True)
-class Command:
-    """A command, with its first byte's place in the trace and how many bytes it has."""
-
-    word: str
-    differences: Tuple[Difference, ...]
-    seeds: Optional[int]
+    bot: Bot
+    command: Command
     offset: int
-    size: int
-
-    def __str__(self) -> str:
-        parts = [self.word] + ["<%d,%d,%d>" % d for d in self.differences]
-        return " ".join(parts + ([str(self.seeds)] if self.seeds is not None else []))
 
 
-def plus(c: Coord, d: Difference) -> Coord:
-    return Coord(c.x + d[0], c.y + d[1], c.z + d[2])
+def orders_at(data: bytes, offset: int, bots: Sequence[Bot]) -> Tuple[List[Order], int]:
+    """Returns the commands of the step that begins at this byte, one for each bot as far as there are any, and the byte behind them."""
+    orders: List[Order] = []
+    for bot in bots:
+        if offset >= len(data):
+            break
+        orders.append(Order(bot, command_at(data, offset), offset))
+        offset += SIZES[data[offset]]
+    return orders, offset
 
 
-def _along(axis: int, length: int) -> Optional[Difference]:
-    """The difference along an axis from 1 to 3, if there is one."""
-    if axis == 0 or length == 0:
-        return None
-    return (length if axis == 1 else 0, length if axis == 2 else 0, length if axis == 3 else 0)
+def machine_of(source: Optional[Source], target: Optional[Source], *, light: bool = False, notes: int = 0) -> Machine:
+    """Returns a machine over the source, or over the empty model of the target's resolution."""
+    if source is not None:
+        return Machine(source, light=light, notes=notes)
+    if target is None:
+        raise ValueError("neither a source nor a target")
+    return Machine(resolution=Model.from_bytes(bytes_of(target)).resolution, light=light, notes=notes)
 
 
-def _near(code: int) -> Optional[Difference]:
-    if code > 26:
-        return None
-    d = (code // 9 - 1, code // 3 % 3 - 1, code % 3 - 1)
-    return d if 1 <= sum(map(abs, d)) <= 2 else None
+def trace_ends(machine: Machine, commands: int) -> BrokenRule:
+    """The rule that is broken when a trace ends with so many commands in its last step, fewer than there are bots."""
+    bot = machine.bots()[commands]
+    return BrokenRule(1, machine.steps + 1, bot.bid, bot.at)
 
 
-def _move(head: int, low: int) -> Optional[Tuple[str, Tuple[Difference, ...]]]:
-    """A move of two bytes."""
-    if head & 0b1000 == 0:
-        first = _along(head >> 4, low - 15) if head >> 4 <= 3 and low <= 30 else None
-        return first and ("SMove", (first,))
-    one = _along(head >> 4 & 3, (low & 15) - 5) if low & 15 <= 10 else None
-    two = _along(head >> 6, (low >> 4) - 5) if low >> 4 <= 10 else None
-    return ("LMove", (one, two)) if one and two else None
+class Player:
+    """Makes many steps of a trace on a machine, with little work for each."""
+
+    def __init__(self, machine: Machine, data: bytes, ends: Optional["array[int]"] = None, offset: int = 0) -> None:
+        """Begins at a byte of the trace. The byte behind each step that is made is added to `ends`."""
+        self.machine, self.data, self.ends, self.offset = machine, data, ends, offset
+        self._told = lib.StepTold()
+        # Addresses as numbers: turning them into pointers anew at each call would take longer than the step.
+        self._base = ctypes.cast(ctypes.c_char_p(data), ctypes.c_void_p).value or 0
+
+    def _some(self, most: int, active: int) -> Tuple[int, int]:
+        """Makes at most so many steps, until one is refused or cannot be cut. Returns how many are left to make, and the active bots."""
+        step, handle, told = library.machine_step, ctypes.byref(self.machine._handle), ctypes.byref(self._told)
+        data, base, sizes, whole, at, ends = self.data, self._base, SIZES, len(self.data), self.offset, self.ends
+        while most and active:
+            end = at
+            try:
+                for _ in range(active):
+                    end += sizes[data[end]]
+            except IndexError:
+                break
+            if end > whole or step(handle, base + at, end - at, told):
+                break
+            at, most, active = end, most - 1, self._told.active
+            if ends is not None:
+                ends.append(end)
+        self.offset = at
+        return most, active
+
+    def play(self, most: Optional[int] = None, progress: Optional[Progress] = None) -> None:
+        """Makes at most so many steps, or all, until the next step is refused, its commands are no commands or too few, or no bot is left."""
+        left, active = len(self.data) if most is None else most, self.machine.state.active
+        while left and active:
+            stretch = min(left, STRETCH)
+            rest, active = self._some(stretch, active)
+            left -= stretch - rest
+            if progress:
+                progress.show(self.offset)
+            if rest:
+                break
 
 
-def command_at(data: bytes, offset: int) -> Command:
-    """The command that begins at this byte."""
-    head, more = data[offset], data[offset + 1 : offset + 4]
-    if head in SINGLE:
-        return Command(SINGLE[head], (), None, offset, 1)
-    if head & 0b111 == 0b100:
-        found = _move(head, more[0]) if more else None
-        if found:
-            return Command(*found, None, offset, 2)
-        raise BadCommands(offset)
-    near, word = _near(head >> 3), NEAR[head & 7]
-    if near is None:
-        raise BadCommands(offset)
-    if word == "Fission" and more:
-        return Command(word, (near,), more[0], offset, 2)
-    if word in ("GFill", "GVoid") and len(more) == 3 and max(more) <= 60 and tuple(more) != (30, 30, 30):
-        return Command(word, (near, (more[0] - 30, more[1] - 30, more[2] - 30)), None, offset, 4)
-    if word in ("Fission", "GFill", "GVoid"):
-        raise BadCommands(offset)
-    return Command(word, (near,), None, offset, 1)
+class TracedStep(NamedTuple):
+    """A step of a trace that was made.
+
+    `number` counts from 1, `offset` is its first byte, and `orders` has each bot's command. `cost` is the energy of the step and `energy` that
+    of all so far. `high` says whether harmonics were High when it began, `active` how many bots are left after it. `filled` voxels
+    became full, and `voided` became void."""
+
+    number: int
+    offset: int
+    orders: Tuple[Order, ...]
+    cost: int
+    energy: int
+    high: bool
+    active: int
+    filled: int
+    voided: int
 
 
-def commands_from(data: bytes, offset: int = 0) -> Iterator[Command]:
-    """The commands of a trace from a byte on, one after another."""
-    while offset < len(data):
-        command = command_at(data, offset)
-        yield command
-        offset += command.size
+def _regions(orders: Sequence[Order]) -> Tuple[int, int]:
+    """How many voxels the commands fill, and how many they void: each group's region once."""
+    filled = {region(it.bot.at, it.command) for it in orders if isinstance(it.command, (Fill, GFill))}
+    voided = {region(it.bot.at, it.command) for it in orders if isinstance(it.command, (Void, GVoid))}
+    return sum(volume(box) for box in filled if box), sum(volume(box) for box in voided if box)
 
 
-def next_step(data: bytes, offset: int, bots: int) -> List[Command]:
-    """The commands of the next step: one for each bot, as far as there are any."""
-    out: List[Command] = []
-    while len(out) < bots and offset < len(data):
-        out.append(command_at(data, offset))
-        offset += out[-1].size
-    return out
+def _work(order: Order) -> int:
+    """What a command costs beside the voxels that it changes."""
+    if order.command.word not in COSTS:
+        return 0
+    moved = sum(abs(n) for d in order.command.differences for n in d) if order.command.word in ("SMove", "LMove") else 0
+    return COSTS[order.command.word] + 2 * moved
 
 
-# ---- what a command names
-
-Box = Tuple[Coord, Coord]
-
-
-def _box(a: Coord, b: Coord) -> Box:
-    return Coord(*map(min, a, b)), Coord(*map(max, a, b))
-
-
-def named(at: Coord, command: Command) -> List[Coord]:
-    """The coordinates that a bot's command names, one after another."""
-    out: List[Coord] = []
-    for d in command.differences:
-        out.append(plus(out[-1] if out else at, d))
-    return out
+def _changes(machine: Machine, orders: Sequence[Order], work: int, full: int) -> Tuple[int, int]:
+    """How many voxels a step filled and voided that was made, by its cost beside upkeep and moves: of a voxel that is filled 12 or, if it
+    was full, 6, and of one that is voided -12 or, if it was void, 3. `full` voxels were full before."""
+    to_fill, to_void = _regions(orders)
+    if not to_void:
+        return (work - 6 * to_fill) // 6, 0
+    if not to_fill:
+        return 0, (3 * to_void - work) // 15
+    more = machine.count() - full
+    voided = (6 * to_fill + 3 * to_void + 6 * more - work) // 9
+    return more + voided, voided
 
 
-def boxes(at: Coord, command: Command) -> List[Box]:
-    """What is volatile for a bot with this command, as boxes, beside its own place."""
-    ends = [at, *named(at, command)]
-    if command.word in ("GFill", "GVoid"):
-        return [_box(ends[1], ends[2])]
-    if command.word in ("FusionP", "FusionS"):
-        return []
-    return [_box(a, b) for a, b in zip(ends, ends[1:])]
+def steps(source: Optional[Source], trace: Source, *, resolution: Optional[int] = None, light: bool = False) -> Iterator[TracedStep]:
+    """Makes the steps of a trace on a machine of their own, and yields each with its commands, its cost and what it changed.
 
+    The source is bytes, a `Model` or the name of a file, or None with the resolution of the empty model; the trace is bytes or the name of a
+    file. The energies are the machine's; `filled` and `voided` follow from them.
 
-def region(at: Coord, command: Command) -> Optional[Box]:
-    """The region that a command fills or voids, if it does so."""
-    if command.word in ("Fill", "Void"):
-        c = plus(at, command.differences[0])
-        return c, c
-    return boxes(at, command)[0] if command.word in ("GFill", "GVoid") else None
-
-
-def has(box: Box, c: Coord) -> bool:
-    return all(low <= n <= high for low, n, high in zip(box[0], c, box[1]))
+    Raises `BrokenRule` at a step that is refused, and at the end of a trace that ends too early; `BadCommands`; `RefusedModel`, TypeError,
+    OSError or MemoryError. What follows a Halt is not looked at: `judge` does. 50,000 steps of one bot take about a second."""
+    data = bytes_of(trace, "the trace")
+    with Machine(source, resolution=resolution, light=light) as machine:
+        before, offset, full = machine.state, 0, machine.count()
+        active, energy, high = before.active, 0, before.high
+        while active:
+            orders, end = orders_at(data, offset, machine.bots())
+            if len(orders) < active:
+                raise trace_ends(machine, len(orders))
+            made = machine.step(data[offset:end])
+            upkeep = (30 if high else 3) * before.resolution**3 + 20 * active
+            cost = made.energy - energy
+            filled, voided = _changes(machine, orders, cost - upkeep - sum(map(_work, orders)), full)
+            yield TracedStep(made.steps, offset, tuple(orders), cost, made.energy, high, made.active, filled, voided)
+            offset, active, energy, full = end, made.active, made.energy, full + filled - voided
+            high ^= sum(isinstance(it.command, Flip) for it in orders) % 2 == 1

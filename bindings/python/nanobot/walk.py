@@ -3,14 +3,15 @@
 from __future__ import annotations
 
 import cmd
-from typing import List, Optional
+from array import array
+from typing import Any, Optional
 
-from .errors import BadCommands, BrokenRule, Coord, OutOfSpace
-from .explain import machine_of
-from .machine import Source, bytes_of
-from .rows import Refused, judge
-from .trace import next_step
-from .why import Row, described, groups_of, why
+from .errors import BadCommands, BrokenRule, Coord, OutOfSpace, Refused
+from .machine import Machine, Source, bytes_of
+from .progress import Progress
+from .rows import judge
+from .trace import Player, machine_of, orders_at
+from .why import Row, described, groups_of, spaced, why
 
 NOTES = 4096
 
@@ -18,19 +19,22 @@ NOTES = 4096
 class Walk(cmd.Cmd):
     """The machine of a trace, which goes forwards and backwards to any step."""
 
-    intro = "step [N], back [N], to N, broken, state, bots, groups, voxel X Y Z, layer Y, help, quit"
+    intro: Any = "step [N], back [N], to N, broken, state, bots, groups, voxel X Y Z, layer Y, help, quit"
 
-    def __init__(self, source: Optional[Source], target: Optional[Source], trace: Source, *, light: bool = False, **options) -> None:
+    def __init__(self, source: Optional[Source], target: Optional[Source], trace: Source, *, light: bool = False, **options: Any) -> None:
         super().__init__(**options)
         self.is_asked = self.stdin.isatty()
         if not self.is_asked:
             self.intro = None
         self.data = bytes_of(trace)
-        self.ends: List[int] = [0]
-        self.start = lambda: machine_of(source, target, light=light, notes=NOTES)
-        self.whole = lambda: judge(source, target, self.data, light=light)
-        self.machine = self.start()
+        self.ends = array("Q", [0])
+        self._models, self._light = (source, target), light
+        self.machine = self._start()
         self._ask()
+
+    def _start(self) -> Machine:
+        """The machine before the first step."""
+        return machine_of(*self._models, light=self._light, notes=NOTES)
 
     def say(self, text: str) -> None:
         self.stdout.write(text + "\n")
@@ -40,11 +44,10 @@ class Walk(cmd.Cmd):
         self.prompt = f"{self.machine.steps}> " if self.is_asked else ""
 
     def _row(self) -> Row:
-        bots = self.machine.bots()
-        return list(zip(bots, next_step(self.data, self.ends[-1], len(bots))))
+        return orders_at(self.data, self.ends[-1], self.machine.bots())[0]
 
     def _told_row(self) -> Row:
-        """The next step, or none where its bytes are no commands, which is said."""
+        """The next step, or none if its bytes are no commands, which is said."""
         try:
             return self._row()
         except BadCommands as bad:
@@ -55,47 +58,56 @@ class Walk(cmd.Cmd):
         """Says that no step is left, and why the whole trace is refused all the same, where it is."""
         self.say("ended")
         try:
-            self.whole()
+            judge(*self._models, self.data, light=self._light)
         except Refused as refused:
             self.say(refused.line)
 
-    def _forwards(self) -> bool:
-        """Makes one step, or says why none is made."""
+    def _say_why(self) -> None:
+        """Says why the next step is not made."""
         active = self.machine.state.active
         if not active:
             self._end()
-            return False
+            return
         try:
-            row = self._row()
-            end = self.ends[-1] + sum(command.size for _, command in row)
+            row, end = orders_at(self.data, self.ends[-1], self.machine.bots())
             if len(row) < active:
                 self.say(f"the trace ends: {len(row)} commands for {active} bots")
-                return False
-            self.machine.step(self.data[self.ends[-1] : end])
+                return
+            self.machine.judge(self.data[self.ends[-1] : end])
         except BadCommands as bad:
             self.say(str(bad))
-            return False
         except BrokenRule as broken:
             self.say(str(broken))
             for line in why(self.machine, broken, row):
                 self.say(line)
-            return False
-        self.ends.append(end)
-        return True
+
+    def _forwards(self, most: Optional[int] = None) -> None:
+        """Makes so many steps, or all, and says why one is not made."""
+        wanted = None if most is None else self.machine.steps + most
+        progress = Progress("walk", len(self.data))
+        try:
+            Player(self.machine, self.data, self.ends, self.ends[-1]).play(most, progress)
+        finally:
+            progress.clear()
+        if wanted is None or self.machine.steps < wanted:
+            self._say_why()
 
     def _back_to(self, wanted: int) -> None:
         """Takes steps back; past the notes the trace is walked anew from its start."""
         if wanted < self.machine.steps - self.machine.state.noted:
             self.machine.close()
-            self.machine = self.start()
-            for begin, end in zip(self.ends, self.ends[1 : wanted + 1]):
-                self.machine.step(self.data[begin:end])
+            self.machine = self._start()
+            progress = Progress("walk", len(self.data))
+            try:
+                Player(self.machine, self.data).play(wanted, progress)
+            finally:
+                progress.clear()
         while self.machine.steps > wanted:
             self.machine.undo()
         del self.ends[wanted + 1 :]
 
-    def _number(self, words: str, default: int) -> Optional[int]:
-        if not words:
+    def _number(self, words: str, default: Optional[int]) -> Optional[int]:
+        if not words and default is not None:
             return default
         if words.isdecimal():
             return int(words)
@@ -107,9 +119,9 @@ class Walk(cmd.Cmd):
         self.say(f"step {state.steps} energy {state.energy} bots {state.active} {'high' if state.high else 'low'}")
 
     def _go(self, wanted: int) -> None:
-        while self.machine.steps < wanted and self._forwards():
-            pass
-        if self.machine.steps > wanted:
+        if self.machine.steps < wanted:
+            self._forwards(wanted - self.machine.steps)
+        elif self.machine.steps > wanted:
             self._back_to(wanted)
         self._stand()
 
@@ -127,14 +139,13 @@ class Walk(cmd.Cmd):
 
     def do_to(self, words: str) -> None:
         """to N: goes to the place after N steps."""
-        n = self._number(words, self.machine.steps)
+        n = self._number(words, None)
         if n is not None:
             self._go(n)
 
     def do_broken(self, _: str) -> None:
         """broken: goes on until a step is refused or the run ends."""
-        while self._forwards():
-            pass
+        self._forwards()
         self._stand()
 
     def do_state(self, _: str) -> None:
@@ -147,12 +158,12 @@ class Walk(cmd.Cmd):
         for line in described(row):
             self.say(line)
         for bot in self.machine.bots()[len(row) :]:
-            self.say(f"  bot {bot.bid} at {bot.at.x} {bot.at.y} {bot.at.z}: no command")
+            self.say(f"  bot {bot.bid} at {spaced(bot.at)}: no command")
 
     def do_groups(self, _: str) -> None:
         """groups: the groups of the next step."""
         for members in groups_of(self._told_row()):
-            self.say(f"group {members[0][0].bid}: " + " ".join(str(it.bid) for it, _ in members))
+            self.say(f"group {members[0].bot.bid}: " + " ".join(str(it.bot.bid) for it in members))
 
     def do_voxel(self, words: str) -> None:
         """voxel X Y Z: whether a voxel is full, and its level."""
@@ -171,11 +182,14 @@ class Walk(cmd.Cmd):
     def do_layer(self, words: str) -> None:
         """layer Y: the voxels of a layer, x to the right and z down; bots by `o`."""
         y, r = self._number(words, 0), self.machine.state.resolution
-        if y is None or y >= r:
+        if y is None:
             return
-        bots = {bot.at for bot in self.machine.bots()}
+        if y >= r:
+            self.say(f"y is 0 to {r - 1}")
+            return
+        bots, matrix = {bot.at for bot in self.machine.bots()}, self.machine.matrix()
         for z in range(r):
-            self.say("".join("o" if (x, y, z) in bots else "#" if self.machine.full((x, y, z)) else "." for x in range(r)))
+            self.say("".join("o" if (x, y, z) in bots else "#" if matrix[x, y, z] else "." for x in range(r)))
 
     def do_quit(self, _: str) -> bool:
         """quit: ends."""
@@ -187,5 +201,6 @@ class Walk(cmd.Cmd):
         return False
 
     def postcmd(self, stop: bool, line: str) -> bool:
+        self.stdout.flush()
         self._ask()
         return stop

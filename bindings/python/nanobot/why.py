@@ -1,14 +1,16 @@
-"""What of a step's commands has to do with the rule that they break, and what was wanted in their place."""
+"""Which commands of a step have to do with the rule that they break, and what was wanted in their place."""
 
 from __future__ import annotations
 
-from typing import Iterator, List, Tuple
+from typing import Callable, Dict, Iterator, List, Sequence
 
-from .errors import BrokenRule, Coord
+from .commands import Command
+from .errors import BadCommands, BrokenRule, Coord, Ended, TooManySteps, WrongCount
+from .geometry import Box, boxes, corners_of, has, is_near, meets, named, region
 from .machine import Bot, Machine
-from .trace import Box, Command, boxes, has, named, region
+from .trace import Order, orders_at
 
-Row = List[Tuple[Bot, Command]]
+Row = Sequence[Order]
 
 PAIRS = {"FusionP": "FusionS", "FusionS": "FusionP"}
 
@@ -19,12 +21,12 @@ def spaced(c: Coord) -> str:
 
 def described(row: Row) -> Iterator[str]:
     """The bots of a step with their commands."""
-    for bot, command in row:
-        yield f"  byte {command.offset}: bot {bot.bid} at {spaced(bot.at)}: {command}"
+    for bot, command, offset in row:
+        yield f"  byte {offset}: bot {bot.bid} at {spaced(bot.at)}: {command}"
 
 
 def command_of(row: Row, bot: Bot) -> Command:
-    return next(command for it, command in row if it.bid == bot.bid)
+    return next(it.command for it in row if it.bot.bid == bot.bid)
 
 
 def group_of(row: Row, bot: Bot) -> Row:
@@ -32,29 +34,29 @@ def group_of(row: Row, bot: Bot) -> Row:
     own = command_of(row, bot)
     if own.word in ("GFill", "GVoid"):
         wanted = region(bot.at, own)
-        return [(it, command) for it, command in row if command.word == own.word and region(it.at, command) == wanted]
+        return [it for it in row if it.command.word == own.word and region(it.bot.at, it.command) == wanted]
     if own.word in PAIRS:
         there = named(bot.at, own)[0]
-        return [
-            (it, command)
-            for it, command in row
-            if it.bid == bot.bid or (it.at == there and command.word == PAIRS[own.word] and named(it.at, command)[0] == bot.at)
-        ]
-    return [(bot, own)]
+
+        def is_partner(it: Order) -> bool:
+            return it.bot.at == there and it.command.word == PAIRS[own.word] and named(it.bot.at, it.command)[0] == bot.at
+
+        return [it for it in row if it.bot.bid == bot.bid or is_partner(it)]
+    return [it for it in row if it.bot.bid == bot.bid]
 
 
 def groups_of(row: Row) -> List[Row]:
     """The groups of a step, in rising order of their leaders."""
     out: List[Row] = []
-    for bot, _ in row:
-        if not any(bot.bid == it.bid for members in out for it, _ in members):
+    for bot, _, _ in row:
+        if not any(bot.bid == it.bot.bid for members in out for it in members):
             out.append(group_of(row, bot))
     return out
 
 
 def _uses(row: Row, c: Coord) -> bool:
     """Whether a coordinate is volatile for some bot."""
-    return any(bot.at == c or any(has(box, c) for box in boxes(bot.at, command)) for bot, command in row)
+    return any(bot.at == c or any(has(box, c) for box in boxes(bot.at, command)) for bot, command, _ in row)
 
 
 def _between(box: Box) -> str:
@@ -76,7 +78,7 @@ def _halt_alone(machine: Machine, broken: BrokenRule, row: Row, own: Row) -> Ite
 
 def _halt_origin(machine: Machine, broken: BrokenRule, row: Row, own: Row) -> Iterator[str]:
     yield from described(own)
-    yield f"wanted: a bot at 0 0 0; it is at {spaced(own[0][0].at)}"
+    yield f"wanted: a bot at 0 0 0; it is at {spaced(own[0].bot.at)}"
 
 
 def _halt_low(machine: Machine, broken: BrokenRule, row: Row, own: Row) -> Iterator[str]:
@@ -87,7 +89,7 @@ def _halt_low(machine: Machine, broken: BrokenRule, row: Row, own: Row) -> Itera
 def _out_of_space(machine: Machine, broken: BrokenRule, row: Row, own: Row) -> Iterator[str]:
     last = machine.state.resolution - 1
     yield from described(own)
-    outside = next(c for c in named(own[0][0].at, own[0][1]) if not all(0 <= n <= last for n in c))
+    outside = next(c for c in named(own[0].bot.at, own[0].command) if not all(0 <= n <= last for n in c))
     yield f"wanted: coordinates from 0 0 0 to {last} {last} {last}; named is {spaced(outside)}"
 
 
@@ -97,22 +99,22 @@ def _blocked(machine: Machine, broken: BrokenRule, row: Row, own: Row) -> Iterat
 
 
 def _seeds(machine: Machine, broken: BrokenRule, row: Row, own: Row) -> Iterator[str]:
-    bot, command = own[0]
+    bot, command, _ = own[0]
     yield from described(own)
     yield f"wanted: {(command.seeds or 0) + 1} seeds; bot {bot.bid} has {len(bot.seeds)}"
 
 
 def _in_region(machine: Machine, broken: BrokenRule, row: Row, own: Row) -> Iterator[str]:
-    bot, command = own[0]
+    bot, command, _ = own[0]
     yield from described(own)
     yield f"wanted: a bot outside its region; {_between(boxes(bot.at, command)[0])} has {spaced(bot.at)}"
 
 
 def _partner(machine: Machine, broken: BrokenRule, row: Row, own: Row) -> Iterator[str]:
-    bot, command = own[0]
+    bot, command, _ = own[0]
     there = named(bot.at, command)[0]
-    beside = [(it, other) for it, other in row if it.at == there]
-    yield from described(own + beside)
+    beside = [it for it in row if it.bot.at == there]
+    yield from described([*own, *beside])
     if not beside:
         yield f"  no bot is at {spaced(there)}"
     back = ",".join(str(-n) for n in command.differences[0])
@@ -120,29 +122,40 @@ def _partner(machine: Machine, broken: BrokenRule, row: Row, own: Row) -> Iterat
 
 
 def _group_shape(machine: Machine, broken: BrokenRule, row: Row, own: Row) -> Iterator[str]:
-    members = group_of(row, own[0][0])
-    box = boxes(own[0][0].at, own[0][1])[0]
-    corners = 2 ** sum(a != b for a, b in zip(*box))
-    yield f"the group of bot {members[0][0].bid}:"
+    members, box = group_of(row, own[0].bot), boxes(own[0].bot.at, own[0].command)[0]
+    corners = corners_of(box)
+    yield f"the group of bot {members[0].bot.bid}:"
     yield from described(members)
-    yield f"wanted: {corners} bots, one for each corner of {_between(box)}"
-    corner_of = [(named(bot.at, command)[0], bot.bid) for bot, command in members]
-    for corner in sorted({c for c, _ in corner_of}):
-        bids = [str(bid) for c, bid in corner_of if c == corner]
+    yield f"wanted: {len(corners)} bots, one for each corner of {_between(box)}"
+    bids_at = {corner: [it.bot.bid for it in members if named(it.bot.at, it.command)[0] == corner] for corner in corners}
+    for corner, bids in bids_at.items():
         if len(bids) > 1:
-            yield f"the corner {spaced(corner)} is that of bots {' '.join(bids)}"
+            yield f"the corner {spaced(corner)} is that of bots {' '.join(map(str, bids))}"
+    lacking = [corner for corner, bids in bids_at.items() if not bids]
+    for corner in lacking:
+        yield f"the corner {spaced(corner)} has no bot"
+    others = [it for it in row if it not in members and _may_belong(it, box, lacking)]
+    if others:
+        yield "bots near such a corner, or with a region that meets this one:"
+        yield from described(others)
+
+
+def _may_belong(order: Order, box: Box, lacking: Sequence[Coord]) -> bool:
+    """Whether a bot outside the group is near a corner that lacks one, or fills or voids some of the group's region."""
+    other = region(order.bot.at, order.command)
+    return any(is_near(order.bot.at, corner) for corner in lacking) or (other is not None and meets(other, box))
 
 
 def _interference(machine: Machine, broken: BrokenRule, row: Row, own: Row) -> Iterator[str]:
     for members in groups_of(row):
         if _uses(members, broken.at):
-            yield f"the group of bot {members[0][0].bid} uses {spaced(broken.at)}:"
+            yield f"the group of bot {members[0].bot.bid} uses {spaced(broken.at)}:"
             yield from described(members)
 
 
 def _ungrounded(machine: Machine, broken: BrokenRule, row: Row, own: Row) -> Iterator[str]:
     yield "what fills, voids or flips in the step:"
-    yield from described([(bot, command) for bot, command in row if region(bot.at, command) or command.word == "Flip"])
+    yield from described([it for it in row if region(it.bot.at, it.command) or it.command.word == "Flip"])
     yield f"wanted: a path of full voxels from {spaced(broken.at)} to the floor, as harmonics are Low after the step"
 
 
@@ -151,7 +164,7 @@ def _forbidden(machine: Machine, broken: BrokenRule, row: Row, own: Row) -> Iter
     yield "wanted: a command that the light profile allows: no Void, GFill or GVoid"
 
 
-WHY = {
+WHY: Dict[str, Callable[[Machine, BrokenRule, Row, Row], Iterator[str]]] = {
     "TraceEnds": _trace_ends,
     "HaltAlone": _halt_alone,
     "HaltOrigin": _halt_origin,
@@ -170,5 +183,21 @@ WHY = {
 
 def why(machine: Machine, broken: BrokenRule, row: Row) -> Iterator[str]:
     """The lines that tell why a step is refused, of a machine before it: which of its commands break the rule, and what was wanted."""
-    own = [(bot, command) for bot, command in row if bot.bid == broken.bid]
+    own = [it for it in row if it.bot.bid == broken.bid]
     return WHY[broken.name](machine, broken, row, own)
+
+
+def why_refused(machine: Machine, data: bytes) -> List[str]:
+    """The lines of `Machine.why` for the bytes of a step."""
+    try:
+        machine.judge(data)
+    except BrokenRule as broken:
+        return [str(broken), *why(machine, broken, orders_at(data, 0, machine.bots())[0])]
+    except WrongCount as wrong:
+        bots = machine.bots()
+        row = orders_at(data, 0, bots)[0]
+        lacking = [f"  bot {bot.bid} at {spaced(bot.at)}: no command" for bot in bots[len(row) :]]
+        return [str(wrong), *described(row), *lacking]
+    except (BadCommands, Ended, TooManySteps) as refused:
+        return [str(refused)]
+    return []

@@ -1,11 +1,17 @@
 """Tests of the package: `python -m unittest discover -s tests` in bindings/python, with the library built."""
 
+import concurrent.futures
 import copy
+import errno
+import inspect
+import mmap
 import os
 import pickle
 import unittest
+import unittest.mock
 
 import nanobot
+import nanobot._library as lib
 from nanobot import Coord, Machine
 
 TOP = os.path.dirname(os.path.dirname(os.path.dirname(os.path.dirname(os.path.abspath(__file__)))))
@@ -88,6 +94,78 @@ class Judging(unittest.TestCase):
             self.assertEqual(machine.count(), 0)
 
 
+class Commands(unittest.TestCase):
+    """A step's commands as bytes, as values, in a list, and by the bots' bids."""
+
+    def test_each_form(self):
+        two = [nanobot.Wait(), nanobot.SMove(0, 0, 1)]
+        for form in (b"\xfe\x34\x10", bytearray(b"\xfe\x34\x10"), two, tuple(two), [b"\xfe", two[1]], {2: two[1]}, {1: b"\xfe", 2: two[1]}):
+            with self.subTest(form=form), Machine(resolution=5) as machine:
+                machine.step(nanobot.Fission((0, 0, 1), 5))
+                judged = machine.judge(form)
+                self.assertEqual(machine.step(form).energy, judged.energy)
+                self.assertEqual([bot.at for bot in machine.bots()], [(0, 0, 0), (0, 0, 2)])
+                self.assertEqual(machine.bids(), [1, 2])
+
+    def test_a_bot_that_is_not_active(self):
+        with Machine(resolution=5) as machine:
+            with self.assertRaises(nanobot.NoBot) as caught:
+                machine.step({1: nanobot.Wait(), 3: nanobot.Wait()})
+            self.assertEqual((caught.exception.bid, caught.exception.active, machine.steps), (3, (1,), 0))
+            with self.assertRaises(nanobot.WrongCount) as wrong:
+                machine.step([nanobot.Wait(), nanobot.Wait()])
+            self.assertEqual(str(wrong.exception), "2 commands for 1 active bot")
+            machine.step(nanobot.Halt())
+            self.assertRaises(nanobot.Ended, machine.step, {})
+
+    def test_why_a_step_is_refused(self):
+        with Machine(resolution=4) as machine:
+            self.assertEqual(machine.why(nanobot.Wait()), [])
+            said = machine.why(nanobot.Fill(0, 1, 0))
+            self.assertEqual((said[0], said[2]), ("broken 12 Ungrounded step 1 bid 0 at 0 1 0", "  byte 0: bot 1 at 0 0 0: Fill <0,1,0>"))
+            self.assertEqual(machine.why(b"\x04"), ["no command at byte 0"])
+            machine.step(SPLIT)
+            self.assertEqual(machine.why(WAIT)[::2], ["1 command for 2 active bots", "  bot 2 at 0 0 1: no command"])
+            self.assertEqual(machine.state.steps, 1)
+
+
+class Threads(unittest.TestCase):
+    def test_a_machine_moves_to_another_thread(self):
+        machine = Machine(resolution=4, notes=2)
+        machine.step(WAIT)
+        with concurrent.futures.ThreadPoolExecutor(2) as pool:
+            self.assertEqual(pool.submit(machine.step, WAIT).result().steps, 2)
+            copies = [machine.copy() for _ in range(4)]
+            energies = list(pool.map(lambda it: [it.step(WAIT).energy for _ in range(500)][-1], copies))
+            self.assertEqual(set(energies), {502 * (3 * 64 + 20)})
+            pool.submit(machine.undo).result()
+            self.assertEqual(machine.steps, 1)
+            pool.submit(machine.close).result()
+        self.assertRaises(nanobot.Closed, machine.undo)
+
+
+class Shown(unittest.TestCase):
+    def test_a_machine(self):
+        with Machine(resolution=20, light=True) as machine:
+            machine.step(FLIP)
+            self.assertEqual(repr(machine), "<Machine light resolution=20 steps=1 energy=24020 1 bot high>")
+            self.assertEqual((machine.resolution, machine.high, machine.light, machine.copy().light), (20, True, True, True))
+        self.assertEqual(repr(machine), "<Machine, closed>")
+
+
+class Helping(unittest.TestCase):
+    def test_each_call_has_a_page_of_its_own(self):
+        for name in nanobot.__all__:
+            page = inspect.getdoc(getattr(nanobot, name)) or ""
+            with self.subTest(name=name):
+                self.assertGreater(len(page), 15)
+                self.assertNotIn("he same", page.split("\n")[0])
+        for name, call in inspect.getmembers(Machine, inspect.isfunction):
+            if not name.startswith("_"):
+                with self.subTest(method=name):
+                    self.assertTrue(inspect.getdoc(call))
+
+
 class Traces(unittest.TestCase):
     def test_the_commands_that_were_made(self):
         with Machine(resolution=3, notes=2, trace=True) as machine:
@@ -157,10 +235,10 @@ class Models(unittest.TestCase):
             self.assertRaises(nanobot.RefusedModel, empty.difference, b"\x03\x00")
 
     def test_numbers_that_are_refused(self):
-        for wrong in ({"resolution": 0}, {"resolution": 401}, {"resolution": 2, "notes": 4097}, {"resolution": 2, "notes": -1}, {}):
+        for wrong in ({"resolution": 0}, {"resolution": 401}, {"resolution": 2, "notes": 4097}, {"resolution": 2, "notes": -1}):
             with self.assertRaises(ValueError):
                 Machine(**wrong)
-        for wrong in ({"resolution": True}, {"resolution": 2.0}, {"resolution": "2"}, {"resolution": 2, "notes": False}):
+        for wrong in ({"resolution": True}, {"resolution": 2.0}, {"resolution": "2"}, {"resolution": 2, "notes": False}, {}):
             with self.assertRaises(TypeError):
                 Machine(**wrong)
 
@@ -191,17 +269,31 @@ class Descriptors(unittest.TestCase):
 
     def test_what_is_no_file_and_no_bytes(self):
         before = sorted(os.listdir("/proc/self/fd"))
-        for wrong in (0, 1, 2, True, 2.5, [1], (1,), {1}, memoryview(b"\x14")):
+        for wrong in (0, 1, 2, True, 2.5, [1], (1,), {1}):
             for name, call in self.CALLS.items():
-                with self.subTest(call=name, given=wrong), self.assertRaisesRegex(TypeError, f"not {type(wrong).__name__}$"):
+                is_list = name in ("a step", "a judgement") and isinstance(wrong, (list, tuple))
+                kind = "int" if is_list else type(wrong).__name__
+                with self.subTest(call=name, given=wrong), self.assertRaisesRegex(TypeError, f"not {kind}\\b"):
                     call(wrong)
         self.assertEqual(sorted(os.listdir("/proc/self/fd")), before)
+
+    def test_what_is_wanted_is_said(self):
+        with self.assertRaisesRegex(TypeError, "did you mean resolution=20"):
+            Machine(20)
+        with self.assertRaisesRegex(TypeError, r"the trace \(after the source and the target\) as bytes"):
+            nanobot.judge(WAIT, HOUSE, None)
+        with Machine(resolution=2) as machine:
+            with self.assertRaisesRegex(TypeError, "nanobot.asm makes bytes of a text"):
+                machine.step("Wait")
+            for wrong in ((1, 1), (1.5, 1, 1), "111", 5):
+                with self.assertRaisesRegex(TypeError, "three whole numbers"):
+                    machine.full(wrong)
 
     def test_none(self):
         may_be_none = {"judge, source", "judge, target", "plan_layer", "plan_group", "plan_crew"}
         for name, call in self.CALLS.items():
             if name not in may_be_none:
-                with self.subTest(call=name), self.assertRaises(ValueError if name == "a machine" else TypeError):
+                with self.subTest(call=name), self.assertRaises(TypeError):
                     call(None)
 
 
@@ -276,6 +368,74 @@ class Rows(unittest.TestCase):
                         size += 1
                 at += size
             self.assertEqual((machine.energy, machine.steps, at), (cost.energy, cost.steps, len(plan)))
+
+
+class Plans(unittest.TestCase):
+    PLAN = b"\xfe" * 200_000 + b"\xff"
+
+    def plan(self, *given):
+        """Stands in for a planner of the library: a plan of more bytes than a small buffer has."""
+        *_, buffer, room, size = given
+        self.calls += 1
+        size._obj.value = len(self.PLAN)
+        if room < len(self.PLAN):
+            return lib.TOO_SMALL
+        buffer[: len(self.PLAN)] = self.PLAN
+        return lib.DONE
+
+    def test_a_large_plan_is_made_once(self):
+        self.calls = 0
+        with unittest.mock.patch.object(lib.library, "plan_crew", self.plan, create=True):
+            self.assertEqual(nanobot.plan_crew(None, HOUSE), self.PLAN)
+        self.assertEqual(self.calls, 1)
+
+    def test_a_plan_for_which_the_system_gives_little_memory(self):
+        self.calls, mapped = 0, mmap.mmap
+
+        def refuse(number, room, **options):
+            if room > 150_000:
+                raise OSError(errno.ENOMEM, "out of memory")
+            return mapped(number, room, **options)
+
+        with unittest.mock.patch.object(lib.library, "plan_crew", self.plan, create=True), unittest.mock.patch("mmap.mmap", refuse):
+            self.assertRaises(MemoryError, nanobot.plan_crew, None, HOUSE)
+        self.assertEqual(self.calls, 1)
+
+
+class StepsOfTraces(unittest.TestCase):
+    def test_a_profile_is_one_pass(self):
+        for plan, source, target in (
+            (nanobot.plan_crew(None, HOUSE), None, HOUSE),
+            (nanobot.plan_void(HOUSE), HOUSE, None),
+            (nanobot.plan_layer(HOUSE, None), HOUSE, None),
+        ):
+            cost, made = nanobot.judge(source, target, plan), list(nanobot.steps(source, plan, resolution=None if source else 20))
+            self.assertEqual((len(made), made[-1].energy, sum(it.cost for it in made)), (cost.steps, cost.energy, cost.energy))
+            self.assertEqual(sum(it.filled for it in made) - sum(it.voided for it in made), 388 if target else -388)
+            self.assertEqual(b"".join(bytes(order.command) for it in made for order in it.orders), plan)
+            self.assertEqual(made[-1].active, 0)
+
+    def test_fills_and_voids_in_one_step(self):
+        # voids the full voxel 1 0 1, fills the void voxel 0 0 1, and fills what is full
+        for first, second, changed in (
+            (nanobot.Fill(0, 0, 1), nanobot.Void(0, 0, 1), (1, 1)),
+            (nanobot.Void(0, 0, 1), nanobot.Fill(0, 0, 1), (0, 0)),
+            (nanobot.Void(0, 0, 1), nanobot.Void(0, 0, 1), (0, 1)),
+            (nanobot.Fill(0, 0, 1), nanobot.Fill(0, 0, 1), (1, 0)),
+        ):
+            trace = FLIP + bytes(nanobot.Fission((1, 0, 0), 1)) + bytes(first) + bytes(second)
+            with self.assertRaises(nanobot.BrokenRule) as caught:
+                for step in nanobot.steps(b"\x03\x00\x04\x00\x00", trace):
+                    last = step
+            self.assertEqual(((last.filled, last.voided), last.high, caught.exception.name), (changed, True, "TraceEnds"))
+
+    def test_a_step_that_is_refused(self):
+        made = []
+        with self.assertRaises(nanobot.BrokenRule) as caught:
+            made.extend(nanobot.steps(None, WAIT + FILL_ABOVE, resolution=4))
+        self.assertEqual((caught.exception.rule, caught.exception.step), (12, 2))
+        self.assertRaises(nanobot.BadCommands, list, nanobot.steps(None, WAIT + b"\x04", resolution=4))
+        self.assertRaises(TypeError, list, nanobot.steps(None, WAIT))
 
 
 if __name__ == "__main__":

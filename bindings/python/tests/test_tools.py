@@ -1,16 +1,18 @@
-"""Tests of the tools over small traces, and of a walk in a terminal. `scripts/try_explain` of the repository breaks each rule by each
+"""Tests of the tools over small traces, and of a walk in a terminal. `scripts/try explain` of the repository breaks each rule by each
 command that can break it."""
 
 import io
 import os
 import pty
+import signal
 import subprocess
 import sys
 import tempfile
 import unittest
 
+import nanobot
 from nanobot.explain import explain
-from nanobot.models import coords_of, resolution_of, voxels_of
+from nanobot.progress import Progress
 from nanobot.walk import Walk
 
 HERE = os.path.dirname(os.path.dirname(os.path.abspath(__file__)))
@@ -82,19 +84,33 @@ class Explaining(unittest.TestCase):
         self.assertEqual(lines(E3, P3[:3], POST), ["target 3 Short want 5 have 3"])
         self.assertEqual(lines(E3, b"\x01\x00", POST), ["resolutions 3 1"])
 
+    def test_a_group_that_lacks_a_bot(self):
+        # both bots are to fill the line from 1 0 1 to 3 0 1, and the second one names a shorter one
+        trace = nanobot.asm("Fission <1,0,0> 1\nWait\nSMove <3,0,0>\nGFill <1,0,1> <2,0,0>\nGFill <-1,0,1> <-1,0,0>\n")
+        told = lines(b"\x05" + bytes(16), None, trace)
+        self.assertEqual(told[0], "broken 10 GroupShape step 3 bid 1 at 0 0 0")
+        self.assertEqual(
+            told[5:],
+            [
+                "the corner 3 0 1 has no bot",
+                "bots near such a corner, or with a region that meets this one:",
+                "  byte 9: bot 2 at 4 0 0: GFill <-1,0,1> <-1,0,0>",
+            ],
+        )
+
+    def test_the_first_voxel_that_the_target_has_not(self):
+        target = nanobot.Model.from_voxels(5, [(1, 0, 1)])
+        good = [nanobot.Wait()] * 3 + [nanobot.SMove(1, 0, 0), nanobot.Fill(0, 0, 1)]
+        for voxel, at in ((nanobot.Fill(1, 0, 0), "2 0 0"), (nanobot.Fill(0, 0, 1), None)):
+            trace = b"".join(map(bytes, [*good, voxel, *[nanobot.Wait()] * 9, nanobot.Fill(0, 1, 0)]))
+            hint = [line for line in lines(None, target, trace) if line.startswith("since")]
+            self.assertEqual(hint, [f"since step 6 the voxel {at} is full, which is void in the target"] if at else [])
+        # what the source has is no mistake
+        self.assertEqual([it for it in lines(target, None, b"\xfe\x83") if it.startswith("since")], [])
+
     def test_what_follows_a_halt(self):
         told = lines(P3, P3, b"\xff\xfe")
         self.assertEqual(told[1], "the last bot halts in step 1, and 1 bytes are left from byte 1 on")
-
-
-class Models(unittest.TestCase):
-    def test_both_forms(self):
-        self.assertEqual((resolution_of(P3), list(coords_of(voxels_of(P3), 3))), (3, [(1, 0, 1)]))
-        # padding bits belong to no voxel
-        self.assertEqual(voxels_of(b"\x01\xfe"), 0)
-        # one full voxel at place 251 * 251 + 1: (1,0,1)
-        wide = b"\xff\x00\xfb" + b"".join(n.to_bytes(4, "big") for n in (63002, 1, 251**3 - 63003))
-        self.assertEqual((resolution_of(wide), list(coords_of(voxels_of(wide), 251))), (251, [(1, 0, 1)]))
 
 
 class Walking(unittest.TestCase):
@@ -138,12 +154,40 @@ class Walking(unittest.TestCase):
         self.assertEqual(self.walk("step 2", "layer 0")[1:], [".o.", ".#.", "..."])
 
     def test_words_that_are_not_understood(self):
-        self.assertEqual(self.walk("step x", "voxel 1", "voxel 9 9 9"), ["that is no number", "voxel X Y Z", "9 9 9 is out of space"])
+        said = self.walk("step x", "voxel 1", "voxel 9 9 9", "to", "layer 3")
+        self.assertEqual(said, ["that is no number", "voxel X Y Z", "9 9 9 is out of space", "that is no number", "y is 0 to 2"])
 
     def test_past_the_notes(self):
         trace = b"\xfe" * 4200 + b"\xff"
         said = self.walk("to 4200", "to 3", "step", trace=trace)
         self.assertEqual(said, ["step 4200 energy 424200 bots 1 low", "step 3 energy 303 bots 1 low", "step 4 energy 404 bots 1 low"])
+
+    def test_an_interrupt_ends_quietly(self):
+        with tempfile.TemporaryDirectory() as folder:
+            name = os.path.join(folder, "b")
+            with open(name, "wb") as file:
+                file.write(POST)
+            words = [sys.executable, "-m", "nanobot", "walk", "-", os.path.join(folder, "t"), name]
+            with open(words[5], "wb") as file:
+                file.write(P3)
+            with subprocess.Popen(words, cwd=HERE, stdin=subprocess.PIPE, stdout=subprocess.PIPE, stderr=subprocess.PIPE) as ran:
+                ran.stdin.write(b"step\n")
+                ran.stdin.flush()
+                self.assertEqual(ran.stdout.readline(), b"step 1 energy 103 bots 1 low\n")
+                ran.send_signal(signal.SIGINT)
+                _, errors = ran.communicate(timeout=60)
+        self.assertEqual((ran.returncode, errors), (-signal.SIGINT, b""))
+
+    def test_progress(self):
+        shown = io.StringIO()
+        shown.isatty = lambda: True
+        progress = Progress("walk", 200, shown)
+        progress.show(10)
+        self.assertEqual(shown.getvalue(), "")
+        progress._due = 0
+        progress.show(50)
+        progress.clear()
+        self.assertEqual(shown.getvalue(), "\rwalk: 25 %\r          \r")
 
     def test_in_a_terminal(self):
         with tempfile.TemporaryDirectory() as folder:

@@ -1,5 +1,5 @@
 -- The words of a chunk in which every place holds one, and what writing one word into a range makes of them.
-use Rattle.std.proofs.Common.{◌≡◌, ℕ, ◌<◌, suc, zero, List, [], ◌∷◌, refl, sym, ap, ◌∙◌, arith, true, Some, None, Option, length, get_or, set, length-set, inl, inr}
+use Rattle.std.proofs.Common.{◌≡◌, ℕ, ◌<◌, suc, zero, List, [], ◌∷◌, refl, sym, ap, ◌∙◌, arith, true, Some, None, Option, length, get_or, set, inl, inr}
 use Rattle.std.proofs.lemmas.Bool.{cases_lt}
 use Rattle.std.proofs.lemmas.List.{get_or_past}
 use Rattle.brick_arena.specs.Chunks.{SetsRange, IsBlank}
@@ -29,17 +29,6 @@ pub known-set : (cs : List (Option ℕ)) (i w : ℕ) → known (set cs i (Some w
 known-set [] i w = refl
 known-set (c ∷ cs) zero w = refl
 known-set (c ∷ cs) (suc i) w = ap (λ l. word_or_zero c ∷ l) (known-set cs i w)
-
-pub filled-set : (cs : List (Option ℕ)) (i w : ℕ) → AllFilled cs → AllFilled (set cs i (Some w))
-filled-set cs i w all k lt = let set_length = length-set cs i (Some w) in stays cs i k w (all k (omega (arith, set_length, lt)))
-  where
-    stays : (cs : List (Option ℕ)) (i k w : ℕ) → is_word (get_or cs k None) ≡ true
-        → is_word (get_or (set cs i (Some w)) k None) ≡ true
-    stays [] i k w e = e
-    stays (c ∷ cs) zero zero w e = refl
-    stays (c ∷ cs) zero (suc k) w e = e
-    stays (c ∷ cs) (suc i) zero w e = e
-    stays (c ∷ cs) (suc i) (suc k) w e = stays cs i k w e
 
 module _ (w : ℕ) (old new : List (Option ℕ)) (start end : ℕ) (range : SetsRange (Some w) None old new start end) where
   pub filled-range : AllFilled old → AllFilled new

@@ -170,7 +170,3 @@ module _ (r number : ℕ) (ps : List (List ℕ)) (x y z : ℕ) (fx : HasFewDigit
 pub has_shape_fault : (r number : ℕ) (line : List (List ℕ)) → has_unknown_word line ≡ false
     → ((f : DebugLine) → ArePartsOf line f → ⊥) → IsReadBy (PartsSay r line) number (Err (refusal.Shape number))
 has_shape_fault r number line known none = ((known, none), refl)
-
-pub has_word_fault : (r number : ℕ) (line : List (List ℕ)) → has_unknown_word line ≡ true
-    → IsReadBy (PartsSay r line) number (Err (refusal.UnknownWord number))
-has_word_fault r number line unknown = (unknown, refl)

@@ -1,6 +1,5 @@
 pub mod Examples
 pub mod Forms
-pub mod Levels
 pub mod Lines
 pub mod Numbers
 pub mod Parts

@@ -5,6 +5,7 @@ ghost use Rattle.trace_codec.specs.Whole.{Decodes};
 
 use nano_spec::{Command, CommandList};
 use std::alloc::Global;
+use std::mem::size_of;
 use std::process::Abort;
 use trace_codec::{
     Decoder, Fed, One, TraceFault, TraceRefusal, decode_all, decode_one, encode_all, encode_one,
@@ -37,6 +38,18 @@ fn both_ways(rt: &impl Abort, command: Command, bytes: &[u8]) {
     for cut in 0..bytes.len() {
         assert_eq!(rt; decode_one(&bytes[..cut]), One::More, "{cut} of {bytes:?}");
     }
+}
+
+#[test]
+fn sizes_are_few_bytes(rt: HostRuntime) {
+    let kinds = [
+        size_of::<Near>(),
+        size_of::<Far>(),
+        size_of::<Short>(),
+        size_of::<Long>(),
+    ];
+    assert_eq!(rt; kinds, [3; 4]);
+    assert!(rt; size_of::<Command>() <= 8);
 }
 
 #[test]

@@ -45,6 +45,3 @@ pub void_where : (m : Matrix) (most : ℕ) (region : Span) → 1 ≤ most
     → ((p : Point) → is_within region p ≡ is_within (between (point (coord 0 1 0)) (point (coord most most most))) p)
     → IsFlat m → find (λ c. is_full m c && is_within region (point c)) (all_of m) ≡ None
 void_where m most region l covers flat = none_find (λ c. is_full m c && is_within region (point c)) (all_of m) (λ c i. false_by (is_full m c && is_within region (point c)) (λ t. not_both (second_of_two (is_full m c) (is_within region (point c)) t) (covers (point c) ∙ too_low most c.x c.y c.z l (flat c (first_of_two (is_full m c) (is_within region (point c)) t)))))
-
-pub flat_if_low : (m : Matrix) → m.resolution ≤ 1 → IsFlat m
-flat_if_low m l = λ c f. let within_space = full_within m c f in let along_y = within_space.y in omega arith

@@ -116,25 +116,6 @@ run_before m x y z run h c = by (c.x == x) (c.y == y) refl refl
     by true false ex ey = rw (ex, ey) refl
     by false t ex ey = rw ex refl
 
--- where there is no run, no voxel is full
-none_from : (m : Matrix) (x y z : ℕ) → IsNoRun m x y z → (c : Coord)
-    → (in_part x y z m.resolution c && is_full m c) ≡ false
-none_from m x y z h c = off (c.x == x) (c.y == y) (nat_le z c.z) (nat_lt c.z m.resolution) (is_full m c) (λ ex ey ez er. on_line m x y c ex ey ∙ h.void c.z (lower z c.z ez) (less c.z m.resolution er))
-  where
-    lower : (u v : ℕ) → nat_le u v ≡ true → u ≤ v
-    lower u v e = grind (arith, nat_tests)
-
-    less : (u v : ℕ) → nat_lt u v ≡ true → u < v
-    less u v e = grind (arith, nat_tests)
-
-    off : (s t u v f : Bool) → (s ≡ true → t ≡ true → u ≡ true → v ≡ true → f ≡ false)
-        → ((s && t && u && v) && f) ≡ false
-    off true true true true f e = e refl refl refl refl
-    off true true true false f e = refl
-    off true true false v f e = refl
-    off true false u v f e = refl
-    off false t u v f e = refl
-
 -- at first nothing is written
 none_yet : (m : Matrix) (x y : ℕ) (c : Coord) → (up_to x y 0 c && is_full m c) ≡ false
 none_yet m x y c = by (c.x == x) (c.y == y) (nat_le 0 c.z) (nat_lt c.z 0) (is_full m c) (grind (arith, nat_tests))
@@ -207,11 +188,6 @@ pub stamps_run_back : (a b c : TapeState) (m : Matrix) (full : Bool) (x y z n : 
     → Stamps a b m full (in_part x y run.end m.resolution) n → WritesRun b c run.first run.end full → (rear b).x ≡ x
     → (rear b).y ≡ y + 1 → IsNextRun m x y z run → Stamps a c m full (in_part x y z m.resolution) (n + 1)
 stamps_run_back a b c m full x y z n run g w ex ey h = stamps_one a b c m full x y n (in_part x y run.end m.resolution) (in_part x y z m.resolution) run g w ex ey (run_before m x y z run h)
-
--- nothing is written where there is no run
-pub stamps_no_run : (a : TapeState) (m : Matrix) (full : Bool) (x y z n : ℕ) → IsPair a → IsNoRun m x y z
-    → Stamps a a m full (in_part x y z m.resolution) n
-stamps_no_run a m full x y z n p h = stamps_none a m full (in_part x y z m.resolution) n p (none_from m x y z h)
 
 -- the whole line
 pub stamps_line : (a b : TapeState) (m : Matrix) (full : Bool) (x y z n k : ℕ) → Stamps a b m full (up_to x y z) n

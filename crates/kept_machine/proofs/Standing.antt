@@ -1,11 +1,10 @@
 -- A machine that is made anew in its state, and what is seen of it.
-use Rattle.std.proofs.Common.{◌≡◌, sym, ap, subst, List, Option, false}
+use Rattle.std.proofs.Common.{◌≡◌, ap, List, Option, false}
 use Rattle.circular_buffer.specs.Buffer.{Buffer}
 use Rattle.nano_spec.specs.declared.commands.Command.{Command}
-use Rattle.nano_spec.specs.State.{IsWellFormed}
 use Rattle.step_machine.specs.Situation.{Situation}
 use Rattle.step_machine.specs.declared.undo.Undo.{Undo}
-use Rattle.kept_machine.specs.Kept.{CanBeTakenBack, Instant, IsNoted, instant_of, instants_of, kept_of}
+use Rattle.kept_machine.specs.Kept.{instant_of, instants_of, kept_of}
 
 -- ---- a machine that stays where it stood, spent or not
 
@@ -16,16 +15,7 @@ module _ (v w : Situation) (notes : Buffer Undo) (state : w.state ≡ v.state) (
   pub looks_the_same : (trace : Option (List Command)) → kept_of w notes trace ≡ kept_of v notes trace
   looks_the_same trace = λ i. record { state = state i; steps = steps i; past = instants_of (same_instant i) notes.items; room = notes.capacity; trace = trace }
 
-  pub still_kept : IsNoted v notes → IsNoted w notes
-  still_kept kept = record {
-    well_formed = subst IsWellFormed (sym state) kept.well_formed;
-    back = subst (λ (p : Instant). CanBeTakenBack p notes.items) (sym same_instant) kept.back;
-  }
-
 -- a machine that is made anew looks the same, and keeps the same
 module _ (v w : Situation) (notes : Buffer Undo) (anew : w ≡ record v { spent = false }) where
   pub anew_looks_the_same : (trace : Option (List Command)) → kept_of w notes trace ≡ kept_of v notes trace
   anew_looks_the_same = looks_the_same v w notes (ap (λ (m : Situation). m.state) anew) (ap (λ (m : Situation). m.steps) anew)
-
-  pub anew_is_kept : IsNoted v notes → IsNoted w notes
-  anew_is_kept = still_kept v w notes (ap (λ (m : Situation). m.state) anew) (ap (λ (m : Situation). m.steps) anew)

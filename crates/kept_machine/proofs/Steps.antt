@@ -18,7 +18,7 @@ use Rattle.kept_machine.specs.declared.fault.NoStep.TheVariants as no_step
 use Rattle.kept_machine.specs.Calls.{IsMade, IsTakenBack, Tries, WouldAnswer, no_step_of}
 use Rattle.kept_machine.specs.Kept.{CanBeTakenBack, CanStep, CannotStep, Instant, IsNoted, Kept, instant_before, instant_of, instants_of, kept_of, trace_with, present, trace_without}
 use Rattle.kept_machine.proofs.Notes.{back_last, back_less, back_more, instants_last, instants_more, last_split}
-use Rattle.kept_machine.proofs.Standing.{looks_the_same, still_kept}
+use Rattle.kept_machine.proofs.Standing.{looks_the_same}
 
 -- ---- a machine that was started
 
@@ -71,37 +71,9 @@ module _ (v w : Situation) (notes rest : Buffer Undo) (commands : List Command) 
     halted = stepped.halted;
   }
 
--- ---- a step that was made where no notes are kept
-
-module _ (v w : Situation) (notes : Buffer Undo) (commands : List Command) (ok : StepOk) (began ended : ℕ)
-    (kept : IsNoted v notes) (stepped : Stepped v w commands (Ok ok) began ended) (none : notes ≡ buffer [] 0) where
-  pub kept_once : IsNoted w notes
-  kept_once = record {
-    well_formed = stepped.well_formed kept.well_formed;
-    back = subst (λ (b : Buffer Undo). CanBeTakenBack (instant_of w) b.items) (sym none) tt;
-  }
-
-  pub made_once : CanStep v commands → (trace : Option (List Command))
-      → IsMade (kept_of v notes trace) commands (kept_of w notes (trace_with trace commands)) ok
-  made_once can trace = record {
-    some = can.some;
-    each = can.each;
-    goes = stepped.goes;
-    counted = stepped.counted;
-    past = subst (λ (b : Buffer Undo). instants_of (instant_of w) b.items ≡ keep_last b.capacity (instants_of (instant_of v) b.items ++ instant_of v ∷ [])) (sym none) refl;
-    room = refl;
-    trace = refl;
-    energy = stepped.energy;
-    halted = stepped.halted;
-  }
-
 -- ---- a step that was not made
 
 module _ (v w : Situation) (notes : Buffer Undo) (commands : List Command) where
-  pub kept_refused : (f : StepFault) (began ended : ℕ) → IsNoted v notes → Stepped v w commands (Err f) began ended
-      → IsNoted w notes
-  kept_refused f began ended kept stepped = still_kept v w notes stepped.stays.0 stepped.stays.1 kept
-
   pub refused_so : (trace : Option (List Command)) (f : StepFault) (began ended : ℕ) → CanStep v commands
       → Stepped v w commands (Err f) began ended
       → Tries (kept_of v notes trace) commands (kept_of w notes trace) (Err (no_step_of f))

@@ -44,9 +44,6 @@ box_from low high c h =
 
 -- ---- the first full voxel of a row
 
-row_end : ℕ → Coord → Coord
-row_end e from = coord from.x from.y e
-
 before_in_row : (d c : Coord) → d.x ≡ c.x → d.y ≡ c.y → d.z < c.z → is_before d c ≡ true
 before_in_row d c x y z = rw (same_as d.x c.x x, same_as d.y c.y y) (less d.z c.z z)
   where
@@ -151,9 +148,6 @@ distance_on a b c = omega (arith, gaps_on a.x b.x c.x, gaps_on a.y b.y c.y, gaps
 -- the way to one coordinate, and from there to another
 pub reach_on : (r : ℕ) (a b c : Coord) → IsWithinReach r a b → IsWithinReach r b c → IsWithinReach r a c
 reach_on r a b c h k = let distance_sum = distance_on a b c in omega arith
-
-pub reach_here : (r : ℕ) (a : Coord) → IsWithinReach r a a
-reach_here r a = let distance_is : distance a a ≡ 0 = omega arith in omega arith
 
 -- to a coordinate of the same row
 pub reach_row : (r : ℕ) (a b : Coord) → b.x ≡ a.x → b.y ≡ a.y → a.z ≤ b.z → IsWithinReach r a b

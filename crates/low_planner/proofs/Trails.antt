@@ -29,6 +29,3 @@ pub trail_last : (at : Coord) (xs : List Coord) (a b : Coord) → IsTrail at ((x
     → AreBesideInLayer a b
 trail_last at [] a b h = h.1.0
 trail_last at (x ∷ xs) a b h = chain_last x xs a b h.1
-
-pub trail_first : (at a : Coord) → IsTrail at (a ∷ []) → a ≡ at
-trail_first at a h = h.0

@@ -23,16 +23,3 @@ pub write_next : {X Y : Type 0} (f : X → Y) (d : X) (xs : List X) (ys : List Y
 write_next {X} {Y} f d xs ys i h l =
     let same : suc i ≡ i + 1 = omega arith in
     write_one f d xs ys i h l ∙ ap (written_to f xs ys) same
-
-pub written_long : {X Y : Type 0} (f : X → Y) (xs : List X) (ys : List Y) (i : ℕ) → i ≤ length xs
-    → length xs ≤ length ys → length (written_to f xs ys i) ≡ length ys
-written_long f xs ys zero h l = refl
-written_long f [] ys (suc i) h l = absurd (no_more h)
-  where
-    no_more : suc i ≤ 0 → ⊥
-    no_more h = omega (arith, h)
-written_long f (x ∷ xs) [] (suc i) h l = absurd (no_less l)
-  where
-    no_less : length (x ∷ xs) ≤ 0 → ⊥
-    no_less l = omega (arith, l)
-written_long f (x ∷ xs) (y ∷ ys) (suc i) h l = ap suc (written_long f xs ys i (omega (arith, h)) (omega (arith, l)))

@@ -333,17 +333,6 @@ void_by m d out = by (is_full m d) refl
     by false e = refl
     by true e = absurd (out (full_within m d e))
 
--- outside the matrix nothing is there
-pub gone_outside : (m : Matrix) (first : Coord) (bits r : ℕ) → r ≡ m.resolution
-    → ((r ≤ first.x) ⊎ ((r ≤ first.y) ⊎ (r ≤ first.z))) → (d : Coord)
-    → IsAmong (record { first = first; bits = bits }) d → is_full m d ≡ false
-gone_outside m first bits r e o d h = void_by m d (λ i. by i o)
-  where
-    by : IsInSpace m.resolution d → ((r ≤ first.x) ⊎ ((r ≤ first.y) ⊎ (r ≤ first.z))) → ⊥
-    by i (inl l) = let along_x = h.x in let i_along_x = i.x in omega arith
-    by i (inr (inl l)) = let along_y = h.y in let i_along_y = i.y in omega arith
-    by i (inr (inr l)) = let from = h.from in let along_z = i.z in omega arith
-
 -- of a stretch nothing is there after its row was taken
 pub gone_row : (a b : Flood) (first : Coord) (count bits taken : ℕ)
     (r : b.remaining.resolution ≡ a.remaining.resolution) (few : count ≤ 64)

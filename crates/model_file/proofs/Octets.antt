@@ -1,14 +1,10 @@
 -- Eight bytes as the bits of one word.
-use Rattle.std.proofs.Common.{◌≡◌, ℕ, zero, suc, ◌+◌, ◌*◌, ◌/◌, ◌%◌, ◌<◌, ◌≤◌, ◌^◌, ◌==◌, sym, ◌∙◌, ap, arith, cond, List, [], ◌∷◌, inl, inr, ◌-◌}
+use Rattle.std.proofs.Common.{◌≡◌, ℕ, zero, suc, ◌+◌, ◌*◌, ◌/◌, ◌%◌, ◌<◌, ◌≤◌, ◌^◌, ◌==◌, sym, ◌∙◌, ap, arith, List, [], ◌∷◌, ◌-◌}
 use Rattle.std.specs.Prelude.{◌⊎◌, slice_index}
 use Rattle.std.specs.Int.{from_le_bytes, w64}
 use Rattle.std.proofs.Math.Nat.{div-div-eq-div-mul}
 use Rattle.std.proofs.lemmas.Nat.{pow-add}
-use Rattle.std.proofs.lemmas.Bool.{cases_lt}
-use Rattle.nano_spec.specs.Matrix.{Matrix}
-use Rattle.nano_spec.specs.Model.{bit, voxel_bit}
-use Rattle.vox_planes.specs.Places.{is_from, voxel_at}
-use Rattle.vox_planes.proofs.Placed.{before_these, one_of_these}
+use Rattle.nano_spec.specs.Model.{bit}
 use Rattle.model_file.specs.Words.{IsWordOf}
 
 bit_beyond : (n j i : ℕ) → bit n (j + i) ≡ bit (n / 2 ^ j) i
@@ -57,20 +53,3 @@ word_of bytes at n small e i l =
     ∙ (bit_beyond n (8 * (i / 8)) (i % 8)
     ∙ (sym (ap (λ d. d == 1) (byte_bit (n / 2 ^ (8 * (i / 8))) (i % 8) (omega arith)))
     ∙ ap (λ b. bit b (i % 8)) (bytes_of bytes at n small e (i / 8) (omega arith))))
-
--- the voxels of one more word
-pub word_more : (old new : Matrix) (bytes : List ℕ) (k word : ℕ) → IsWordOf bytes (1 + 8 * k) word →
-    ((p : ℕ) → p < 64 * k → voxel_at old p ≡ voxel_bit bytes p) →
-    ((p : ℕ) → voxel_at new p ≡ cond (is_from (64 * k) 64 p) (bit word (p - 64 * k)) (voxel_at old p)) →
-    (p : ℕ) → p < 64 * (k + 1) → voxel_at new p ≡ voxel_bit bytes p
-word_more old new bytes k word w before set p l = set p ∙ by (cases_lt p (64 * k))
-  where
-    by : ((p < 64 * k) ⊎ (64 * k ≤ p))
-        → cond (is_from (64 * k) 64 p) (bit word (p - 64 * k)) (voxel_at old p) ≡ voxel_bit bytes p
-    by (inl h) = ap (λ b. cond b (bit word (p - 64 * k)) (voxel_at old p)) (before_these (64 * k) 64 p h) ∙ before p h
-    by (inr h) =
-        let sum_is : 1 + 8 * k + (p - 64 * k) / 8 ≡ 1 + p / 8 = omega arith in
-        let remainder_is : (p - 64 * k) % 8 ≡ p % 8 = omega arith in
-        ap (λ b. cond b (bit word (p - 64 * k)) (voxel_at old p)) (one_of_these (64 * k) 64 p h (omega arith))
-        ∙ (w (p - 64 * k) (omega arith)
-        ∙ λ i. bit (slice_index bytes (sum_is i)) (remainder_is i))

@@ -3,7 +3,6 @@ use Rattle.std.proofs.Common.{◌≡◌, ℕ, zero, suc, not, ◌&&◌, bit_or, 
 use Rattle.std.specs.Prelude.{IsTrue, ◌⊎◌, All, Contains, find, Option, Some, None, cond}
 use Rattle.std.specs.Int.{bit_at}
 use Rattle.std.proofs.lemmas.Nat.Bits.{bit_at-lt, bit_at_or}
-use Rattle.std.proofs.lemmas.List.{length-append}
 use Rattle.std.proofs.lemmas.Bool.Decides.{nat_tests}
 use Rattle.std.proofs.lemmas.List.Elements.{All-contains, All-contains_itself, All-weaker}
 use Rattle.vox_geom.specs.declared.coordinate.Coord.{Coord}
@@ -25,7 +24,7 @@ use Rattle.vox_geom.proofs.Truths.{anything_by, true_by_false}
 use Rattle.vox_geom.proofs.Points.{coordinate_by_test}
 use Rattle.model_file.proofs.Stretches.{is_one, moved, near_moved, one_of}
 use Rattle.model_file.proofs.Floods.{fewer_in_row, full_within, row_asked, row_taken, row_was, has_cases, has_last, has_more, has_same}
-use Rattle.model_file.specs.Flood.{HasFound, IsAmong, IsBeside, IsFlood, IsStart, IsTaken, TakesOut, full_of, weight}
+use Rattle.model_file.specs.Flood.{HasFound, IsAmong, IsBeside, IsFlood, IsStart, IsTaken, TakesOut}
 
 -- a stretch that was found is looked around
 pub flood_more : (m : Matrix) (s popped new : Flood) (p : Stretch) → IsFlood m s → popped.remaining ≡ s.remaining
@@ -238,13 +237,3 @@ flood_same m a b same items fl = record {
   where
     was : (d : Coord) → IsTaken m b.remaining d → IsTaken m a.remaining d
     was d k = record { before = k.before; after = sym (ap (λ (l : Matrix). is_full l d) same) ∙ k.after }
-
--- ---- the measure
-
-pub weight_falls : (near : Coord → Type 0) (s popped new : Flood) (p : Stretch) → popped.remaining ≡ s.remaining
-    → s.found.items ≡ popped.found.items ++ p ∷ [] → TakesOut near popped new → weight new < weight s
-weight_falls near s popped new p same items t =
-    let left : full_of popped.remaining.resolution popped.remaining ≡ full_of s.remaining.resolution s.remaining = ap (λ (l : Matrix). full_of l.resolution l) same in
-    let more : length s.found.items ≡ length popped.found.items + 1 = ap length items ∙ length-append popped.found.items (p ∷ []) in
-    let weighs : weight new ≤ weight popped = t.weighs in
-    omega arith

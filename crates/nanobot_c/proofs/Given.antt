@@ -85,9 +85,6 @@ module _ (row : Row) (files : Files) (old new : List ℕ) (size result : ℕ) wh
     gives_gone (inr answer) given =
         gives (no_such_file files) [] answer (λ e. absurd (omega arith)) (ap (λ o. file_or_line o []) (sym (none_stored (stores_of row) is.Depot [] absent))) (inr given)
 
-  pub gives_nothing : IsMemory result → new ≡ old → size ≡ 0 → Gives row files old new size result
-  gives_nothing answered same none = record { answer = λ has. absurd (has answered); memory = λ _. (same, none) }
-
 -- a run stores nothing, so its line is given
 pub line_given : (light : Bool) (source target : List ℕ) (files : Files) (old new : List ℕ) (size result : ℕ)
     → Gives (run_row light source target) files old new size result → (IsMemory result → ⊥)

@@ -28,9 +28,6 @@ use Rattle.nanobot_rows.proofs.Told.{file_found, finds_file, weaker, weaker_and}
 
 -- ---- counts of faults
 
-pub rose_later : (a b c : ℕ) → Rose a b → b ≤ c → Rose a c
-rose_later a b c h l = omega (arith, h)
-
 pub rose_since : (a b c : ℕ) → a ≤ b → Rose b c → Rose a c
 rose_since a b c l h = omega (arith, h)
 
@@ -82,10 +79,6 @@ module _ {A : Type 0} (X Y : Finding A) (P : Files → Type 0) (more : (files : 
 -- ---- one finding after another
 
 module _ {A B : Type 0} (X : Finding A) (p : A → Finding B) where
-  pub with_stops : (told : Option Files) (rose : Type 0) (s : Stop) → Finds X told rose (Err s)
-      → Finds (With X p) told rose (Err s)
-  with_stops told rose s = stops X (With X p) told rose rose s (λ files end h. (Err end, h, refl)) (λ h. h)
-
   pub with_found : (a : A) (told later : Option Files) (before between now : ℕ) (r : Result B Stop)
       → IfSome told (λ files. X files (Ok a)) → later ≡ told → before ≤ between → Finds (p a) later (Rose between now) r
       → Finds (With X p) told (Rose before now) r

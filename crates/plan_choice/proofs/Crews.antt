@@ -1,9 +1,9 @@
 -- A crew's plan in the making, by the plans of which it is one.
-use Rattle.std.proofs.Common.{◌≡◌, ◌⊎◌, ◌∙◌, ℕ, ◌≤◌, List, inl, inr, sym, ap, subst, arith, length}
+use Rattle.std.proofs.Common.{◌≡◌, ◌⊎◌, ◌∙◌, ℕ, ◌≤◌, List, inl, inr, sym, subst, arith, length}
 use Rattle.std.specs.Prelude.{Option, ℤ, ◌≤ℤ◌}
 use Rattle.std.proofs.lemmas.Int.{ints}
 use Rattle.nano_spec.specs.declared.commands.Command.{Command}
-use Rattle.nano_spec.specs.Matrix.{Matrix, empty, full_count}
+use Rattle.nano_spec.specs.Matrix.{Matrix, full_count}
 use Rattle.nano_spec.specs.Model.{volume}
 use Rattle.nano_spec.specs.Profile.{full_profile, light_profile}
 use Rattle.nano_spec.specs.Spelling.{spellings}
@@ -120,9 +120,3 @@ module _ (source target : Matrix) (plan : Plan) where
     few_bytes = swarm_fits target.resolution plan.steps (length plan.commands) (length (spellings plan.commands)) most h.few_steps
         (few_commands source target light_profile plan.commands 20 h.plan.few_bots plan.energy plan.steps h.accepted_as_light) (four_each plan.commands);
   }
-
--- ---- to the empty model, or from it
-
--- of one of two models of one resolution that is the empty one
-pub empty_as : (m n : Matrix) (r : ℕ) → m ≡ empty r → r ≡ n.resolution → m ≡ empty n.resolution
-empty_as m n r e same = e ∙ ap empty same

@@ -274,12 +274,6 @@ walked (k ∷ more) p axis a b w g alone i at l may v leg r =
 
 -- ---- moves along all axes
 
-length-joined : (x y z : List Command) → length (x ++ y ++ z) ≡ length x + length y + length z
-length-joined x y z =
-    let length_sum : length (x ++ y ++ z) ≡ length (x ++ y) + length z = length-append (x ++ y) z in
-    let same_length : length (x ++ y) ≡ length x + length y = length-append x y in
-    omega arith
-
 pub spellings-joined : (x y : List Command) → length (spellings (x ++ y)) ≡ length (spellings x) + length (spellings y)
 spellings-joined x y = ap length (flat_map-append spelling x y) ∙ length-append (spellings x) (spellings y)
 
@@ -301,14 +295,6 @@ paid_all : (e : ℤ) (a b c u g h i : ℕ) → ((e +ℤ pos (a * u + 2 * g)) +�
 paid_all e a b c u g h i = omega (arith, ints)
 
 module _ (p : TapeState) (to : Coord) (moves : List Command) (legs : AreLegs (spot p.bots) to moves) where
-  pub legs_length : length moves ≡ moves_to (spot p.bots) to
-  legs_length =
-      let along_x_least = legs.along_x.least in
-      let along_y_least = legs.along_y.least in
-      let least = legs.along_z.least in
-      let joined_length = length-joined legs.x legs.y legs.z in
-      ap length legs.joined ∙ (let length_is : length (legs.x ++ legs.y ++ legs.z) ≡ moves_to (spot p.bots) to = omega arith in length_is)
-
   pub legs_bytes : length (spellings moves) ≡ 2 * moves_to (spot p.bots) to
   legs_bytes =
       let bytes_of_moves = move_bytes X (spot p.bots).x to.x legs.x legs.along_x.leg in

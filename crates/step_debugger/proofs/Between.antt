@@ -19,7 +19,7 @@ use Rattle.nano_spec.specs.Act.{Act, acts, stays_in_space}
 use Rattle.nano_spec.specs.Group.{are_together}
 use Rattle.nano_spec.specs.Matrix.{is_full}
 use Rattle.nano_spec.specs.Rules.{broken}
-use Rattle.nano_spec.specs.Serial.{acts_of, serial}
+use Rattle.nano_spec.specs.Serial.{acts_of}
 use Rattle.nano_spec.specs.State.{IsReady, State}
 use Rattle.nano_spec.specs.Step.{is_filled, is_voided, matrix_after}
 use Rattle.step_order.specs.SomeGroups.{is_taken, taken as taken_acts}
@@ -240,15 +240,6 @@ module _ (v : Situation) (notes : Buffer Undo) (commands : List Command) (taken 
     (e : debugging_of v notes.items commands taken begun ≡ d) (kept : IsKept v notes commands taken begun left bots) (stands : d.spent ≡ false) (c : Coord) where
   pub space_here : IsInSpace d.session.point.state.matrix.resolution c → IsInSpace v.state.matrix.resolution c
   space_here h = subst (λ (x : Debugging). IsInSpace x.session.point.state.matrix.resolution c) (sym e) h
-
-  pub full_before : begun ≡ [] → (full : Bool) → full ≡ is_full v.state.matrix c
-      → IsSomeAnd (middle_state d.commands d.session) (λ m. full ≡ is_full m.matrix c)
-  full_before none full f = subst (λ (x : Debugging). IsSomeAnd (middle_state x.commands x.session) (λ m. full ≡ is_full m.matrix c)) e
-      (subst (λ (xs : List ℕ). IsSomeAnd (serial v.state (next_commands commands (point_of v taken)) xs) (λ m. full ≡ is_full m.matrix c)) (sym none) f)
-
-  pub keeps_begun : (begun ≡ [] → ⊥) → (next : List Command) → next ≡ next_commands commands (point_of v taken)
-      → broken v.state next (v.steps + 1) ≡ None
-  keeps_begun some next n = ap (λ (xs : List Command). broken v.state xs (v.steps + 1)) n ∙ (begun_are v notes commands taken begun left bots d e kept stands some).keeps
 
   pub full_between : MiddleLaw → IsReady v.state → (begun ≡ [] → ⊥) → (full : Bool)
       → full ≡ is_full (matrix_after_some v.state (next_commands commands (point_of v taken)) begun) c

@@ -27,13 +27,12 @@ use Rattle.step_order.proofs.Judgements.{all_bots as bots_are}
 use Rattle.circular_buffer.specs.Buffer.{Buffer}
 use Rattle.step_debugger.specs.declared.fault.DebugFault.{DebugFault}
 use Rattle.step_debugger.specs.declared.fault.DebugFault.TheVariants as fault
-use Rattle.step_debugger.specs.Calls.{fault_report, group_report, step_report}
+use Rattle.step_debugger.specs.Calls.{group_report, step_report}
 use Rattle.step_debugger.specs.Debugging.{Debugging, debugging_of, point_of}
 use Rattle.step_debugger.specs.Kept.{AreBegun, Begin, IsKept}
-use Rattle.step_debugger.specs.Readiness.{IsUnready}
 use Rattle.step_debugger.specs.Session.{AnswersLine, BeginsGroup, Begun, Ended, Group, NoLeader, Refused, DebugReport, Session, TriesStep, is_last, may_begin, middle_state, next_commands, next_leaders}
 use Rattle.step_debugger.proofs.Making.{here}
-use Rattle.step_debugger.proofs.Trying.{ended_is, unless_active}
+use Rattle.step_debugger.proofs.Trying.{unless_active}
 
 -- ---- the leaders' bids differ
 
@@ -182,12 +181,6 @@ module _ (commands : List Command) (s : Session) (bid : ℕ) (some : 1 ≤ lengt
       unless_active s.point.state.bots s t report _ some
       (subst (λ (o : Option Broken). MatchOption o (BeginsGroup commands bid s t report) (λ b. (t ≡ s) × (report ≡ Refused b))) (sym e) h)
 
-  pub group_refused : (b : Broken) → broken s.point.state (next_commands commands s.point) (s.point.steps + 1) ≡ Some b
-      → AnswersLine commands (Group bid) s s (Refused b)
-  group_refused b e =
-      unless_active s.point.state.bots s s (Refused b) _ some
-      (subst (λ (o : Option Broken). MatchOption o (BeginsGroup commands bid s s (Refused b)) (λ c. (s ≡ s) × (Refused b ≡ Refused c))) (sym e) (refl, refl))
-
   module _ (keeps : broken s.point.state (next_commands commands s.point) (s.point.steps + 1) ≡ None) where
     pub no_leader : may_begin commands s bid ≡ false → AnswersLine commands (Group bid) s s (NoLeader bid)
     no_leader f = judged s (NoLeader bid) keeps (subst (λ (b : Bool). MatchBool b (MatchBool (is_last commands s) (TriesStep commands s s (NoLeader bid)) ((s ≡ record s { begun = s.begun ++ bid ∷ [] }) × (NoLeader bid ≡ Begun bid (s.point.steps + 1)))) ((s ≡ s) × (NoLeader bid ≡ NoLeader bid))) (sym f) (refl, refl))
@@ -223,14 +216,6 @@ module _ (commands : List Command) (s : Session) (bid : ℕ) (some : 1 ≤ lengt
     last_err t fault.NoHistory made f g = group_last t _ made f g
     last_err t (fault.NotLeader leader) made f g = group_last t (NoLeader leader) made f g
     last_err t fault.Memory made f g = tt
-
-pub unready_group : (commands : List Command) (s : Session) (bid : ℕ) (f : DebugFault) → IsUnready commands s.point f
-    → IfSome (fault_report f) (AnswersLine commands (Group bid) s s)
-unready_group commands s bid fault.Ended h = ended_is s.point.state.bots s _ h
-unready_group commands s bid (fault.Broken b) h = group_refused commands s bid h.0 b h.1
-unready_group commands s bid fault.NoHistory h = absurd h
-unready_group commands s bid (fault.NotLeader leader) h = absurd h
-unready_group commands s bid fault.Memory h = absurd h
 
 -- ---- what is kept
 

@@ -1,7 +1,7 @@
 -- The next step is judged, and its groups are put into an order.
-use Rattle.std.proofs.Common.{◌≡◌, ℕ, ◌+◌, ◌≤◌, ◌==◌, Bool, false, refl, sym, ◌∙◌, ap, subst, arith, List, [], ◌∷◌, ◌++◌, length, length-append}
+use Rattle.std.proofs.Common.{◌≡◌, ℕ, ◌+◌, ◌≤◌, ◌==◌, Bool, false, refl, sym, ◌∙◌, ap, arith, List, [], ◌∷◌, ◌++◌, length, length-append}
 use Rattle.std.proofs.lemmas.List.{length-map}
-use Rattle.std.specs.Prelude.{Some, IfSome, IsPermutation}
+use Rattle.std.specs.Prelude.{Some, IfSome}
 use Rattle.std.proofs.lemmas.Bool.Decides.{nat_tests}
 use Rattle.std.proofs.lemmas.List.Sorted.{length_permutation}
 use Rattle.circular_buffer.specs.Buffer.{Buffer}
@@ -74,10 +74,6 @@ module _ (v : Situation) (notes : Buffer Undo) (commands : List Command) (taken 
           → AreBegun commands (point_of v taken) xs left bots
       by [] m h = absurd (m refl)
       by (x ∷ xs) m h = h
-
-  pub order_kept : (begun ≡ [] → ⊥) → (order : List ℕ) → order ≡ begun ++ left
-      → IsPermutation (next_leaders d.commands d.session.point) order
-  order_kept n order o = subst (λ (x : Debugging). IsPermutation (next_leaders x.commands x.session.point) order) e (subst (λ (xs : List ℕ). IsPermutation (next_leaders commands (point_of v taken)) xs) (sym o) (begun_are n).leaders)
 
   pub order_fits : (begun ≡ [] → ⊥) → length v.state.bots ≤ 40 → length begun + length left ≤ 40
   order_fits n most =

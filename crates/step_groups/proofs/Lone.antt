@@ -106,12 +106,6 @@ both true true h = (refl, refl)
 both true false h = cc
 both false b h = cc
 
-any_in : (c : Coord) (xs : List Act) (a : Act) → In a xs → IsTrue (is_volatile_of (point c) a)
-    → IsTrue (list_any (is_volatile_of (point c)) xs)
-any_in c [] a i h = absurd i
-any_in c (x ∷ xs) a (inl e) h = or_by_first (is_volatile_of (point c) x) (list_any (is_volatile_of (point c)) xs) (ap (λ (y : Act). is_volatile_of (point c) y) (sym e) ∙ h)
-any_in c (x ∷ xs) a (inr i) h = or_by_second (is_volatile_of (point c) x) (list_any (is_volatile_of (point c)) xs) (any_in c xs a i h)
-
 module _ (m : Matrix) (all : List Act) (step : ℕ) where
   -- what is volatile for the group of a bot that is alone
   by_itself : (a : Act) (c : Coord) → members all a ≡ a ∷ [] → is_volatile all a (point c) ≡ is_volatile_of (point c) a

@@ -1,9 +1,8 @@
 -- What the groups of a step are (docs/FORMATS.md, "Groups").
-use Rattle.std.specs.Prelude.{◌≡◌, ℕ, ◌≤◌, Bool, ◌||◌, List, [], ◌∷◌, length, map, Option, All, IsTrue}
-use Rattle.std.specs.List.{list_any}
+use Rattle.std.specs.Prelude.{◌≡◌, ℕ, ◌≤◌, ◌||◌, List, [], ◌∷◌, length, map, Option, All, IsTrue}
 use Rattle.vox_geom.specs.declared.coordinate.Coord.{Coord}
 use Rattle.vox_geom.specs.Point.{point}
-use Rattle.vox_geom.specs.Region.{Corners, corners, is_within, span}
+use Rattle.vox_geom.specs.Region.{Corners, corners}
 use Rattle.nano_spec.specs.declared.outcomes.Broken.{Broken}
 use Rattle.nano_spec.specs.declared.outcomes.Rule.TheVariants.{Interference}
 use Rattle.nano_spec.specs.Act.{Act, stays_in_space}
@@ -11,7 +10,7 @@ use Rattle.nano_spec.specs.First.{first_value}
 use Rattle.nano_spec.specs.Group.{leaders, members}
 use Rattle.nano_spec.specs.Matrix.{Matrix}
 use Rattle.nano_spec.specs.Rules.{broken_by, clash}
-use Rattle.nano_spec.specs.Volatile.{is_volatile, is_volatile_of}
+use Rattle.nano_spec.specs.Volatile.{is_volatile}
 use Rattle.step_groups.specs.Boxes.{AreBoxesIn, IsHull, in_boxes}
 use Rattle.step_groups.specs.declared.groups.Group.{Group}
 
@@ -22,11 +21,6 @@ bid_of a = a.bot.bid
 -- the box of a bot's position
 abbrev pub box_of_bot : Act → Corners
 box_of_bot a = corners a.bot.pos a.bot.pos
-
--- whether a coordinate is volatile for the bot, or one of its mates stands there
-abbrev pub is_volatile_with : Act → List Act → Coord → Bool
-is_volatile_with a mates c =
-    is_volatile_of (point c) a || list_any (λ b. is_within (span (box_of_bot b)) (point c)) mates
 
 -- the group that this bot leads: its members are those of the definition, and its boxes are in space and cover what is
 -- volatile for it

@@ -1,6 +1,6 @@
 -- The list of the voxels that a step changes: first those that it voids, and then those that it fills.
 use Rattle.std.proofs.Common.{◌≡◌, ℕ, ◌+◌, ◌*◌, ◌≤◌, refl, sym, ◌∙◌, ap, inl, inr, arith, List, [], ◌∷◌, ◌++◌, Bool, true, false, cond, length, take, drop, subst}
-use Rattle.std.specs.Prelude.{None, Result, Ok, Err, IfOk, count_by}
+use Rattle.std.specs.Prelude.{None, count_by}
 use Rattle.std.proofs.lemmas.List.Sums.{sum_by-cons}
 use Rattle.std.proofs.Math.Seq.{drop-append_seam, take-append_seam}
 use Rattle.vox_geom.specs.declared.coordinate.Coord.{Coord}
@@ -125,8 +125,3 @@ won_none m whole = record { resolution = refl; whole = whole; full = λ c h. inl
 
 pub cheap_none : (m n : Matrix) (now : ℕ) → IsCheap m n [] 100 now now
 cheap_none m n now = λ first last f l. omega arith
-
-pub ok_both : {T E : Type 0} (r : Result T E) (P Q R : T → Type 0) → ((t : T) → P t → Q t → R t) → IfOk r P → IfOk r Q
-    → IfOk r R
-ok_both (Ok t) P Q R f p q = f t p q
-ok_both (Err e) P Q R f p q = tt

@@ -199,20 +199,11 @@ spot_far r c d own place number slot_place own_spot e last n i =
 pub none_left : (r : ℕ) (c : Coord) (d : ℕ) → d ≡ 1 → c.x ≡ 0 → NoneToward r c d
 none_left r c d e h = λ q t s. let some = (goes d r c q t s).one e in absurd (omega arith)
 
-pub none_right : (r : ℕ) (c : Coord) (d : ℕ) → d ≡ 2 → r ≡ c.x + 1 → NoneToward r c d
-none_right r c d e h = λ q t s. let some = (goes d r c q t s).two e in absurd (omega arith)
-
 pub none_under : (r : ℕ) (c : Coord) (d : ℕ) → d ≡ 3 → c.y ≡ 0 → NoneToward r c d
 none_under r c d e h = λ q t s. let some = (goes d r c q t s).three e in absurd (omega arith)
 
-pub none_over : (r : ℕ) (c : Coord) (d : ℕ) → d ≡ 4 → r ≡ c.y + 1 → NoneToward r c d
-none_over r c d e h = λ q t s. let some = (goes d r c q t s).four e in absurd (omega arith)
-
 pub none_near : (r : ℕ) (c : Coord) (d : ℕ) → d ≡ 5 → c.z ≡ 0 → NoneToward r c d
 none_near r c d e h = λ q t s. let some = (goes d r c q t s).five e in absurd (omega arith)
-
-pub none_far : (r : ℕ) (c : Coord) (d : ℕ) → d ≡ 6 → r ≡ c.z + 1 → NoneToward r c d
-none_far r c d e h = λ q t s. let some = (goes d r c q t s).six e in absurd (omega arith)
 
 -- ---- the last voxel of a brick
 

@@ -6,7 +6,6 @@ use Rattle.vox_geom.specs.declared.coordinate.Coord.{Coord}
 use Rattle.vox_geom.proofs.Points.{same_or_not}
 use Rattle.support_forest.specs.Directions.{Toward, lies_left, lies_right, lies_under, lies_over, lies_near, lies_far}
 use Rattle.support_forest.specs.Grid.{Grid, word_at}
-use Rattle.support_forest.specs.Losing.{CanRemove}
 use Rattle.support_forest.specs.Stretches.{AreCleared, IsPast, IsStretch, IsTaking, RowIsFree, TakesMore, further}
 use Rattle.support_forest.specs.Taking.{HaveTaken, IsNoParent}
 use Rattle.support_forest.specs.Words.{AreExact, IsWritten}
@@ -89,14 +88,6 @@ in_row d c (suc n) = elim (same_or_not d (further c n)) [
     | inl h ↦ let below_n : h.0 < n = h.1 in inl (h.0, omega arith, h.2)
     | inr h ↦ inr (λ j l e. elim (cases_lt j n) [ inl m ↦ h j m e | inr m ↦ let j_is : j ≡ n = omega arith in o (e ∙ ap (further c) j_is) ])
   ]
-]
-
-pub taking_whole : (old now : Grid) (gone : List Coord) (i : ℕ) (rest : List Coord) (before steps k : ℕ) (x : Coord)
-    → CanRemove old gone → IsTaking old now gone i rest before steps → k < i → x ≡ slice_index_or gone k x
-    → 0 < word_at now x
-taking_whole old now gone i rest before steps k x a p l e = let within = p.within in elim (p.each x) [
-  | inl f ↦ let full = a.full x (k, omega arith, sym e) in omega arith
-  | inr f ↦ let at_most_f : i ≤ f.1.0 = f.1.1 in absurd (a.differ k f.1.0 x (omega arith) f.1.2 (sym e ∙ sym f.1.3))
 ]
 
 pub one_taken : (now new : Grid) (gone : List Coord) (end count : ℕ) (rest : List Coord) (steps after : ℕ) (x : Coord)

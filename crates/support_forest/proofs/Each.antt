@@ -1,5 +1,5 @@
 -- Voxels that become full or void one after another while the levels of the others stay, and those that are left.
-use Rattle.std.proofs.Common.{◌≡◌, ◌≢◌, ℕ, zero, suc, ◌+◌, ◌-◌, ◌*◌, ◌/◌, ◌%◌, ◌<◌, ◌≤◌, ◌⊎◌, inl, inr, refl, sym, ◌∙◌, ap, subst, arith, List, [], ◌∷◌, ◌++◌, length, length-append}
+use Rattle.std.proofs.Common.{◌≡◌, ◌≢◌, ℕ, zero, suc, ◌+◌, ◌-◌, ◌*◌, ◌/◌, ◌%◌, ◌<◌, ◌≤◌, ◌⊎◌, inl, inr, sym, ◌∙◌, ap, subst, arith, List, [], ◌∷◌, ◌++◌, length, length-append}
 use Rattle.std.specs.Prelude.{slice_index_or, count_by}
 use Rattle.std.specs.List.{AllPairs, Contains}
 use Rattle.std.proofs.lemmas.Bool.{cases_lt}
@@ -65,19 +65,6 @@ pub record IsPlacing (old now : Grid) (cells : List Coord) (i : ℕ) (rest : Lis
   pub few : length rest ≤ i
   pub cost : steps + length rest ≤ before + 7 * i
 
-pub placing_none : (old : Grid) (cells rest : List Coord) (before : ℕ) → CanAdd old cells → rest ≡ []
-    → IsPlacing old old cells 0 rest before before
-placing_none old cells rest before a e = record {
-  resolution = refl;
-  exact = a.exact;
-  each = λ c. inl refl;
-  done = λ c m. let m_below_0 : m.0 < 0 = m.1 in absurd (omega arith);
-  listed = λ c h. absurd (no_member rest c e h);
-  differ = none_differ rest e;
-  few = let length_is : length rest ≡ 0 = ap length e in omega arith;
-  cost = let length_is : length rest ≡ 0 = ap length e in omega arith;
-}
-
 later_mark : (cells : List Coord) (i : ℕ) (c : Coord) → IsMarked cells i c → IsMarked cells (i + 1) c
 later_mark cells i c m = let below_i : m.0 < i = m.1 in (m.0, omega arith, m.2, m.3)
 
@@ -92,11 +79,6 @@ mark_cases cells i c x l e m = elim (cases_lt m.0 i) [
 not_marked : (old : Grid) (cells : List Coord) (i : ℕ) (x : Coord) → CanAdd old cells → i < length cells
     → x ≡ slice_index_or cells i x → IsMarked cells i x → ⊥
 not_marked old cells i x a l e m = a.differ m.0 i x m.1 l (m.3 ∙ e)
-
-pub placing_void : (old now : Grid) (cells : List Coord) (i : ℕ) (rest : List Coord) (before steps : ℕ) (x : Coord)
-    → CanAdd old cells → IsPlacing old now cells i rest before steps → i < length cells → x ≡ slice_index_or cells i x
-    → word_at now x ≡ 0
-placing_void old now cells i rest before steps x a p l e = elim (p.each x) [ inl f ↦ f ∙ a.void x (i, l, sym e) | inr f ↦ absurd (not_marked old cells i x a l e f.1) ]
 
 pub placing_space : (old now : Grid) (cells : List Coord) (i : ℕ) (rest : List Coord) (before steps : ℕ) (x : Coord)
     → CanAdd old cells → IsPlacing old now cells i rest before steps → i < length cells → x ≡ slice_index_or cells i x
@@ -199,20 +181,6 @@ placed_and_added old now new cells rest before steps after a p h = record {
 
 -- ---- voxels that become void
 
-pub taking_none : (old : Grid) (gone rest : List Coord) (before : ℕ) → CanRemove old gone → rest ≡ []
-    → IsTaking old old gone (length gone) rest before before
-taking_none old gone rest before a e = record {
-  resolution = refl;
-  exact = a.exact;
-  each = λ c. inl refl;
-  done = λ c m. let below_length : m.0 < length gone = m.2 in let at_most_m : length gone ≤ m.0 = m.1 in absurd (omega arith);
-  listed = λ c h. absurd (no_member rest c e h);
-  differ = none_differ rest e;
-  within = omega arith;
-  few = let length_is : length rest ≡ 0 = ap length e in omega arith;
-  cost = let length_is : length rest ≡ 0 = ap length e in omega arith;
-}
-
 -- before the last of those that are left is looked at
 pub before_last : (old now : Grid) (gone : List Coord) (i : ℕ) (rest : List Coord) (before steps : ℕ) → 0 < i
     → IsTaking old now gone i rest before steps → IsTaking old now gone (i - 1 + 1) rest before steps
@@ -231,13 +199,6 @@ past_cases gone i c x l e m = elim (cases_lt i m.0) [
 not_past : (old : Grid) (gone : List Coord) (i : ℕ) (x : Coord) → CanRemove old gone → i < length gone
     → x ≡ slice_index_or gone i x → IsPast gone (i + 1) x → ⊥
 not_past old gone i x a l e m = let at_most_m : i + 1 ≤ m.0 = m.1 in a.differ i m.0 x (omega arith) m.2 (sym e ∙ sym m.3)
-
-pub taking_full : (old now : Grid) (gone : List Coord) (i : ℕ) (rest : List Coord) (before steps : ℕ) (x : Coord)
-    → CanRemove old gone → IsTaking old now gone (i + 1) rest before steps → x ≡ slice_index_or gone i x
-    → 0 < word_at now x
-taking_full old now gone i rest before steps x a p e =
-    let below_length : i < length gone = let within = p.within in omega arith in
-    elim (p.each x) [ inl f ↦ let full = a.full x (i, below_length, sym e) in omega arith | inr f ↦ absurd (not_past old gone i x a below_length e f.1) ]
 
 pub taking_taken : (old now new : Grid) (gone : List Coord) (i : ℕ) (rest : List Coord) (before steps after : ℕ)
     (x : Coord) → CanRemove old gone → IsTaking old now gone (i + 1) rest before steps → x ≡ slice_index_or gone i x
@@ -284,25 +245,6 @@ taking_listed old now new gone i rest more before steps after x a p e s t m =
       few = let same_length : length (rest ++ x ∷ []) ≡ length rest + 1 = length-append rest (x ∷ []) in omega (arith, p.few);
       cost = let same_length : length (rest ++ x ∷ []) ≡ length rest + 1 = length-append rest (x ∷ []) in omega (arith, p.cost);
     }))
-
-pub are_taken : (old now : Grid) (gone : List Coord) (i : ℕ) (rest : List Coord) (before steps : ℕ) → CanRemove old gone
-    → IsTaking old now gone i rest before steps → i ≡ 0 → AreTaken old now gone rest before steps
-are_taken old now gone i rest before steps a p e = record {
-  resolution = p.resolution;
-  left = record {
-    differ = p.differ;
-    exact = p.exact;
-    full = λ c h. let listed = p.listed c h in let full = a.full c (in_gone c listed.0) in omega (arith, listed.1);
-  };
-  listed = λ c h. in_gone c (p.listed c h).0;
-  each = λ c. elim (p.each c) [ inl f ↦ inl f | inr f ↦ inr (f.0, in_gone c f.1) ];
-  taken = λ c h. p.done c (let below_length : h.0 < length gone = h.1 in (h.0, omega arith, below_length, h.2));
-  few = omega (arith, p.few);
-  cost = omega (arith, p.cost);
-}
-  where
-    in_gone : (c : Coord) → IsPast gone i c → Contains gone c
-    in_gone c m = (m.0, m.2, m.3)
 
 -- a level that changed since some voxels became void changed
 pub changed_since : (old now new : Grid) → now.resolution ≡ old.resolution

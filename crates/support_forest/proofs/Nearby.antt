@@ -1,6 +1,5 @@
 -- The words beside a voxel.
-use Rattle.std.proofs.Common.{◌≡◌, ℕ, ◌+◌, ◌-◌, ◌/◌, ◌%◌, ◌<◌, refl, sym, ◌∙◌, ap, subst, arith, List, Option, None, Some}
-use Rattle.std.specs.Prelude.{IfSome}
+use Rattle.std.proofs.Common.{◌≡◌, ℕ, ◌+◌, ◌-◌, ◌/◌, ◌%◌, ◌<◌, refl, sym, ◌∙◌, ap, subst, arith, List, Option, Some}
 use Rattle.vox_geom.specs.declared.coordinate.Coord.{Coord}
 use Rattle.vox_geom.specs.Space.{IsInSpace}
 use Rattle.support_forest.specs.declared.beside.Beside.{Beside}
@@ -98,11 +97,6 @@ stands_far c d slot_place i n e h k = record {
   same_brick = let quotient_is : (c.z + 1) / 8 ≡ c.z / 8 = omega arith in λ j. record { x = c.x / 8; y = c.y / 8; z = quotient_is j };
   at_place = omega arith;
 }
-
--- what follows of the number in an option
-pub some_so : (o : Option ℕ) (P Q : ℕ → Type 0) → ((i : ℕ) → P i → Q i) → IfSome o P → IfSome o Q
-some_so None P Q k h = h
-some_so (Some i) P Q k h = k i h
 
 -- a neighbour in the same brick stands in the same slot
 pub stands_beside : (g : Grid) (c : Coord) (d slot slot_place : ℕ) → IsInSpace g.resolution c → slot_of g c ≡ Some slot

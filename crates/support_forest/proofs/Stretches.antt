@@ -1,7 +1,6 @@
 -- Voxels that follow one another in a row of a brick, and become void together.
 use Rattle.std.proofs.Common.{◌≡◌, ℕ, ◌+◌, ◌-◌, ◌*◌, ◌/◌, ◌%◌, ◌<◌, ◌≤◌, inl, inr, refl, sym, ◌∙◌, ap, subst, arith, List, length, get_or, Option, Some, None}
 use Rattle.std.specs.Prelude.{slice_index_or}
-use Rattle.std.proofs.lemmas.Bool.{cases_lt}
 use Rattle.std.proofs.lemmas.List.{get_or_default}
 use Rattle.vox_geom.specs.declared.coordinate.Coord.{Coord}
 use Rattle.vox_geom.specs.Space.{IsInSpace}
@@ -50,40 +49,6 @@ stretch_from gone end last most count c b l h =
           let is_further : record { x = last.x; y = last.y; z = last.z - (count - 1 - k) } ≡ further c k = λ j. record { x = same_x j; y = same_y j; z = difference_is j } in
           b.each (count - 1 - k) (end - count + k) d (omega arith) (omega arith) ∙ is_further;
     }
-
-pub one_before : (gone : List Coord) (end : ℕ) (last : Coord) (most : ℕ) → 0 < end → end ≤ length gone
-    → last ≡ slice_index_or gone (end - 1) last → most ≡ last.z % 8 + 1 → IsBefore gone end last most 1
-one_before gone end last most s l h m = record {
-  some = omega arith;
-  within = omega arith;
-  few = omega arith;
-  row = m;
-  each = λ k i d n e.
-      let i_is : i ≡ end - 1 = omega arith in
-      let z_is : last.z ≡ last.z - k = omega arith in
-      let last_is : last ≡ record { x = last.x; y = last.y; z = last.z - k } = λ j. record { x = last.x; y = last.y; z = z_is j } in
-      ap (λ (b : ℕ). slice_index_or gone b d) i_is ∙ (get_or_default gone (end - 1) d last (omega arith) ∙ (sym h ∙ last_is));
-}
-
-pub one_more_before : (gone : List Coord) (end : ℕ) (last : Coord) (most count : ℕ) (c : Coord)
-    → IsBefore gone end last most count → end ≤ length gone → count < most → count < end
-    → c ≡ slice_index_or gone (end - 1 - count) c → c.x ≡ last.x → c.y ≡ last.y → c.z + count ≡ last.z
-    → IsBefore gone end last most (count + 1)
-one_more_before gone end last most count c b g l m h x y z = record {
-  some = omega arith;
-  within = omega arith;
-  few = omega arith;
-  row = b.row;
-  each = λ k i d n e. elim (cases_lt k count) [
-    | inl o ↦ b.each k i d o e
-    | inr o ↦
-        let i_is : i ≡ end - 1 - count = omega arith in
-        let k_is : k ≡ count = omega arith in
-        let z_is : c.z ≡ last.z - k = omega arith in
-        let record_is : c ≡ record { x = last.x; y = last.y; z = last.z - k } = λ j. record { x = x j; y = y j; z = z_is j } in
-        ap (λ (b : ℕ). slice_index_or gone b d) i_is ∙ (get_or_default gone (end - 1 - count) d c (omega arith) ∙ (sym h ∙ record_is))
-  ];
-}
 
 -- ---- the words of a row
 

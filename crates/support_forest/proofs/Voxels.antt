@@ -8,7 +8,7 @@ use Rattle.vox_geom.specs.Space.{IsInSpace, coordinate_at, place}
 use Rattle.vox_geom.proofs.Firsts.{place_below}
 use Rattle.vox_geom.proofs.Places.{coordinate_at-place, place-coordinate_at}
 use Rattle.vox_geom.proofs.Tests.{test_equal, test_unequal}
-use Rattle.support_forest.specs.Grid.{Grid, IsStore, StandsIn, brick, brick_number, place_in_slot, side, slot_at, slot_of}
+use Rattle.support_forest.specs.Grid.{Grid, IsStore, brick, brick_number, place_in_slot, side, slot_at, slot_of}
 use Rattle.support_forest.specs.Placing.{IsOwnSpot}
 use Rattle.support_forest.specs.Spots.{spot_of, voxel_of, voxel_in, voxel_of_brick}
 use Rattle.support_forest.specs.Stretches.{further, whole_row_start}
@@ -85,11 +85,6 @@ unfolding spot_of
 voxel_at_spot r c h =
     let below = slot_place_below c in
     voxel_there r (512 * brick_number r c + place_in_slot c) c h (omega arith) (omega arith)
-
--- the voxel at a spot stands there
-pub stands_there : (r p : ℕ) → IsInSpace (side r) (brick (voxel_of (side r) p))
-    → StandsIn r (p / 512) (p % 512) (voxel_of (side r) p)
-stands_there r p h = record { within = h; in_brick = number_at r p; at_place = slot_place_at (side r) p }
 
 pub own_spot : (r p : ℕ) → IsInSpace r (voxel_of (side r) p) → IsOwnSpot r (voxel_of (side r) p) (p / 512) (p % 512)
 own_spot r p h = record { within = h; in_brick = sym (number_at r p); at_place = sym (slot_place_at (side r) p) }

@@ -16,10 +16,6 @@ use Rattle.vox_geom.proofs.Tests.{test_itself, test_unequal}
 
 -- ---- places
 
-pub weaker : (r y z low first : ℕ) (cs : List Coord) → first ≤ low → AreLined r y z low cs → AreLined r y z first cs
-weaker r y z low first [] h k = tt
-weaker r y z low first (c ∷ cs) h k = (record { within = k.0.within; past = let past = k.0.past in omega arith; height = k.0.height; depth = k.0.depth }, k.1)
-
 pub sent_lined : (r y z low x : ℕ) (cs : List Coord) → AreLined r y z low cs → free_column low cs ≤ x → x < r
     → AreLined r y z low (sent cs x)
 sent_lined r y z low x [] k h l = tt

@@ -1,10 +1,9 @@
 -- The turn of a group can be taken, and does to the state what the definition says of the group.
 use Rattle.std.proofs.Common.{rules, ◌≡◌, ℕ, ◌+◌, ◌<◌, ◌≤◌, refl, sym, ◌∙◌, ap, subst, arith, inl, inr, ◌⊎◌, List, [], ◌∷◌, ◌++◌, Bool, true, false, cond, ◌&&◌, ◌||◌, ◌==◌, map, not, length, pos}
-use Rattle.std.specs.Prelude.{Some, None, Option, nat_lt, filter, find, flat_map, option_map, unwrap_or, IsSome, count_by, slice_index_or, ◌+ℤ◌, ℤ}
+use Rattle.std.specs.Prelude.{Some, None, Option, nat_lt, filter, find, flat_map, option_map, unwrap_or, IsSome, slice_index_or, ◌+ℤ◌, ℤ}
 use Rattle.std.specs.List.{list_all, list_any}
 use Rattle.std.proofs.lemmas.Int.{ints}
 use Rattle.std.proofs.lemmas.List.Concat.{flat_map_single}
-use Rattle.std.proofs.lemmas.List.Sums.{sum_by-cons}
 use Rattle.vox_geom.specs.declared.coordinate.Coord.{Coord}
 use Rattle.vox_geom.specs.declared.difference.Diff.{Diff}
 use Rattle.vox_geom.specs.Difference.{is_near}
@@ -107,17 +106,6 @@ shared_voided : (p : Point) (c : Command) (q : Point) (e : Command) (x : Point) 
     → list_any (λ s. is_within s x) (voided p c) ≡ true → list_any (λ s. is_within s x) (voided q e) ≡ true
 shared_voided p (GVoid d f) q (GVoid e g) x h k = or_by_first _ false (region_on (between (plus p d) (plus (plus p d) f)) (between (plus q e) (plus (plus q e) g)) x h (of_or _ k))
 shared_voided p c q e x h k = cc
-
--- ---- flips
-
-none_flips : (xs : List Act) → ((a : Act) → In a xs → is_flip a.command ≡ false)
-    → count_by (λ (a : Act). is_flip a.command) xs ≡ 0
-none_flips [] h = refl
-none_flips (x ∷ xs) h =
-    let sum_is : count_by (λ (a : Act). is_flip a.command) (x ∷ xs) ≡ cond (is_flip x.command) 1 0 + count_by (λ (a : Act). is_flip a.command) xs = sum_by-cons (λ (a : Act). cond (is_flip a.command) 1 0) x xs in
-    let flip_count_zero : cond {A = ℕ} (is_flip x.command) 1 0 ≡ 0 = ap (λ (b : Bool). cond {A = ℕ} b 1 0) (h x (inl refl)) in
-    let count_is : count_by (λ (a : Act). is_flip a.command) xs ≡ 0 = none_flips xs (λ a i. h a (inr i)) in
-    omega arith
 
 -- ---- the law
 

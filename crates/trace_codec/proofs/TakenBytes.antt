@@ -104,10 +104,6 @@ taken_bad bytes piece more commands decoder offset h (e, inr r) =
     (e ∙ h.offset_is)
     (refused_more (decoder.held ++ piece) more r)
 
-pub taken_whole : (bytes : List ℕ) (commands : List Command) (decoder : DecoderState) → HasTaken bytes commands decoder
-    → decoder.held ≡ [] → Decoding bytes (Ok commands)
-taken_whole bytes commands decoder h n = whole bytes commands decoder.held h.are_commands h.bytes_are n
-
 -- what the decoder answers at the end is how the bytes are decoded
 pub taken_ended : (bytes : List ℕ) (commands : List Command) (decoder : DecoderState) (refusal : TraceRefusal)
     → HasTaken bytes commands decoder → EndsTrace {A = Unit {0}} decoder (Err refusal)

@@ -1,9 +1,8 @@
 -- Whole traces: the answer to their bytes is the one that the definition gives.
-use Rattle.std.proofs.Common.{◌≡◌, ◌≢◌, ℕ, ◌+◌, ◌-◌, ◌<◌, ◌≤◌, refl, sym, ◌∙◌, ap, subst, arith, List, [], ◌∷◌, ◌++◌, length, get_or, take, drop}
+use Rattle.std.proofs.Common.{◌≡◌, ◌≢◌, ℕ, ◌+◌, ◌-◌, ◌<◌, ◌≤◌, refl, sym, ◌∙◌, ap, subst, arith, List, [], ◌∷◌, ◌++◌, length, take, drop}
 use Rattle.std.specs.Prelude.{Result, Ok, Err}
-use Rattle.std.proofs.lemmas.List.{append_assoc, drop-drop, drop_all, length-append, length-drop, take_more, take_rest}
+use Rattle.std.proofs.lemmas.List.{append_assoc, drop-drop, drop_all, length-append, length-drop, take_rest}
 use Rattle.nano_spec.specs.declared.commands.Command.{Command}
-use Rattle.nano_spec.specs.Command.{IsCommand}
 use Rattle.nano_spec.specs.Cutting.{AreCommands, BeginsSpelling, Cutting, Decoding, NoTrace, CutAt, BadAt}
 use Rattle.nano_spec.specs.Spelling.{spelling, spellings}
 use Rattle.nano_spec.proofs.Traces.{Decoding-unique}
@@ -44,9 +43,6 @@ pub record HasCut (bytes : List ℕ) (commands : List Command) (start : ℕ) : T
   pub start_is : start ≡ length (spellings commands)
   pub within : start ≤ length bytes
 
-pub cut_nothing : (bytes : List ℕ) → HasCut bytes [] 0
-cut_nothing bytes = record { are_commands = tt; bytes_are = refl; start_is = refl; within = omega arith }
-
 cut_on : (bytes : List ℕ) (commands : List Command) (start : ℕ) (c : Command) (len : ℕ) → HasCut bytes commands start
     → Spells (drop start bytes) c len → HasCut bytes (commands ++ c ∷ []) (start + len)
 cut_on bytes commands start c len h s =
@@ -85,13 +81,3 @@ is_refused bytes commands start h r = bad_at bytes commands (drop start bytes) s
 pub is_whole : (bytes : List ℕ) (commands : List Command) (start : ℕ) → HasCut bytes commands start
     → length bytes ≤ start → Decoding bytes (Ok commands)
 is_whole bytes commands start h l = whole bytes commands (drop start bytes) h.are_commands h.bytes_are (drop_all start bytes l)
-
--- ---- commands that are encoded one after another
-
-pub encoded_more : (bytes new : List ℕ) (commands : List Command) (i : ℕ) (c : Command)
-    → Cutting bytes (take i commands) → i < length commands → c ≡ get_or commands i c → IsCommand c
-    → new ≡ bytes ++ spelling c → Cutting new (take (i + 1) commands)
-encoded_more bytes new commands i c h l r is_c e =
-    let same_front : take i commands ++ c ∷ [] ≡ take (i + 1) commands = ap (λ x. take i commands ++ x ∷ []) r ∙ sym (take_more commands i c l) in
-    subst (λ (x : List Command). Cutting new x) same_front
-    (are_commands_more (take i commands) c h.0 is_c, e ∙ (ap (λ x. x ++ spelling c) h.1 ∙ sym (spellings_more (take i commands) c)))

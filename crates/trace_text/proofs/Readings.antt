@@ -1,5 +1,5 @@
 -- What is left to be read once a part of a line was taken.
-use Rattle.std.proofs.Common.{◌≡◌, ℕ, zero, suc, ◌+◌, ◌-◌, ◌*◌, refl, sym, ◌∙◌, ap, subst, arith, Bool, true, false, cond, not, List, [], ◌∷◌, ◌++◌, map, length, drop, ℤ, pos, neg_ℤ}
+use Rattle.std.proofs.Common.{◌≡◌, ℕ, zero, suc, ◌+◌, ◌-◌, ◌*◌, refl, sym, ◌∙◌, ap, arith, Bool, true, false, cond, not, List, [], ◌∷◌, ◌++◌, map, length, drop, ℤ, pos, neg_ℤ}
 use Rattle.std.specs.Prelude.{IsTrue, IsFalse, ◌==◌, Option, Some, None, flat_map}
 use Rattle.std.specs.List.{prefix_len}
 use Rattle.vox_geom.proofs.Tests.{equal_by_test}
@@ -11,14 +11,6 @@ use Rattle.trace_text.specs.Parts.{after_number, begins_with, is_free, is_sharp,
 contrary : (t : Bool) → IsTrue t → IsTrue (not t) → ⊥
 contrary true p q = cc
 contrary false p q = cc
-
-no_mark : (test : ℕ → Bool) (b m : ℕ) (xs : List (List ℤ)) → IsTrue (test b) → IsTrue (not (test m))
-    → cond (b == m) xs [] ≡ []
-no_mark test b m xs h k = by (b == m) refl
-  where
-    by : (t : Bool) → (b == m) ≡ t → cond t xs [] ≡ []
-    by true e = absurd (contrary (test m) (subst (λ (v : ℕ). IsTrue (test v)) (equal_by_test b m e) h) k)
-    by false e = refl
 
 -- blanks before a sharp form are taken all
 pub without_blanks : (ps : List Part) (line : List ℕ) → IsTrue (is_sharp ps)

@@ -16,11 +16,6 @@ use Rattle.plan_tape.proofs.ClearWays.{moves_on, no_moves}
 
 -- ---- tapes
 
--- nothing is voided yet
-pub clears_none : (a : TapeState) (at : Coord) → IsRectangle a (far_of a.matrix.resolution) (far_of a.matrix.resolution)
-    → Clears a a at at 0
-clears_none a at square = record { source = refl; resolution = refl; fewer = λ c v. v; square = square; fissions_are = refl; steps_are = omega arith }
-
 -- some more
 pub clears_more : (a b c : TapeState) (p q s : Coord) (k n most : ℕ) → Clears a b p q k → Clears b c q s n
     → k + n ≤ most → Clears a c p s most

@@ -1,5 +1,5 @@
 -- What has been read of a file, piece after piece.
-use Rattle.std.proofs.Common.{◌≡◌, ℕ, ◌+◌, ◌<◌, ◌≤◌, List, [], ◌++◌, length, take, drop, Option, None, Some, IsSomeAnd, refl, sym, ap, ◌∙◌, subst, arith, length-append, length-take}
+use Rattle.std.proofs.Common.{◌≡◌, ℕ, ◌+◌, ◌<◌, ◌≤◌, List, ◌++◌, length, take, drop, Option, None, Some, IsSomeAnd, refl, sym, ap, ◌∙◌, subst, arith, length-append, length-take}
 use Rattle.std.proofs.lemmas.List.{take-take, drop-take, take-append-drop, take_all}
 use Rattle.vox_depot.specs.Files.{Files, content, IsPiece, IfTold}
 
@@ -16,9 +16,6 @@ length_joined v w buf taken le is = ap length is ∙ length-append v (take taken
 pub record SoFar (told : Option Files) (name v : List ℕ) : Type 0 where
   pub front : (files : Files) (file : List ℕ) → told ≡ Some files → content files name ≡ Some file
       → v ≡ take (length v) file
-
-pub SoFar-empty : (told : Option Files) (name : List ℕ) → SoFar told name []
-SoFar-empty told name = record { front = λ files file t c. refl }
 
 -- what is known of the file where it is told, in the form of a premise
 pub from_told : (told : Option Files) (name : List ℕ) (P : List ℕ → Type 0) → IfTold told name P → (files : Files)

@@ -6,7 +6,7 @@ use Rattle.std.proofs.Math.Nat.{div-add-mod, div-div-eq-div-mul, mod-eq_of_lt, p
 use Rattle.std.proofs.lemmas.Bool.{cases_lt}
 use Rattle.std.proofs.lemmas.Bool.Decides.{nat_tests}
 use Rattle.std.proofs.lemmas.List.{get_or-set_same, get_or-set_other}
-use Rattle.std.proofs.lemmas.Nat.{and_mask, mod_below, pow-add, pow_pos}
+use Rattle.std.proofs.lemmas.Nat.{and_mask, pow-add, pow_pos}
 use Rattle.std.proofs.lemmas.Nat.Bits.{bit_at-lt, bit_at_and, bit_at_or, bit_at_not, bit_at_cat_low, bit_at_cat_high, bit_at_mask_above, bit_at_mask_below, bit_at_mask_inside, ones_shr}
 use native.Mathlib.Decide.{ℕ_discrete}
 use Rattle.vox_geom.specs.declared.coordinate.Coord.{Coord}
@@ -49,12 +49,6 @@ chunk_is ws index count k w v m l h ew em ev =
     ap (λ n. bit n k) (ev ∙ (ap (bit_and (w / 2 ^ (index % 64))) (em ∙ all) ∙ and_mask (w / 2 ^ (index % 64)) count))
     ∙ (chunk_bit w (index % 64) count k l
     ∙ (ap (λ n. bit n (index % 64 + k)) ew ∙ sym (in_one_word ws index count k l h)))
-
-pub chunk_below : (w s count v m : ℕ) → m ≡ 2 ^ (0 + count) - 2 ^ 0 → v ≡ bit_and (w / 2 ^ s) m → v < 2 ^ count
-chunk_below w s count v m em ev =
-    let all : 2 ^ (0 + count) - 2 ^ 0 ≡ 2 ^ count - 1 = ap (λ n. 2 ^ n - 1) (let count_is : 0 + count ≡ count = omega arith in count_is) in
-    let is : v ≡ (w / 2 ^ s) % 2 ^ count = ev ∙ (ap (bit_and (w / 2 ^ s)) (em ∙ all) ∙ and_mask (w / 2 ^ s) count) in
-    subst (λ (n : ℕ). n < 2 ^ count) (sym is) (mod_below (w / 2 ^ s) (2 ^ count) (pow_pos count))
 
 -- ---- writing
 

@@ -48,10 +48,6 @@ one_word_less words end some h zero = record { few = omega (arith, h.few); below
 abbrev pub end_with : ℕ → ℕ → Bool → ℕ
 end_with end at some = cond some (max end (at + 1)) end
 
-pub end_kept : (words : List ℕ) (end at : ℕ) → AreZeroFrom words end → at < length words
-    → AreZeroFrom words (max end (at + 1))
-end_kept words end at h l = record { few = omega (arith, h.few); below = λ i k t. omega (arith, h.below i k t) }
-
 -- where only bits of a part of a row were changed, up to the word `at`, and some may be 1 now
 pub zero_beside : (old new : List ℕ) (index count end at : ℕ) (some : Bool) → AreZeroFrom old end
     → length new ≡ length old → at < length new → index + count ≤ (at + 1) * 64

@@ -1,5 +1,5 @@
 -- Bits that are made 1 or 0, and how many of them changed.
-use Rattle.std.proofs.Common.{◌≡◌, ℕ, ◌+◌, ◌-◌, ◌^◌, ◌<◌, ◌≤◌, refl, sym, ◌∙◌, ap, subst, arith, Bool, true, false, not, ◌==◌, List, inl, inr}
+use Rattle.std.proofs.Common.{◌≡◌, ℕ, ◌+◌, ◌-◌, ◌^◌, ◌<◌, ◌≤◌, sym, ◌∙◌, ap, subst, arith, Bool, true, false, not, ◌==◌, List, inl, inr}
 use Rattle.std.specs.Prelude.{IsFalse, ◌⊎◌, count_ones}
 use Rattle.std.proofs.lemmas.Bool.{cases_lt}
 use Rattle.std.proofs.lemmas.Nat.Bits.{bit_at-zero}
@@ -47,9 +47,6 @@ pub record AreFilled (old new : List ℕ) (index count : ℕ) (full : Bool) (n :
   pub here : (k : ℕ) → k < count → is_set new (index + k) ≡ full
   pub others : (j : ℕ) → IsFalse (is_from index count j) → is_set new j ≡ is_set old j
   pub changed : n ≡ others_of old index count full
-
-pub filled_none : (ws : List ℕ) (index : ℕ) (full : Bool) → AreFilled ws ws index 0 full 0
-filled_none ws index full = record { here = λ k l. absurd (omega arith); others = λ j f. refl; changed = refl }
 
 pub filled_more : (old mid new : List ℕ) (index done count : ℕ) (full : Bool) (a b : ℕ)
     → AreFilled old mid index done full a → AreFilled mid new (index + done) count full b

@@ -5,7 +5,7 @@ use Rattle.std.specs.Option.{option_or}
 use Rattle.std.proofs.Math.Nat.{mul-le-mul}
 use Rattle.std.proofs.lemmas.Bool.{cases_lt}
 use Rattle.vox_geom.specs.declared.coordinate.Coord.{Coord}
-use Rattle.vox_geom.specs.Region.{Corners, IsOrdered, size, span}
+use Rattle.vox_geom.specs.Region.{Corners, IsOrdered}
 use Rattle.vox_geom.specs.Space.{IsInSpace, coordinates, place}
 use Rattle.nano_spec.specs.Matrix.{Matrix, all_of, is_full}
 use Rattle.vox_planes.specs.Bits.{AreClear, IsFirstBit}
@@ -13,12 +13,9 @@ use Rattle.vox_planes.specs.Layers.{bit_index, is_set, layer_words, layered}
 use Rattle.vox_planes.specs.Walk.{coordinates_from, passes_in, row, row_start}
 use Rattle.vox_planes.proofs.Bits.{in_layer}
 use Rattle.vox_planes.proofs.Voxels.{is_full-layered}
-use Rattle.vox_planes.proofs.Walks.{filter-end, filter-next_wall, filter-start, filter-step, find-end, find-next_wall, find-start, find-step, row-end, row-more, size-walls}
+use Rattle.vox_planes.proofs.Walks.{filter-end, filter-next_wall, filter-start, filter-step, find-end, find-next_wall, find-start, find-step, row-end, row-more}
 
 -- ---- bits that lie equally far apart
-
-pub free_none : (ws : List ℕ) (from apart : ℕ) → AreClear ws from apart 0
-free_none ws from apart = record { free = λ n l. absurd (omega arith) }
 
 pub free_more : (ws : List ℕ) (from apart n at : ℕ) → AreClear ws from apart n → at ≡ from + n * apart
     → is_set ws at ≡ false → AreClear ws from apart (n + 1)
@@ -29,10 +26,6 @@ free_more ws from apart n at f e h = record { free = λ k l. by k l (cases_lt k 
     by k l (inr m) =
         let same : k ≡ n = omega arith in
         ap (λ v. is_set ws (from + v * apart)) same ∙ (ap (is_set ws) (sym e) ∙ h)
-
--- so many steps are no longer than all of them
-pub steps_within : (n count apart : ℕ) → n ≤ count → n * apart ≤ count * apart
-steps_within n count apart l = mul-le-mul l (omega arith)
 
 -- ---- a search that goes on at the next of so many coordinates
 
@@ -243,23 +236,3 @@ first_as ws us from s apart a n ew es ea f = subst (λ (v : List ℕ). IsFirstBi
 pub all_as : (ws us : List ℕ) (from s apart a n m : ℕ) → ws ≡ us → from ≡ s → apart ≡ a → n ≡ m
     → AreClear ws from apart n → AreClear us s a m
 all_as ws us from s apart a n m ew es ea en f = subst (λ (v : List ℕ). AreClear v s a m) ew (subst (λ (v : ℕ). AreClear ws v a m) es (subst (λ (v : ℕ). AreClear ws from v m) ea (subst (λ (v : ℕ). AreClear ws from apart v) en f)))
-
--- ---- how many coordinates a line has
-
-module _ (k : Corners) (o : IsOrdered k) where
-  wall_is : (a b : ℕ) → k.high.y + 1 - k.low.y ≡ a → k.high.z + 1 - k.low.z ≡ b
-      → size (span k) ≡ (k.high.x + 1 - k.low.x) * (a * b)
-  wall_is a b ea eb = size-walls k o ∙ (λ i. (k.high.x + 1 - k.low.x) * (ea i * eb i))
-
-  pub size_x : k.low.y ≡ k.high.y → k.low.z ≡ k.high.z → size (span k) ≡ k.high.x + 1 - k.low.x
-  size_x y z = wall_is 1 1 (omega arith) (omega arith) ∙ omega arith
-
-  pub size_y : k.low.x ≡ k.high.x → k.low.z ≡ k.high.z → size (span k) ≡ k.high.y + 1 - k.low.y
-  size_y x z =
-      let one : k.high.x + 1 - k.low.x ≡ 1 = omega arith in
-      wall_is (k.high.y + 1 - k.low.y) 1 refl (omega arith) ∙ (ap (λ n. n * ((k.high.y + 1 - k.low.y) * 1)) one ∙ omega arith)
-
-  pub size_z : k.low.x ≡ k.high.x → k.low.y ≡ k.high.y → size (span k) ≡ k.high.z + 1 - k.low.z
-  size_z x y =
-      let one : k.high.x + 1 - k.low.x ≡ 1 = omega arith in
-      wall_is 1 (k.high.z + 1 - k.low.z) (omega arith) refl ∙ (ap (λ n. n * (1 * (k.high.z + 1 - k.low.z))) one ∙ omega arith)

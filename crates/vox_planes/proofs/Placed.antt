@@ -127,15 +127,9 @@ module _ (r : ℕ) (old new : List ℕ) (from count bits : ℕ) (within : from +
 
 -- ---- one part after another
 
-from_none : (from p : ℕ) → is_from from 0 p ≡ false
-from_none from p = grind (arith, nat_tests)
-
 -- so many voxels from a place on have the values of a test, the others are as they were
 pub record ArePut (old new : Matrix) (from count : ℕ) (test : ℕ → Bool) : Type 0 where
   pub voxels : (p : ℕ) → voxel_at new p ≡ cond (is_from from count p) (test p) (voxel_at old p)
-
-pub put_none : (m : Matrix) (from : ℕ) (test : ℕ → Bool) → ArePut m m from 0 test
-put_none m from test = record { voxels = λ p. sym (ap (λ s. cond s (test p) (voxel_at m p)) (from_none from p)) }
 
 pub put_parts : (old mid new : Matrix) (from done count : ℕ) (test part : ℕ → Bool) → ArePut old mid from done test
     → ((p : ℕ) → voxel_at new p ≡ cond (is_from (from + done) count p) (part p) (voxel_at mid p))

@@ -77,12 +77,6 @@ pub record AreTaken (old now : List ℕ) (index done bits taken : ℕ) : Type 0 
   pub was : HasBits taken done (λ k. bit bits k && is_set old (index + k))
   pub left : (j : ℕ) → is_set now j ≡ (is_set old j && not (is_from index done j && bit bits (j - index)))
 
-pub taken_none : (words : List ℕ) (index bits : ℕ) → AreTaken words words index 0 bits 0
-taken_none words index bits = record {
-  was = record { bits = λ j l. absurd (omega arith); below = omega arith };
-  left = λ j. sym (kept (is_set words j) (bit bits (j - index))) ∙ ap (λ b. is_set words j && not (b && bit bits (j - index))) (sym (none_of_these index 0 j (λ k l e. absurd (omega arith))));
-}
-
 -- one part more of the marked bits was read
 pub peeked_more : (words : List ℕ) (index done count bits part taken both : ℕ)
     → HasBits taken done (λ k. bit bits k && is_set words (index + k)) → done + count ≤ 64

@@ -298,11 +298,6 @@ size-walls k o =
     extent_is : (low high : ℕ) → low ≤ high → extent (pos low) (pos high) ≡ high + 1 - low
     extent_is low high h = omega (arith, ints)
 
--- the list of what is past the last component
-pub filter-row_last : (test : Coord → Bool) (c : Coord) (last z : ℕ) → last ≤ z
-    → filter test (row (at c (z + 1)) last) ≡ []
-filter-row_last test c last z m = ap (filter test) (row-end (at c (z + 1)) last (omega arith))
-
 -- ---- what was found, or else what follows
 
 pub some_or : {A : Type 0} (o p q : Option A) → is_some o ≡ true → option_or o p ≡ option_or o q

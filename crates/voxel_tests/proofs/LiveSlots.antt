@@ -1,14 +1,9 @@
 -- What a write or a slot that is given back leaves of the slots that are live.
-use Rattle.std.proofs.Common.{◌≡◌, ℕ, Bool, true, false, cond, List, Option, Some, None, is_some, refl, ap, ◌∙◌}
+use Rattle.std.proofs.Common.{◌≡◌, ℕ, cond, None, is_some, ap, ◌∙◌}
 use Rattle.std.proofs.lemmas.Bool.{ne_eqb}
 use Rattle.std.specs.Cmp.{nat_cmp_total, unsigned_tied}
 use Rattle.std.specs.FinMap.{get, remove, get-remove}
 use Rattle.brick_arena.specs.Slots.{Slots, IsLive}
-
-either_is : (words : List ℕ) (held : Option (List ℕ)) (same : Bool) → is_some held ≡ true
-    → is_some (cond same (Some words) held) ≡ true
-either_is words held true live = refl
-either_is words held false live = live
 
 pub live-remove : (v : Slots) (s q : ℕ) → (q ≡ s → ⊥) → IsLive v q → IsLive (remove v s) q
 live-remove v s q ne live = ap is_some (get-remove nat_cmp_total v s q ∙ ap (λ b. cond b None (get v q)) (unsigned_tied q s ∙ ne_eqb q s ne)) ∙ live

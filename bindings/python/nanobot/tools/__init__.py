@@ -1,0 +1,1 @@
+"""The tools of the command line, for people who write and compare planners."""

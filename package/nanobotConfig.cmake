@@ -1,0 +1,15 @@
+# find_package(nanobot) gives nanobot::nanobot (shared) and nanobot::static.
+get_filename_component(_nanobot_prefix "${CMAKE_CURRENT_LIST_DIR}/../../.." ABSOLUTE)
+foreach(_nanobot_kind nanobot static)
+  if(NOT TARGET nanobot::${_nanobot_kind})
+    if(_nanobot_kind STREQUAL "static")
+      add_library(nanobot::static STATIC IMPORTED)
+      set_target_properties(nanobot::static PROPERTIES IMPORTED_LOCATION "${_nanobot_prefix}/lib/libnanobot.a")
+    else()
+      add_library(nanobot::nanobot SHARED IMPORTED)
+      set_target_properties(nanobot::nanobot PROPERTIES
+        IMPORTED_LOCATION "${_nanobot_prefix}/lib/libnanobot.so.0" IMPORTED_SONAME libnanobot.so.0)
+    endif()
+    set_target_properties(nanobot::${_nanobot_kind} PROPERTIES INTERFACE_INCLUDE_DIRECTORIES "${_nanobot_prefix}/include")
+  endif()
+endforeach()
