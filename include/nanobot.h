@@ -6,7 +6,7 @@
  *
  * - Each pointer points to so many readable bytes, or to so many writable ones of a buffer, for the whole call. It is never
  *   null, not even where the length is 0: the compiled code relies on that, as Rust's slices do. An empty std::vector, a slice
- *   of no bytes in Go and ctypes' None give a null pointer: pass NANOBOT_NONE there.
+ *   of no bytes in Go and ctypes' None give a null pointer: pass NANOBOT_NONE there, or call nanobot_bytes and nanobot_buffer.
  * - Nothing else writes to the bytes or the buffer during the call. The bytes that are read may overlap one another; the buffer,
  *   `size`, `energy` and `steps` overlap nothing else that is passed. No length is more than PTRDIFF_MAX.
  * - `size`, `energy` and `steps` point to one number each.
@@ -27,7 +27,7 @@
  * wanted, and the buffer is as it was. Behind what is given the buffer is as it was, too.
  *
  * To build and link: `./prove` makes out/libnanobot.a, and a package has it as lib/libnanobot.a; it links by itself, as in
- * `cc -Iinclude call.c out/libnanobot.a`. scripts/try linked does so for C, Rust and Python.
+ * `cc -Iinclude call.c out/libnanobot.a`. scripts/try linked does so for C, C++, Rust, Go and Python.
  */
 #ifndef NANOBOT_H
 #define NANOBOT_H
@@ -44,7 +44,22 @@ extern "C" {
 #endif
 
 /* What to pass with a length of 0, since no pointer may be null. */
+#ifdef __cplusplus
+#define NANOBOT_NONE (reinterpret_cast<const uint8_t *>(""))
+#else
 #define NANOBOT_NONE ((const uint8_t *)"")
+#endif
+
+/* Returns the same pointer, or NANOBOT_NONE for a null one, as std::vector's data() may be where it is empty:
+ * `nanobot_check(nanobot_bytes(model.data()), model.size(), ..)`. */
+static inline const uint8_t *nanobot_bytes(const uint8_t *bytes) { return bytes ? bytes : NANOBOT_NONE; }
+
+/* Returns the same pointer or, for a null one, that of a byte to which nothing is written: for a buffer whose room is 0. */
+static inline uint8_t *nanobot_buffer(uint8_t *buffer)
+{
+    static uint8_t nothing;
+    return buffer ? buffer : &nothing;
+}
 
 /* The statuses that can come: those of the program but 6, and 10. */
 enum {
@@ -154,6 +169,28 @@ uint32_t nanobot_asm(const uint8_t *text, size_t text_size, uint8_t *trace, size
  *     nanobot_dis(plan, size, spelled, sizeof spelled, &size);          // Wait, Halt
  */
 uint32_t nanobot_dis(const uint8_t *trace, size_t trace_size, uint8_t *text, size_t room, size_t *size);
+
+/* Returns how many bytes a command has whose first byte is this one, 1, 2 or 4; 0 if none begins so. It cuts a trace that nanobot_commands
+ * accepts into its commands; the bytes behind the first one may still spell none.
+ *
+ *     for (size_t at = 0; at < size && nanobot_command_size(plan[at]) > 0; at += nanobot_command_size(plan[at]))
+ *         printf("a command at %zu\n", at);
+ */
+static inline size_t nanobot_command_size(uint8_t first)
+{
+    /* bit n is 1 if n is the number of a near difference */
+    const uint32_t near_differences = 0x02EBDEBA;
+    const unsigned word = first & 7u, number = first >> 3;
+    if (first >= 0xFD) /* Flip, Wait, Halt */
+        return 1;
+    if (word == 4) { /* SMove has an axis in bits 4 and 5 and two bits 0 above it, LMove an axis in each pair of bits */
+        const unsigned axis = first >> 4 & 3u, second = first >> 6;
+        return axis != 0 && (first & 8u ? second != 0 : second == 0) ? 2 : 0;
+    }
+    if ((near_differences >> number & 1u) == 0)
+        return 0;
+    return word == 5 ? 2 : word < 2 ? 4 : 1;
+}
 
 /* The most bytes that a plan takes at resolution r, r being at most 400. */
 static inline uint64_t nanobot_layer_room(uint64_t r) { return 8 * r * r * r + 200; }

@@ -50,6 +50,59 @@ enum {
     NANOBOT_NO_TRACE = 21    /* no trace is kept */
 };
 
+/* Returns what a status of either header means; "" for a number that is none.
+ *
+ *     puts(nanobot_status_text(NANOBOT_ENDED));                        // no bot is active any more
+ */
+static inline const char *nanobot_status_text(uint32_t status)
+{
+    static const char *const texts[] = {"done",
+                                        "a rule is broken",
+                                        "an argument is not one that the call takes",
+                                        "a model is refused, or two resolutions differ",
+                                        "a command is bad or cut",
+                                        "a file could not be read",
+                                        "",
+                                        "out of memory",
+                                        "a text is refused",
+                                        "a part of the target is unsupported",
+                                        "the buffer is too small",
+                                        "there is no machine",
+                                        "no bot is active any more",
+                                        "more or fewer commands than active bots",
+                                        "the machine has made its last step",
+                                        "no earlier step is noted",
+                                        "the coordinate is out of space",
+                                        "the voxel is void, or not grounded",
+                                        "the matrix is not the target",
+                                        "the target is of another resolution",
+                                        "steps were made before",
+                                        "no trace is kept"};
+    return status < sizeof texts / sizeof texts[0] ? texts[status] : "";
+}
+
+/* Returns the name of a rule by its number (docs/FORMATS.md, "Rules"); "" for a number that is none.
+ *
+ *     puts(nanobot_rule_name(12));                                     // Ungrounded
+ */
+static inline const char *nanobot_rule_name(uint32_t rule)
+{
+    static const char *const names[] = {"",          "TraceEnds",  "HaltAlone",    "HaltOrigin", "HaltLow",   "OutOfSpace",  "Blocked",  "Seeds",
+                                        "InRegion",  "Partner",    "GroupShape",   "Interference", "Ungrounded", "AfterHalt", "WrongResult", "Forbidden"};
+    return rule < sizeof names / sizeof names[0] ? names[rule] : "";
+}
+
+/* Returns the name of the refusal of a model by its number (docs/FORMATS.md, "Refusals"); "" for a number that is none.
+ *
+ *     puts(nanobot_refusal_name(7));                                   // Floating
+ */
+static inline const char *nanobot_refusal_name(uint32_t number)
+{
+    static const char *const names[] = {"",         "NoByte",   "Resolution",     "Short",   "Long",      "",        "Border",
+                                        "Floating", "WideHead", "WideResolution", "WideRun", "WideShort", "WideLong"};
+    return number < sizeof names / sizeof names[0] ? names[number] : "";
+}
+
 /* Why a model is refused: the number of the refusal (docs/FORMATS.md, "Model files", "Refusals"), how many bytes are wanted, what
  * there is (the resolution, bytes or voxels, or the index of a run), and the voxel. What does not belong to it is 0, and all where
  * nothing is refused. */

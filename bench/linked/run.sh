@@ -1,7 +1,8 @@
 #!/usr/bin/env bash
 # How long it takes to judge the house, and a forged model of resolution 20 with its plan of one bot, ten thousand times: through
 # the static library, from C, and by starting the program as often. Then what calls of a machine take that is kept, from C, Rust and
-# Python, and a step of the program beside it: a million moves to and fro, and fills and voids. Builds both where they are missing.
+# Python (steps, judgements, copies, counts of what differs, and in Python reading a model and making the steps of a long trace), and a
+# step of the program beside it: a million moves to and fro, and fills and voids. Builds both where they are missing.
 set -eu
 # shellcheck source=scripts/common disable=SC2154
 . "$(dirname -- "$0")/../../scripts/common"

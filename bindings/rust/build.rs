@@ -1,9 +1,26 @@
-//! Links libnanobot.a, which `./prove` builds. `NANOBOT_LIB` has its folder; else it is `out` at the top of the repository.
+//! Links libnanobot.a: that of the folder which `NANOBOT_LIB` names, or else `out` at the top of the repository, where `./prove` builds it,
+//! or `lib` at the top of an archive that `scripts/package` made.
+
+use std::env;
+use std::path::PathBuf;
+
+const LIBRARY: &str = "libnanobot.a";
 
 fn main() {
     println!("cargo:rerun-if-env-changed=NANOBOT_LIB");
-    let folder = std::env::var("NANOBOT_LIB").unwrap_or_else(|_| format!("{}/../../out", env!("CARGO_MANIFEST_DIR")));
-    println!("cargo:rerun-if-changed={folder}/libnanobot.a");
-    println!("cargo:rustc-link-search=native={folder}");
+    let top = format!("{}/../..", env!("CARGO_MANIFEST_DIR"));
+    let folders = match env::var("NANOBOT_LIB") {
+        Ok(named) => vec![PathBuf::from(named)],
+        Err(_) => vec![PathBuf::from(format!("{top}/out")), PathBuf::from(format!("{top}/lib"))],
+    };
+    for folder in &folders {
+        println!("cargo:rerun-if-changed={}", folder.join(LIBRARY).display());
+    }
+    let Some(folder) = folders.iter().find(|folder| folder.join(LIBRARY).exists()) else {
+        let tried: Vec<String> = folders.iter().map(|folder| folder.display().to_string()).collect();
+        eprintln!("error: there is no {LIBRARY} in {}: run ./prove, or set NANOBOT_LIB to the folder that has it", tried.join(" or "));
+        std::process::exit(1);
+    };
+    println!("cargo:rustc-link-search=native={}", folder.display());
     println!("cargo:rustc-link-lib=static=nanobot");
 }

@@ -10,9 +10,6 @@
 
 enum { NO_FILE = 5, NOTES = 4, MOST_BOTS = 40 };
 
-static const char *const names[] = {"",        "TraceEnds",  "HaltAlone",    "HaltOrigin", "HaltLow",   "OutOfSpace",  "Blocked",  "Seeds",
-                                    "InRegion", "Partner",    "GroupShape",   "Interference", "Ungrounded", "AfterHalt", "WrongResult", "Forbidden"};
-
 struct bytes {
     uint8_t *at; /* never null */
     size_t size;
@@ -35,16 +32,16 @@ static struct bytes bytes_of(const char *name)
     return bytes;
 }
 
-/* How many bytes the command takes whose first byte this is. */
-static size_t length_of(uint8_t head)
+/* How many bytes the command takes whose first byte this is; 1 if it begins none, which the machine says of the step. */
+static size_t length_of(uint8_t first)
 {
-    static const size_t lengths[] = {4, 4, 1, 1, 2, 2, 1, 1};
-    return head >= 0xfd ? 1 : lengths[head & 7];
+    size_t size = nanobot_command_size(first);
+    return size > 0 ? size : 1;
 }
 
 static uint32_t tell_broken(nanobot_broken b)
 {
-    printf("broken %u %s step %u bid %u at %u %u %u\n", b.rule, names[b.rule], b.step, b.bid, b.x, b.y, b.z);
+    printf("broken %u %s step %u bid %u at %u %u %u\n", b.rule, nanobot_rule_name(b.rule), b.step, b.bid, b.x, b.y, b.z);
     return NANOBOT_BROKEN;
 }
 

@@ -13,8 +13,8 @@
 
 using Bytes = std::vector<std::uint8_t>;
 
-// A pointer that is never null, also where there are no bytes.
-static const std::uint8_t *at(const Bytes &bytes) { return bytes.empty() ? NANOBOT_NONE : bytes.data(); }
+// A pointer that is never null, also if there are no bytes.
+static const std::uint8_t *at(const Bytes &bytes) { return nanobot_bytes(bytes.data()); }
 
 static void must(std::uint32_t status)
 {
@@ -83,12 +83,9 @@ private:
     nanobot_machine handle = {nullptr};
 };
 
-static const char *const names[] = {"",        "TraceEnds", "HaltAlone",    "HaltOrigin",   "HaltLow",    "OutOfSpace", "Blocked",     "Seeds",
-                                    "InRegion", "Partner",   "GroupShape",   "Interference", "Ungrounded", "AfterHalt",  "WrongResult", "Forbidden"};
-
 static int broken(nanobot_broken b)
 {
-    std::printf("broken %u %s step %u bid %u at %u %u %u\n", b.rule, names[b.rule], b.step, b.bid, b.x, b.y, b.z);
+    std::printf("broken %u %s step %u bid %u at %u %u %u\n", b.rule, nanobot_rule_name(b.rule), b.step, b.bid, b.x, b.y, b.z);
     return NANOBOT_BROKEN;
 }
 
@@ -100,11 +97,8 @@ static Bytes bytes_of(const std::string &name)
     return Bytes(std::istreambuf_iterator<char>(file), {});
 }
 
-static std::size_t length_of(std::uint8_t head)
-{
-    static const std::size_t lengths[] = {4, 4, 1, 1, 2, 2, 1, 1};
-    return head >= 0xfd ? 1 : lengths[head & 7];
-}
+// How many bytes the command takes whose first byte this is; 1 if it begins none, which the machine says of the step.
+static std::size_t length_of(std::uint8_t first) { return std::max<std::size_t>(nanobot_command_size(first), 1); }
 
 static int finish(Machine &machine, const Bytes &target, bool left)
 {

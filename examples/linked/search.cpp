@@ -144,11 +144,11 @@ static void check(Machine &made, Machine &scout, const Bytes &trace)
     for (std::uint32_t x = 0; x < a.resolution; x++)
         require(made.full(x, 0, 1) == made.grounded(x, 0, 1));
     std::uint64_t commands, offset;
-    must(nanobot_commands(trace.empty() ? NANOBOT_NONE : trace.data(), trace.size(), &commands, &offset));
+    must(nanobot_commands(nanobot_bytes(trace.data()), trace.size(), &commands, &offset));
     require(commands == a.steps && offset == 0);
     Bytes text(18 * trace.size() + 100), again(trace.size() + 100);
     std::size_t size, size_again;
-    must(nanobot_dis(trace.empty() ? NANOBOT_NONE : trace.data(), trace.size(), text.data(), text.size(), &size));
+    must(nanobot_dis(nanobot_bytes(trace.data()), trace.size(), text.data(), text.size(), &size));
     must(nanobot_asm(text.data(), size, again.data(), again.size(), &size_again));
     again.resize(size_again);
     require(again == trace);
@@ -168,7 +168,7 @@ static bool is_accepted(const Bytes &source, const Bytes &target, const Bytes &t
 {
     std::int64_t energy;
     std::uint32_t count;
-    const std::uint8_t *from = source.empty() ? NANOBOT_NONE : source.data(), *to = target.empty() ? NANOBOT_NONE : target.data();
+    const std::uint8_t *from = nanobot_bytes(source.data()), *to = nanobot_bytes(target.data());
     return nanobot_cost(from, source.size(), to, target.size(), trace.data(), trace.size(), false, &energy, &count) == NANOBOT_DONE;
 }
 

@@ -68,7 +68,8 @@ CALLS: Dict[str, List[Any]] = {
     "nanobot_dis": BYTES + GIVEN,
     "nanobot_machine_start": BYTES + [c_bool, c_uint32, MACHINE, POINTER(Refusal)],
     "nanobot_machine_start_empty": [c_uint32, c_bool, c_uint32, MACHINE],
-    "nanobot_machine_step": [MACHINE] + BYTES + [POINTER(StepTold)],
+    # Addresses, which `trace.Player` passes as numbers: these are passed on quicker than pointers.
+    "nanobot_machine_step": [c_void_p] + BYTES + [c_void_p],
     "nanobot_machine_judge": [MACHINE] + BYTES + [POINTER(JudgedTold)],
     "nanobot_machine_undo": [MACHINE],
     "nanobot_machine_copy": [MACHINE, MACHINE],

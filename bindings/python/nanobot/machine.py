@@ -98,12 +98,16 @@ def number_of(name: str, number: int, least: int, most: int) -> int:
 
 def coord_of(at: At) -> Coord:
     """Returns a coordinate that a call takes. Raises `OutOfSpace` for numbers that no call takes."""
-    if not isinstance(at, tuple) or len(at) != 3 or not all(hasattr(n, "__index__") for n in at):
+    if not isinstance(at, tuple) or len(at) != 3:
         raise TypeError(f"a coordinate is three whole numbers (x, y, z), not {at!r}")
-    c = Coord(*map(index, at))
-    if not all(0 <= n <= MOST_NUMBER for n in c):
-        raise OutOfSpace(c)
-    return c
+    x, y, z = at
+    if not type(x) is type(y) is type(z) is int:
+        if not all(hasattr(n, "__index__") for n in at):
+            raise TypeError(f"a coordinate is three whole numbers (x, y, z), not {at!r}")
+        x, y, z = map(index, at)
+    if not (0 <= x <= MOST_NUMBER and 0 <= y <= MOST_NUMBER and 0 <= z <= MOST_NUMBER):
+        raise OutOfSpace((x, y, z))
+    return Coord(x, y, z)
 
 
 def refusal_of(told: lib.Refusal) -> RefusedModel:

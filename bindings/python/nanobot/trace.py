@@ -66,7 +66,7 @@ class Player:
 
     def _some(self, most: int, active: int) -> Tuple[int, int]:
         """Makes at most so many steps, until one is refused or cannot be cut. Returns how many are left to make, and the active bots."""
-        step, handle, told = library.machine_step, ctypes.byref(self.machine._handle), ctypes.byref(self._told)
+        step, handle, told = library.machine_step, ctypes.addressof(self.machine._handle), ctypes.addressof(self._told)
         data, base, sizes, whole, at, ends = self.data, self._base, SIZES, len(self.data), self.offset, self.ends
         while most and active:
             end = at

@@ -1,7 +1,7 @@
 //! A search over two machines: `search T B` builds towards the model T with one bot, by steps that look best two moves deep, stores the
 //! trace that it made as B, and prints what `nanobot run - T B` prints of it.
 
-use nanobot::{asm, count_commands, dis, version, Coord, Machine, Profile};
+use nanobot::{asm, count_commands, dis, version, Broken, Coord, Machine, Profile, Rule};
 use std::error::Error;
 use std::fs;
 use std::process::ExitCode;
@@ -71,8 +71,8 @@ fn main() -> Told<ExitCode> {
     };
     let moves = moves();
     let mut made = Machine::empty(resolution, Profile::Full, 2)?;
-    assert!(made.keep_trace());
-    let mut scout = made.try_clone().ok_or("out of memory")?;
+    made.keep_trace()?;
+    let mut scout = made.try_clone()?;
     for _ in 0..STEPS {
         if made.differences(&target)? == 0 {
             break;
@@ -93,7 +93,6 @@ fn main() -> Told<ExitCode> {
         println!("ok energy {} steps {}", state.energy, state.steps);
         return Ok(ExitCode::SUCCESS);
     };
-    let Coord { x, y, z } = bot.at;
-    println!("broken 1 TraceEnds step {} bid {} at {x} {y} {z}", state.steps + 1, bot.bid);
+    println!("{}", Broken { rule: Rule::TraceEnds, step: state.steps + 1, bid: bot.bid, at: bot.at });
     Ok(ExitCode::from(1))
 }

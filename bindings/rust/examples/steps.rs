@@ -1,29 +1,10 @@
 //! A machine that is kept between steps: `steps run [light] S T B` prints what `nanobot run` prints of a run that is accepted or breaks a
 //! rule. Each step is made, taken back, and made again, and half way the machine goes on as a copy.
 
-use nanobot::{Broken, Coord, Machine, Profile, StepError};
+use nanobot::{Broken, Coord, Machine, Profile, Rule, StepError};
 use std::error::Error;
 use std::fs;
 use std::process::ExitCode;
-
-const NAMES: [&str; 16] = [
-    "",
-    "TraceEnds",
-    "HaltAlone",
-    "HaltOrigin",
-    "HaltLow",
-    "OutOfSpace",
-    "Blocked",
-    "Seeds",
-    "InRegion",
-    "Partner",
-    "GroupShape",
-    "Interference",
-    "Ungrounded",
-    "AfterHalt",
-    "WrongResult",
-    "Forbidden",
-];
 
 type Told<T> = Result<T, Box<dyn Error>>;
 
@@ -62,10 +43,10 @@ fn finish(machine: &mut Machine, target: Option<&[u8]>, left: usize) -> Told<Opt
     let state = machine.state();
     let broken = |rule, at| Some(Broken { rule, step: state.steps, bid: 0, at });
     if left > 0 {
-        return Ok(broken(13, Coord { x: 0, y: 0, z: 0 }));
+        return Ok(broken(Rule::AfterHalt, Coord { x: 0, y: 0, z: 0 }));
     }
-    let empty = Machine::empty(state.resolution, Profile::Full, 0)?.model().ok_or("out of memory")?;
-    Ok(machine.difference(target.unwrap_or(&empty))?.and_then(|at| broken(14, at)))
+    let empty = Machine::empty(state.resolution, Profile::Full, 0)?.model()?;
+    Ok(machine.difference(target.unwrap_or(&empty))?.and_then(|at| broken(Rule::WrongResult, at)))
 }
 
 /// Makes all steps of the trace: the machine at their end, and the rule that is broken, if one is.
@@ -81,7 +62,7 @@ fn run(mut machine: Machine, target: Option<&[u8]>, trace: &[u8]) -> Told<(Machi
         for bot in &bots {
             if end >= trace.len() {
                 let step = machine.state().steps + 1;
-                let broken = Broken { rule: 1, step, bid: bot.bid, at: bot.at };
+                let broken = Broken { rule: Rule::TraceEnds, step, bid: bot.bid, at: bot.at };
                 return Ok((machine, Some(broken)));
             }
             end += length_of(trace[end]);
@@ -92,7 +73,7 @@ fn run(mut machine: Machine, target: Option<&[u8]>, trace: &[u8]) -> Told<(Machi
             Err(fault) => return Err(fault.into()),
         }
         if at < trace.len() / 2 && end >= trace.len() / 2 {
-            machine = machine.try_clone().ok_or("out of memory")?;
+            machine = machine.try_clone()?;
         }
         at = end;
     }
@@ -111,8 +92,8 @@ fn main() -> Told<ExitCode> {
         (None, None) => return Ok(ExitCode::from(2)),
     };
     let (mut machine, broken) = run(machine, target.as_deref(), &trace)?;
-    if let Some(Broken { rule, step, bid, at }) = broken {
-        println!("broken {rule} {} step {step} bid {bid} at {} {} {}", NAMES[rule as usize], at.x, at.y, at.z);
+    if let Some(broken) = broken {
+        println!("{broken}");
         return Ok(ExitCode::from(1));
     }
     let state = machine.state();

@@ -1,16 +1,27 @@
 //! Why a call did not do its work. The machine is then as it was.
 
-use crate::{sys, Coord};
+use crate::{sys, Broken, Coord, Rule};
 use std::error::Error;
 use std::fmt;
 
-/// A rule that is broken, by its number, in which step, by which bot (0 for rule 12), and where.
+/// The names of the refusals of a model, by their numbers.
+const REFUSALS: [&str; 13] =
+    ["", "NoByte", "Resolution", "Short", "Long", "", "Border", "Floating", "WideHead", "WideResolution", "WideRun", "WideShort", "WideLong"];
+
+/// The name of the refusal of a model (docs/FORMATS.md, "Refusals"); "" for a number that is none.
+pub fn refusal_name(number: u32) -> &'static str {
+    REFUSALS.get(number as usize).copied().unwrap_or("")
+}
+
+/// Memory ran out.
 #[derive(Clone, Copy, PartialEq, Eq, Debug)]
-pub struct Broken {
-    pub rule: u32,
-    pub step: u32,
-    pub bid: u32,
-    pub at: Coord,
+pub struct OutOfMemory;
+
+/// Why no trace is kept.
+#[derive(Clone, Copy, PartialEq, Eq, Debug)]
+pub enum KeepError {
+    /// The machine has made steps, so its trace cannot begin here.
+    Begun,
 }
 
 /// Why a machine was not started.
@@ -108,19 +119,20 @@ pub(crate) fn started(status: u32, told: &sys::Refusal) -> Result<(), StartError
     }
 }
 
+fn broken_of(told: &sys::Broken) -> Broken {
+    let (x, y, z) = (told.x, told.y, told.z);
+    Broken {
+        rule: Rule::from_number(told.rule).expect("the library tells a rule from 1 to 15"),
+        step: told.step,
+        bid: told.bid,
+        at: Coord { x, y, z },
+    }
+}
+
 pub(crate) fn stepped(status: u32, told: &sys::Step) -> Result<(), StepError> {
     match status {
         sys::DONE => Ok(()),
-        sys::BROKEN => Err(StepError::Broken(Broken {
-            rule: told.broken.rule,
-            step: told.broken.step,
-            bid: told.broken.bid,
-            at: Coord {
-                x: told.broken.x,
-                y: told.broken.y,
-                z: told.broken.z,
-            },
-        })),
+        sys::BROKEN => Err(StepError::Broken(broken_of(&told.broken))),
         sys::TRACE => Err(StepError::BadCommands { offset: told.offset }),
         sys::COUNT => Err(StepError::WrongCount { active: told.active }),
         sys::ENDED => Err(StepError::Ended),
@@ -148,7 +160,7 @@ pub(crate) fn has_level(status: u32) -> Result<bool, LevelError> {
 impl fmt::Display for StartError {
     fn fmt(&self, f: &mut fmt::Formatter<'_>) -> fmt::Result {
         match self {
-            StartError::Model { number, .. } => write!(f, "the model is refused: refusal {number}"),
+            StartError::Model { number, .. } => write!(f, "the model is refused: {number} {}", refusal_name(*number)),
             StartError::Argument => write!(f, "notes are at most 4096, and resolutions 1 to 400"),
             StartError::Memory => write!(f, "out of memory"),
         }
@@ -158,10 +170,7 @@ impl fmt::Display for StartError {
 impl fmt::Display for StepError {
     fn fmt(&self, f: &mut fmt::Formatter<'_>) -> fmt::Result {
         match self {
-            StepError::Broken(b) => {
-                let Coord { x, y, z } = b.at;
-                write!(f, "rule {} is broken in step {} by bot {} at {x} {y} {z}", b.rule, b.step, b.bid)
-            }
+            StepError::Broken(broken) => broken.fmt(f),
             StepError::BadCommands { offset } => write!(f, "no command at byte {offset}"),
             StepError::WrongCount { active } => write!(f, "not one command for each of {active} bots"),
             StepError::Ended => write!(f, "no bot is active"),
@@ -209,13 +218,27 @@ impl fmt::Display for LevelError {
 impl fmt::Display for TargetError {
     fn fmt(&self, f: &mut fmt::Formatter<'_>) -> fmt::Result {
         match self {
-            TargetError::Model { number } => write!(f, "the target is no model: refusal {number}"),
+            TargetError::Model { number } => write!(f, "the target is no model: {number} {}", refusal_name(*number)),
             TargetError::Resolution => write!(f, "the target is of another resolution"),
             TargetError::Memory => write!(f, "out of memory"),
         }
     }
 }
 
+impl fmt::Display for OutOfMemory {
+    fn fmt(&self, f: &mut fmt::Formatter<'_>) -> fmt::Result {
+        f.write_str("out of memory")
+    }
+}
+
+impl fmt::Display for KeepError {
+    fn fmt(&self, f: &mut fmt::Formatter<'_>) -> fmt::Result {
+        f.write_str("steps were made before, so the trace cannot begin here")
+    }
+}
+
+impl Error for OutOfMemory {}
+impl Error for KeepError {}
 impl Error for StartError {}
 impl Error for StepError {}
 impl Error for UndoError {}

@@ -14,13 +14,19 @@
 //! # Ok::<(), Box<dyn std::error::Error>>(())
 //! ```
 
+mod buffer;
 mod errors;
 mod rows;
+mod rule;
 mod sys;
 
-pub use errors::{Broken, CommandsError, LevelError, StartError, StepError, TargetError, TraceError, UndoError};
+pub use errors::{
+    refusal_name, CommandsError, KeepError, LevelError, OutOfMemory, StartError, StepError, TargetError, TraceError, UndoError,
+};
 pub use rows::{asm, check, dis, judge, plan, Cost, Planner, Refused};
+pub use rule::{Broken, Rule};
 
+use buffer::given;
 use std::ptr::null_mut;
 
 /// The most bots that are active at once.
@@ -76,6 +82,8 @@ pub struct Bot {
 }
 
 /// A machine. One thread at a time uses it; it may be moved to another.
+///
+/// Calls that only read take `&mut self` too: the library takes the machine out of its handle for a call and puts it back.
 pub struct Machine {
     handle: sys::Handle,
 }
@@ -112,13 +120,17 @@ impl Machine {
         }
     }
 
-    /// Another machine where this one stands, with a trace of its own if one is kept; None for want of memory. No step can be taken back
-    /// in it until it makes some.
-    pub fn try_clone(&mut self) -> Option<Machine> {
+    /// Another machine in the same state, with a trace of its own if one is kept. No step can be taken back in it until it makes some. It takes
+    /// as long as a start over such a model.
+    pub fn try_clone(&mut self) -> Result<Machine, OutOfMemory> {
         let mut made = Machine::none();
         // SAFETY: the pointers are those of two references.
         let status = unsafe { sys::nanobot_machine_copy(&mut self.handle, &mut made.handle) };
-        (status == sys::DONE).then_some(made)
+        if status == sys::DONE {
+            Ok(made)
+        } else {
+            Err(OutOfMemory)
+        }
     }
 
     /// Makes one step: the bytes spell one command for each active bot, in rising order of their bids.
@@ -229,43 +241,38 @@ impl Machine {
         Ok(count)
     }
 
-    /// Keeps the trace from here on, unless steps were made before: whether it does.
-    pub fn keep_trace(&mut self) -> bool {
+    /// Keeps the trace from here on, unless steps were made before.
+    pub fn keep_trace(&mut self) -> Result<(), KeepError> {
         // SAFETY: the pointer is that of a reference.
-        unsafe { sys::nanobot_machine_keep(&mut self.handle) == sys::DONE }
+        match unsafe { sys::nanobot_machine_keep(&mut self.handle) } {
+            sys::DONE => Ok(()),
+            _ => Err(KeepError::Begun),
+        }
     }
 
     /// The commands of the steps that were made and not taken back, as the bytes of a trace.
     pub fn trace(&mut self) -> Result<Vec<u8>, TraceError> {
         // SAFETY: the pointers are those of a slice and of two references.
-        let given = self.given(1 << 12, |handle, bytes, size| unsafe {
-            sys::nanobot_machine_trace(handle, bytes.as_mut_ptr(), bytes.len(), size)
-        });
-        given.map_err(|status| if status == sys::NO_TRACE { TraceError::NotKept } else { TraceError::Memory })
+        let call = |bytes: &mut [u8], size: &mut usize| unsafe {
+            sys::nanobot_machine_trace(&mut self.handle, bytes.as_mut_ptr(), bytes.len(), size)
+        };
+        match given(1 << 12, call) {
+            (sys::DONE, bytes) => Ok(bytes),
+            (sys::NO_TRACE, _) => Err(TraceError::NotKept),
+            _ => Err(TraceError::Memory),
+        }
     }
 
-    /// The matrix as the bytes of a model; None for want of memory in the library.
-    pub fn model(&mut self) -> Option<Vec<u8>> {
+    /// The matrix as the bytes of a model.
+    pub fn model(&mut self) -> Result<Vec<u8>, OutOfMemory> {
+        let r = self.state().resolution as usize;
         // SAFETY: the pointers are those of a slice and of two references.
-        let given = self.given(1 << 16, |handle, bytes, size| unsafe {
-            sys::nanobot_machine_model(handle, bytes.as_mut_ptr(), bytes.len(), size)
-        });
-        given.ok()
-    }
-
-    /// The bytes that a call gives into a buffer, which is made larger where it is too small, or the call's status.
-    fn given(&mut self, room: usize, call: impl Fn(&mut sys::Handle, &mut [u8], &mut usize) -> u32) -> Result<Vec<u8>, u32> {
-        let mut bytes = vec![0; room];
-        loop {
-            let mut size = 0;
-            match call(&mut self.handle, &mut bytes, &mut size) {
-                sys::DONE => {
-                    bytes.truncate(size);
-                    return Ok(bytes);
-                }
-                sys::TOO_SMALL => bytes.resize(size, 0),
-                status => return Err(status),
-            }
+        let call = |bytes: &mut [u8], size: &mut usize| unsafe {
+            sys::nanobot_machine_model(&mut self.handle, bytes.as_mut_ptr(), bytes.len(), size)
+        };
+        match given(1 + (r * r * r).div_ceil(8), call) {
+            (sys::DONE, bytes) => Ok(bytes),
+            _ => Err(OutOfMemory),
         }
     }
 }

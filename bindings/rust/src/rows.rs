@@ -1,8 +1,12 @@
 //! Traces that are judged, models that are checked, and plans.
 
-use crate::{sys, Profile};
+use crate::buffer::{self, MOST_TRACE};
+use crate::{sys, Broken, Profile};
 use std::error::Error;
 use std::fmt;
+
+/// No line of the program is longer.
+const LINE: usize = 256;
 
 /// What an accepted run costs.
 #[derive(Clone, Copy, PartialEq, Eq, Debug)]
@@ -16,6 +20,13 @@ pub struct Cost {
 pub struct Refused {
     pub status: u32,
     pub line: String,
+}
+
+impl Refused {
+    /// The rule that is broken, if it is one (status 1).
+    pub fn broken(&self) -> Option<Broken> {
+        Broken::of_line(&self.line)
+    }
 }
 
 impl fmt::Display for Refused {
@@ -37,49 +48,42 @@ pub enum Planner {
     Swarm,
 }
 
-/// What a call gives into a buffer, which is made larger where it is too small.
-fn given(call: impl Fn(&mut [u8], &mut usize) -> u32) -> Result<Vec<u8>, Refused> {
-    let mut buffer = vec![0; 256];
-    loop {
-        let mut size = 0;
-        let status = call(&mut buffer, &mut size);
-        buffer.resize(size, 0);
-        match status {
-            sys::DONE => return Ok(buffer),
-            sys::TOO_SMALL => {}
-            _ => {
-                let line = String::from_utf8_lossy(&buffer).trim_end().to_owned();
-                return Err(Refused { status, line });
-            }
+/// What a call gives into a buffer.
+fn given(room: usize, call: impl FnMut(&mut [u8], &mut usize) -> u32) -> Result<Vec<u8>, Refused> {
+    match buffer::given(room, call) {
+        (sys::DONE, bytes) => Ok(bytes),
+        (status, bytes) => {
+            let line = String::from_utf8_lossy(&bytes).trim_end().to_owned();
+            Err(Refused { status, line })
         }
     }
 }
 
-fn of_one(call: sys::OfOne, model: &[u8]) -> Result<Vec<u8>, Refused> {
+fn of_one(call: sys::OfOne, model: &[u8], room: usize) -> Result<Vec<u8>, Refused> {
     // SAFETY: each pointer and length is of one slice, and the buffer and the size are borrowed for the call alone.
-    given(|buffer, size| unsafe { call(model.as_ptr(), model.len(), buffer.as_mut_ptr(), buffer.len(), size) })
+    given(room, |buffer, size| unsafe { call(model.as_ptr(), model.len(), buffer.as_mut_ptr(), buffer.len(), size) })
 }
 
 /// The trace that a text spells.
 pub fn asm(text: &str) -> Result<Vec<u8>, Refused> {
-    of_one(sys::nanobot_asm, text.as_bytes())
+    of_one(sys::nanobot_asm, text.as_bytes(), text.len() + LINE)
 }
 
 /// The text of a trace: a line for each command.
 pub fn dis(trace: &[u8]) -> Result<String, Refused> {
-    Ok(String::from_utf8_lossy(&of_one(sys::nanobot_dis, trace)?).into_owned())
+    Ok(String::from_utf8_lossy(&of_one(sys::nanobot_dis, trace, 18 * trace.len() + LINE)?).into_owned())
 }
 
 fn of_two(call: sys::OfTwo, source: &[u8], target: &[u8]) -> Result<Vec<u8>, Refused> {
     // SAFETY: as above.
-    given(|buffer, size| unsafe {
+    given(MOST_TRACE, |buffer, size| unsafe {
         call(source.as_ptr(), source.len(), target.as_ptr(), target.len(), buffer.as_mut_ptr(), buffer.len(), size)
     })
 }
 
 fn line_of(source: &[u8], target: &[u8], trace: &[u8], light: bool) -> Result<Vec<u8>, Refused> {
     // SAFETY: as above.
-    given(|buffer, size| unsafe {
+    given(LINE, |buffer, size| unsafe {
         sys::nanobot_judge(
             source.as_ptr(),
             source.len(),
@@ -121,19 +125,20 @@ pub fn judge(source: Option<&[u8]>, target: Option<&[u8]>, trace: &[u8], profile
 
 /// What the program prints of a legal model: `legal resolution R full N`.
 pub fn check(model: &[u8]) -> Result<String, Refused> {
-    let line = of_one(sys::nanobot_check, model)?;
+    let line = of_one(sys::nanobot_check, model, LINE)?;
     Ok(String::from_utf8_lossy(&line).trim_end().to_owned())
 }
 
-/// A trace from the source to the target. None stands for the empty model of the other's resolution.
+/// A trace from the source to the target. None stands for the empty model of the other's resolution. The plan is made once: its buffer has room
+/// for every plan, and takes memory only as far as it is written.
 pub fn plan(planner: Planner, source: Option<&[u8]>, target: Option<&[u8]>) -> Result<Vec<u8>, Refused> {
     let (source, target) = (source.unwrap_or(&[]), target.unwrap_or(&[]));
     match planner {
         Planner::Layer => of_two(sys::nanobot_plan_layer, source, target),
         Planner::Group => of_two(sys::nanobot_plan_group, source, target),
         Planner::Crew => of_two(sys::nanobot_plan_crew, source, target),
-        Planner::Void => of_one(sys::nanobot_plan_void, source),
-        Planner::Low => of_one(sys::nanobot_plan_low, target),
-        Planner::Swarm => of_one(sys::nanobot_plan_swarm, target),
+        Planner::Void => of_one(sys::nanobot_plan_void, source, MOST_TRACE),
+        Planner::Low => of_one(sys::nanobot_plan_low, target, MOST_TRACE),
+        Planner::Swarm => of_one(sys::nanobot_plan_swarm, target, MOST_TRACE),
     }
 }

@@ -7,6 +7,7 @@ pub const BROKEN: u32 = 1;
 pub const WORDS: u32 = 2;
 pub const MODEL: u32 = 3;
 pub const TRACE: u32 = 4;
+pub const MEMORY: u32 = 7;
 pub const TOO_SMALL: u32 = 10;
 pub const ENDED: u32 = 12;
 pub const COUNT: u32 = 13;

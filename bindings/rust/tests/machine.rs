@@ -1,8 +1,8 @@
 //! The binding, call by call. Expected numbers are those of the rules.
 
 use nanobot::{
-    asm, check, count_commands, dis, judge, plan, Broken, CommandsError, Coord, Cost, Judged, LevelError, Machine, Planner, Profile, Refused, StartError, StepError,
-    TargetError, TraceError, UndoError,
+    asm, check, count_commands, dis, judge, plan, refusal_name, Broken, CommandsError, Coord, Cost, Judged, KeepError, LevelError, Machine, Planner,
+    Profile, Refused, Rule, StartError, StepError, TargetError, TraceError, UndoError,
 };
 
 const HALT: &[u8] = &[0xff];
@@ -39,7 +39,7 @@ fn a_voxel_that_floats_leaves_the_machine_as_it_was() {
     let mut machine = Machine::empty(4, Profile::Full, 1).unwrap();
     machine.step(WAIT).unwrap();
     let before = machine.state();
-    let broken = Broken { rule: 12, step: 2, bid: 0, at: at(0, 1, 0) };
+    let broken = Broken { rule: Rule::Ungrounded, step: 2, bid: 0, at: at(0, 1, 0) };
     assert_eq!(machine.step(FILL_ABOVE), Err(StepError::Broken(broken)));
     assert_eq!(machine.state(), before);
     assert_eq!((machine.full(at(0, 1, 0)), machine.level(at(0, 1, 0))), (Some(false), Ok(None)));
@@ -78,7 +78,7 @@ fn a_step_that_is_judged_is_not_made() {
     let judged = |energy, halts| Ok(Judged { energy, halts });
     assert_eq!(machine.judge(FILL_BESIDE), judged(3 * 64 + 20 + 12, false));
     assert_eq!(machine.judge(HALT), judged(3 * 64 + 20, true));
-    assert!(matches!(machine.judge(FILL_ABOVE), Err(StepError::Broken(Broken { rule: 12, .. }))));
+    assert!(matches!(machine.judge(FILL_ABOVE), Err(StepError::Broken(Broken { rule: Rule::Ungrounded, .. }))));
     assert_eq!(machine.judge(&[]), Err(StepError::WrongCount { active: 1 }));
     assert_eq!(machine.judge(&[4]), Err(StepError::BadCommands { offset: 0 }));
     assert_eq!((machine.state().steps, machine.state().noted, machine.count()), (0, 0, 0));
@@ -90,13 +90,13 @@ fn a_step_that_is_judged_is_not_made() {
 fn a_trace_is_kept() {
     let mut machine = Machine::empty(3, Profile::Full, 2).unwrap();
     assert_eq!(machine.trace(), Err(TraceError::NotKept));
-    assert!(machine.keep_trace());
+    machine.keep_trace().unwrap();
     machine.step(SPLIT).unwrap();
     machine.step(&[0xfe, 0xfe]).unwrap();
     let mut other = machine.try_clone().unwrap();
     machine.undo().unwrap();
     assert_eq!((machine.trace(), other.trace()), (Ok(SPLIT.to_vec()), Ok(vec![0x75, 5, 0xfe, 0xfe])));
-    assert!(!other.keep_trace());
+    assert_eq!(other.keep_trace(), Err(KeepError::Begun));
 }
 
 #[test]
@@ -113,7 +113,7 @@ fn a_text_is_read_and_spelled() {
 fn what_is_refused() {
     let mut machine = Machine::empty(2, Profile::Light, 0).unwrap();
     assert_eq!(machine.step(&[0xfe, 0]), Err(StepError::BadCommands { offset: 1 }));
-    assert!(matches!(machine.step(VOID_BESIDE), Err(StepError::Broken(Broken { rule: 15, .. }))));
+    assert!(matches!(machine.step(VOID_BESIDE), Err(StepError::Broken(Broken { rule: Rule::Forbidden, .. }))));
     assert_eq!((machine.full(at(2, 0, 0)), machine.level(at(0, 70_000, 0))), (None, Err(LevelError::OutOfSpace)));
     machine.step(HALT).unwrap();
     assert_eq!(machine.step(WAIT), Err(StepError::Ended));
@@ -158,6 +158,23 @@ fn a_trace_is_judged_as_its_steps_cost() {
     assert_eq!((state.energy, state.steps, machine.difference(target)), (420, 4, Ok(None)));
     let line = "broken 14 WrongResult step 1 bid 0 at 1 0 1".to_owned();
     assert_eq!(judge(None, Some(target), HALT, Profile::Full), Err(Refused { status: 1, line }));
+}
+
+#[test]
+fn rules_and_refusals_have_names() {
+    let numbers: Vec<_> = (0..17).filter_map(Rule::from_number).map(Rule::number).collect();
+    assert_eq!(numbers, (1..=15).collect::<Vec<u32>>());
+    assert_eq!((Rule::Ungrounded.to_string(), format!("{:>6}", Rule::Seeds)), ("Ungrounded".to_owned(), " Seeds".to_owned()));
+    assert_eq!((refusal_name(7), refusal_name(5), refusal_name(99)), ("Floating", "", ""));
+    let refused = judge(None, Some(&[3, 0, 4, 0, 0]), HALT, Profile::Full).unwrap_err();
+    let broken = Broken { rule: Rule::WrongResult, step: 1, bid: 0, at: at(1, 0, 1) };
+    assert_eq!((refused.broken(), broken.to_string()), (Some(broken), refused.line));
+    assert_eq!(dis(&[4]).unwrap_err().broken(), None);
+    let mut machine = Machine::empty(4, Profile::Full, 0).unwrap();
+    let said = machine.step(FILL_ABOVE).unwrap_err().to_string();
+    assert_eq!(said, "broken 12 Ungrounded step 1 bid 0 at 0 1 0");
+    let said = Machine::start(&[3, 1, 0, 0, 0], Profile::Full, 0).err().map(|it| it.to_string());
+    assert_eq!(said.as_deref(), Some("the model is refused: 6 Border"));
 }
 
 #[test]

@@ -1,0 +1,3 @@
+module nanobot.example/machine
+
+go 1.19
