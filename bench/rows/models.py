@@ -2,36 +2,31 @@
 from __future__ import annotations
 
 import math
+import sys
 from collections.abc import Callable, Iterator
 from pathlib import Path
+
+sys.path.insert(0, str(Path(__file__).resolve().parents[2] / "bindings/python"))
+
+from nanobot.tools.shapes import Rows, run  # noqa: E402
 
 Point = tuple[float, float, float]
 
 
-class Model:
-    """The full voxels of a matrix: `rows[x][y]` has bit z set if the voxel (x, y, z) is full."""
-
-    def __init__(self, resolution: int) -> None:
-        self.resolution = resolution
-        self.rows = [[0] * resolution for _ in range(resolution)]
-
-    def fill(self, x: int, y: int, bits: int) -> None:
-        """Fills the voxels of a row whose bits are set, as far as they lie in the legal box."""
-        last = self.resolution - 2
-        if 1 <= x <= last and 0 <= y <= last:
-            self.rows[x][y] |= bits & run(1, last)
+class Model(Rows):
+    """A model in the making, with curves."""
 
     def box(self, low: tuple[int, int, int], high: tuple[int, int, int]) -> None:
         for x in range(low[0], high[0] + 1):
             for y in range(low[1], high[1] + 1):
-                self.fill(x, y, run(low[2], high[2]))
+                self.fill(x, y, low[2], high[2])
 
     def ball(self, center: Point, radius: float, inner: float = 0.0) -> None:
         """Fills the voxels whose distance from the center is at least `inner` and at most `radius`."""
         for x in near(center[0], radius):
             for y in near(center[1], radius):
                 apart = (x - center[0]) ** 2 + (y - center[1]) ** 2
-                self.fill(x, y, chord(center[2], radius**2 - apart) & ~hole(center[2], inner**2 - apart))
+                self.fill_bits(x, y, chord(center[2], radius**2 - apart) & ~hole(center[2], inner**2 - apart))
 
     def tube(self, start: Point, end: Point, radius: float) -> None:
         """Fills the balls along a line."""
@@ -45,37 +40,7 @@ class Model:
             inner, outer = ring(y)
             for column in near(x, outer):
                 apart = (column - x) ** 2
-                self.fill(column, y, chord(z, outer**2 - apart) & ~hole(z, inner**2 - apart))
-
-    def keep_grounded(self) -> Model:
-        """Leaves out the voxels that no path of full voxels joins with the floor."""
-        grounded = [[row[0]] + [0] * (self.resolution - 1) for row in self.rows]
-        pending = [(x, 0) for x in range(self.resolution)]
-        while pending:
-            x, y = pending.pop()
-            reached = spread(grounded[x][y], self.rows[x][y])
-            grounded[x][y] = reached
-            for u, v in ((x - 1, y), (x + 1, y), (x, y - 1), (x, y + 1)):
-                if 0 <= u < self.resolution and 0 <= v < self.resolution and reached & self.rows[u][v] & ~grounded[u][v]:
-                    grounded[u][v] |= reached & self.rows[u][v]
-                    pending.append((u, v))
-        self.rows = grounded
-        return self
-
-    def write(self, path: Path) -> None:
-        r = self.resolution
-        data = bytearray((r**3 + 7) // 8 + r)
-        for x, plane in enumerate(self.rows):
-            for y, row in enumerate(plane):
-                place, shift = divmod((x * r + y) * r, 8)
-                for i, byte in enumerate((row << shift).to_bytes((r + 14) // 8, "little")):
-                    data[place + i] |= byte
-        path.write_bytes(bytes([r]) + data[: (r**3 + 7) // 8])
-
-
-def run(low: int, high: int) -> int:
-    """The bits from `low` to `high`, both included."""
-    return ((1 << (high + 1)) - 1) & ~((1 << max(low, 0)) - 1) if high >= max(low, 0) else 0
+                self.fill_bits(column, y, chord(z, outer**2 - apart) & ~hole(z, inner**2 - apart))
 
 
 def near(center: float, radius: float) -> range:
@@ -103,13 +68,6 @@ def between(start: Point, end: Point, part: float) -> Point:
     return x, y, z
 
 
-def spread(bits: int, row: int) -> int:
-    """The bits of the runs of `row` that have a bit of `bits`."""
-    while (more := (bits | bits << 1 | bits >> 1) & row) != bits:
-        bits = more
-    return bits
-
-
 def sphere() -> Model:
     model = Model(60)
     model.ball((29.5, 26.5, 29.5), 27, 24)
@@ -127,7 +85,7 @@ def arch() -> Model:
     for x in range(1, 49):
         for y in range(48):
             if 15 <= math.hypot(x - 24.5, y) <= 21:
-                model.fill(x, y, run(18, 31))
+                model.fill_bits(x, y, run(18, 31))
     return model
 
 
@@ -170,7 +128,7 @@ def lattice() -> Model:
     for x in range(1, 59):
         for y in range(58):
             crossings = (x % 8 < 2) + (y % 8 < 2)
-            model.fill(x, y, [0, beams, run(1, 58)][crossings])
+            model.fill_bits(x, y, [0, beams, run(1, 58)][crossings])
     return model
 
 
@@ -180,7 +138,7 @@ def hills() -> Model:
         for z in range(1, 119):
             height = 20 + 14 * math.sin(x / 17) + 12 * math.cos(z / 11) + 6 * math.sin((x + z) / 5)
             for y in range(int(max(height, 1))):
-                model.fill(x, y, 1 << z)
+                model.fill_bits(x, y, 1 << z)
     return model
 
 
@@ -250,5 +208,7 @@ SHAPES: dict[str, Callable[[], Model]] = {
 def write_all(folder: Path) -> Iterator[str]:
     """Writes every model as FOLDER/NAME.mdl; yields the names."""
     for name, make in SHAPES.items():
-        make().keep_grounded().write(folder / f"{name}.mdl")
+        made = make()
+        made.keep_grounded()
+        made.model().write(folder / f"{name}.mdl")
         yield name

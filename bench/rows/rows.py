@@ -61,8 +61,8 @@ class Rows:
 def write_model(path: Path, resolution: int, full: traces.Voxels) -> None:
     model = models.Model(resolution)
     for x, y, z in full:
-        model.fill(x, y, 1 << z)
-    model.write(path)
+        model.fill_bits(x, y, 1 << z)
+    model.model().write(path)
 
 
 def add_synthetic(rows: Rows) -> None:

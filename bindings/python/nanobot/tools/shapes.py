@@ -29,10 +29,13 @@ class Rows:
 
     def fill(self, x: int, y: int, low: int, high: int) -> None:
         """Fills a row from `low` to `high`, as far as it lies in the legal box."""
+        self.fill_bits(x, y, run(low, high))
+
+    def fill_bits(self, x: int, y: int, bits: int) -> None:
+        """Fills the voxels of a row whose bits are set, as far as they lie in the legal box."""
         last = self.resolution - 2
-        low, high = max(low, 1), min(high, last)
-        if 1 <= x <= last and 0 <= y <= last and low <= high:
-            self.bits[x][y] |= (1 << (high + 1)) - (1 << low)
+        if 1 <= x <= last and 0 <= y <= last:
+            self.bits[x][y] |= bits & run(1, last)
 
     def keep_grounded(self) -> None:
         """Leaves out the voxels that no path of full voxels joins with the floor."""
@@ -57,6 +60,12 @@ class Rows:
                 for i, byte in enumerate((row << shift).to_bytes((r + 14) // 8, "little")):
                     data[place + i] |= byte
         return Model(r, bytes(data[: (r**3 + 7) // 8]))
+
+
+def run(low: int, high: int) -> int:
+    """Returns the bits from `low` to `high`, both included; a negative `low` counts as 0."""
+    low = max(low, 0)
+    return (1 << (high + 1)) - (1 << low) if low <= high else 0
 
 
 def _spread(bits: int, row: int) -> int:
