@@ -20,6 +20,7 @@ no_line_is (Voxel c) h = let parts_are = h.parts_are in cc
 pub worked_scripts : WorkedScripts
 unfolding digits
 worked_scripts = record {
+  five_digits_of_a_bid = omega arith;
   six_digits_of_a_bid = λ h. let short : 100000 < 100000 = h in omega arith;
   six_digits_of_x = λ h. let short : 100000 < 100000 = h.0 in omega arith;
   six_digits_of_y = λ h. let short : 100000 < 100000 = h.1 in omega arith;
@@ -63,6 +64,7 @@ worked_scripts = record {
   a_large_letter = (Ok Step, (record { parts_are = refl; short = tt }, refl), (Err (record { fault = UnknownWord; line = 2 }), (Err UnknownWord, refl, refl), refl));
   an_empty_line = (Ok Step, (record { parts_are = refl; short = tt }, refl), (Err (record { fault = UnknownWord; line = 2 }), (Err UnknownWord, refl, refl), refl));
   a_blank_behind_a_word = (Err Shape, (refl, no_line_is), refl);
+  group_1 = (Ok (Group 1), (record { parts_are = refl; short = omega arith }, refl), (Ok [], refl, refl));
   group_0 = (Err Range, (Group 0, record { parts_are = refl; short = omega arith }, refl), refl);
   group_41 = (Ok Back, (record { parts_are = refl; short = tt }, refl), (Err (record { fault = Range; line = 2 }), (Err Range, (Group 41, record { parts_are = refl; short = omega arith }, refl), refl), refl));
   a_bid_of_five_digits = (Err Range, (Group 12345, record { parts_are = refl; short = omega arith }, refl), refl);

@@ -11,6 +11,7 @@ use Rattle.debug_script.specs.Script.{AreShort, ScriptSays}
 -- scripts at resolution 3
 pub record WorkedScripts : Type 0 where
   -- a number has five digits at most
+  pub five_digits_of_a_bid : AreShort (session.Group 99999)
   pub six_digits_of_a_bid : AreShort (session.Group 100000) → ⊥
   pub six_digits_of_x : AreShort (session.Voxel (coord 100000 0 0)) → ⊥
   pub six_digits_of_y : AreShort (session.Voxel (coord 0 100000 0)) → ⊥
@@ -23,6 +24,7 @@ pub record WorkedScripts : Type 0 where
   pub a_large_letter : ScriptSays 3 (codes "step\nStep\n") (Err (record { fault = UnknownWord; line = 2 }))
   pub an_empty_line : ScriptSays 3 (codes "step\n\nback\n") (Err (record { fault = UnknownWord; line = 2 }))
   pub a_blank_behind_a_word : ScriptSays 3 (codes "step \n") (Err (record { fault = Shape; line = 1 }))
+  pub group_1 : ScriptSays 3 (codes "group 1\n") (Ok (session.Group 1 ∷ []))
   pub group_0 : ScriptSays 3 (codes "group 0\n") (Err (record { fault = Range; line = 1 }))
   pub group_41 : ScriptSays 3 (codes "back\ngroup 41\n") (Err (record { fault = Range; line = 2 }))
   pub a_bid_of_five_digits : ScriptSays 3 (codes "group 12345\n") (Err (record { fault = Range; line = 1 }))

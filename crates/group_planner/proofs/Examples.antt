@@ -8,4 +8,8 @@ unfolding full_before sum_below
 worked_rows = record {
   one_run_of_31 = refl;
   two_runs_of_32 = refl;
+  a_run_behind_a_gap = refl;
+  one_row = refl;
+  steps = refl;
+  bytes = refl;
 }

@@ -24,4 +24,11 @@ worked_parts = record {
   the_least_of_two = inr (λ e. cc, inr (λ e. cc, inl (λ h. hangs_alone two_hang (coord 0 1 0) refl refl (h refl), refl)));
   each_of_both_hangs = (hangs_alone two_hang (coord 0 1 0) refl refl, hangs_alone two_hang (coord 1 1 1) refl refl);
   one_rests_for_both = (λ e. (coord 0 0 0 ∷ [], refl), (λ e. cc, (λ e. (coord 0 1 0 ∷ [], refl), (λ e. (coord 0 1 1 ∷ coord 0 1 0 ∷ [], refl), (λ e. cc, (λ e. cc, (λ e. cc, (λ e. cc, tt))))))));
+  along_a_layer = (refl, refl);
+  from_elsewhere = refl;
+  above_a_void_voxel = refl;
+  over_an_edge = refl;
+  between_layers = refl;
+  plain_commands = (tt, tt);
+  other_commands = (λ h. h, λ h. h, λ h. h, λ h. h);
 }

@@ -23,6 +23,7 @@ worked_forge = record {
   two_columns = refl;
   two_columns_written = refl;
   no_room = refl;
+  no_column_of_four = refl;
   a_wrapped_number = refl;
   a_number_of_1024 = refl;
   lines_on_top = refl;
@@ -36,6 +37,8 @@ worked_orders = record {
   in_falling_order = refl;
   a_group_acts_once = refl;
   a_way_is_filled = refl;
+  a_later_corner_twice = refl;
+  three_corners = refl;
 }
 
 pub worked_work : WorkedWork
@@ -70,16 +73,21 @@ worked_paths = record {
   to_a_void_voxel = refl;
   full_within_the_matrix = (refl, refl);
   outside_the_matrix = refl;
+  full_without_voxels = refl;
   over_an_edge = refl;
   over_a_gap = refl;
   level_on_the_floor = ((coord 1 0 1 ∷ [], refl, refl), has_a_coordinate hanging (coord 1 0 1));
 }
 
 pub worked_names : WorkedNames
+unfolding seed_numbers
 worked_names = record {
   rule_numbers = refl;
   rule_names = refl;
   full_allows = refl;
   light_allows = refl;
+  indexes = refl;
+  the_greatest_seed = refl;
+  past_the_greatest_seed = refl;
   only_one_is_allowed = refl;
 }

@@ -1,5 +1,5 @@
 -- Worked examples of spellings, traces, models, levels and texts.
-use Rattle.std.specs.Prelude.{◌≡◌, true, false, map, flat_map, pos, List, [], ◌∷◌, ◌++◌, Ok, Err, Some, None, codes, length}
+use Rattle.std.specs.Prelude.{◌≡◌, true, false, map, flat_map, replicate, pos, List, [], ◌∷◌, ◌++◌, Ok, Err, Some, None, codes, length}
 use Rattle.vox_geom.specs.declared.coordinate.Coord.{Coord}
 use Rattle.nano_spec.specs.declared.commands.Command.TheVariants.{Halt, Wait, Flip, SMove, LMove, FusionP, FusionS, Fission, Fill, Void, GFill, GVoid}
 use Rattle.nano_spec.specs.Cutting.{Decoding, CutAt, BadAt}
@@ -7,7 +7,7 @@ use Rattle.nano_spec.specs.Grounded.{Grounded}
 use Rattle.nano_spec.specs.Legal.{Legality, Border, Floating}
 use Rattle.nano_spec.specs.Level.{Level}
 use Rattle.nano_spec.specs.Matrix.{empty}
-use Rattle.nano_spec.specs.Model.{model, written, volume, of_runs, runs_in, run_lengths, voxels_of, four_bytes, NoByte, Resolution, Short, Long, WideHead, WideResolution, WideRun, WideShort, WideLong}
+use Rattle.nano_spec.specs.Model.{model, written, volume, of_runs, runs_in, run_lengths, voxels_of, byte_at, four_bytes, number_of_four, NoByte, Resolution, Short, Long, WideHead, WideResolution, WideRun, WideShort, WideLong}
 use Rattle.nano_spec.specs.Printing.{print}
 use Rattle.nano_spec.specs.Line.{NotAscii, UnknownWord, Shape, Range}
 use Rattle.nano_spec.specs.Reading.{lines, read}
@@ -103,6 +103,10 @@ pub record WorkedModels : Type 0 where
   pub too_great_a_wide_resolution : model (hex "FF 01 91") ≡ Err (WideResolution 401)
   -- the resolution 254 of the first form
   pub the_greatest_first_byte : model (hex "FE") ≡ Err (Resolution 254)
+  -- the resolution 250 has the first form
+  pub the_greatest_first_resolution : model (hex "FA") ≡ Err (Short 1953126 1)
+  -- the resolution 400 is the greatest
+  pub the_greatest_wide_resolution : model (hex "FF 01 90") ≡ Err (WideShort 0)
   -- the third run is 0
   pub a_later_empty_run : model (hex "FF 00 FB 00 00 F6 1A 00 00 00 01 00 00 00 00") ≡ Err (WideRun 2)
   -- the second run is 0
@@ -117,6 +121,12 @@ pub record WorkedModels : Type 0 where
   pub three_runs : runs_in (volume 251) 0 0 (hex "00 00 F6 1A 00 00 00 01 00 F0 54 68") ≡ Ok (63002 ∷ 1 ∷ 15750248 ∷ [])
   -- and how they are written
   pub three_runs_written : flat_map four_bytes (63002 ∷ 1 ∷ 15750248 ∷ []) ≡ hex "00 00 F6 1A 00 00 00 01 00 F0 54 68"
+  -- a first run is too long, and a first run is 0
+  pub too_long_a_first_run : runs_in 2 0 0 (hex "00 00 00 03") ≡ Err (WideRun 0)
+  pub an_empty_first_run : runs_in 2 0 0 (hex "00 00 00 00 00 00 00 02") ≡ Ok (0 ∷ 2 ∷ [])
+  -- the most significant byte comes first
+  pub four_bytes_read : number_of_four 200 150 100 50 ≡ 3365299250
+  pub four_bytes_written : four_bytes 3365299250 ≡ 200 ∷ 150 ∷ 100 ∷ 50 ∷ []
   -- the first run is void
   pub voxels_of_runs : voxels_of false (1 ∷ 2 ∷ 1 ∷ []) ≡ false ∷ true ∷ true ∷ false ∷ []
   -- the first run of a model is void
@@ -124,6 +134,18 @@ pub record WorkedModels : Type 0 where
       ≡ Ok (record { resolution = 2; voxels = false ∷ true ∷ true ∷ false ∷ false ∷ false ∷ false ∷ false ∷ [] })
   -- the runs of five voxels, of which the first and the last two are full
   pub runs_of_voxels : run_lengths 0 false (true ∷ false ∷ false ∷ true ∷ true ∷ []) ≡ 0 ∷ 1 ∷ 2 ∷ 2 ∷ []
+  pub a_run_of_three : run_lengths 0 false (true ∷ true ∷ true ∷ []) ≡ 0 ∷ 3 ∷ []
+  -- a byte has eight voxels
+  pub bytes_of_nine_voxels : map (byte_at (replicate 9 true)) (0 ∷ 1 ∷ []) ≡ 255 ∷ 1 ∷ []
+  -- one voxel has a byte of its own
+  pub written_at_resolution_1 : written (empty 1) ≡ hex "01 00"
+  -- the wide form begins with the resolution in two bytes, and with a void run
+  pub written_at_resolution_251 :
+      written (record { resolution = 251; voxels = false ∷ [] }) ≡ hex "FF 00 FB 00 00 00 01"
+  pub written_at_resolution_255 :
+      written (record { resolution = 255; voxels = false ∷ [] }) ≡ hex "FF 00 FF 00 00 00 01"
+  pub written_at_resolution_256 : written (record { resolution = 256; voxels = true ∷ true ∷ false ∷ [] })
+      ≡ hex "FF 01 00 00 00 00 00 00 00 00 02 00 00 00 01"
   -- unused bits are written 0
   pub written_without_padding : written (voxels_at 3 (coord 1 0 1 ∷ [])) ≡ hex "03 00 04 00 00"
   -- the five bits behind the last voxel are ignored

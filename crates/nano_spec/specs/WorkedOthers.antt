@@ -16,16 +16,17 @@ use Rattle.nano_spec.specs.Grounded.{is_path_from}
 use Rattle.nano_spec.specs.Level.{Level}
 use Rattle.nano_spec.specs.Matrix.{Matrix, empty, is_full}
 use Rattle.nano_spec.specs.Model.{written}
-use Rattle.nano_spec.specs.Profile.{full_profile, light_profile, is_allowed}
+use Rattle.nano_spec.specs.Profile.{full_profile, light_profile, index_of, is_allowed}
 use Rattle.nano_spec.specs.Rule.{rule_number, name_of}
+use Rattle.nano_spec.specs.Rules.{repeats}
 use Rattle.nano_spec.specs.Serial.{serial}
-use Rattle.nano_spec.specs.State.{IsReady, IsWellFormed, State, seed_set}
+use Rattle.nano_spec.specs.State.{IsReady, IsWellFormed, State, seed_list, seed_set}
 use Rattle.nano_spec.specs.Step.{after}
 use Rattle.nano_spec.specs.Work.{Work}
 use Rattle.nano_spec.specs.Worked.{diff, hex, voxels_at, below_zero}
 use Rattle.nano_spec.specs.WorkedBytes.{ring}
 use Rattle.nano_spec.specs.WorkedStep.{bot}
-use Rattle.vox_geom.specs.Point.{coord}
+use Rattle.vox_geom.specs.Point.{coord, point}
 use Rattle.vox_geom.specs.Space.{numbers_below}
 
 -- forged models and their bytes
@@ -46,6 +47,8 @@ pub record WorkedForge : Type 0 where
   pub two_columns_written : written (forged 0 4) ≡ hex "04 00 00 02 00 06 00 00 00"
   -- there is no room for a column
   pub no_room : forged 0 2 ≡ empty 2
+  -- there is room, and no column either
+  pub no_column_of_four : forged 719 4 ≡ empty 4
   -- mixed numbers are below 1024
   pub a_wrapped_number : mixed 1000 1 1 ≡ 165
   -- 1024 says the same as 0
@@ -93,6 +96,9 @@ pub record WorkedOrders : Type 0 where
   pub a_group_acts_once : serial with_two both_fill (1 ∷ []) ≡ Some (after with_two both_fill)
   -- the second group meets the voxel that the first filled
   pub a_way_is_filled : serial with_two one_fills (1 ∷ 2 ∷ []) ≡ None
+  -- of three corners the last two are one
+  pub a_later_corner_twice : repeats (point (coord 0 0 0) ∷ point (coord 1 0 0) ∷ point (coord 1 0 0) ∷ []) ≡ true
+  pub three_corners : repeats (point (coord 0 0 0) ∷ point (coord 1 0 0) ∷ point (coord 0 0 1) ∷ []) ≡ false
 
 -- the work of traces
 pub record WorkedWork : Type 0 where
@@ -165,6 +171,8 @@ pub record WorkedPaths : Type 0 where
       (is_full beside_a_column (coord 1 1 2) ≡ true) × (is_full beside_a_column (coord 1 1 3) ≡ false)
   pub outside_the_matrix :
       is_path_from beside_a_column (coord 1 1 2) (coord 1 1 2 ∷ coord 1 1 3 ∷ coord 1 0 3 ∷ []) ≡ false
+  -- a coordinate without a voxel is not full
+  pub full_without_voxels : is_full (record { resolution = 3; voxels = [] }) (coord 1 1 1) ≡ false
   -- each is adjacent to the next
   pub over_an_edge : is_path_from hanging (coord 2 1 1) (coord 2 1 1 ∷ coord 1 0 1 ∷ []) ≡ false
   pub over_a_gap : is_path_from hanging (coord 1 0 1) (coord 1 0 1 ∷ coord 1 0 3 ∷ []) ≡ false
@@ -233,7 +241,7 @@ all_commands =
 abbrev pub allowing : ℕ → Profile
 allowing place = record { seeds = 0; allowed = 2 ^ place }
 
--- the numbers and names of the rules, and which commands profiles allow
+-- the numbers and names of the rules, which commands profiles allow, and the seeds of a set
 pub record WorkedNames : Type 0 where
   pub rule_numbers : map rule_number all_rules ≡ 1 ∷ 2 ∷ 3 ∷ 4 ∷ 5 ∷ 6 ∷ 7 ∷ 8 ∷ 9 ∷ 10 ∷ 11 ∷ 12 ∷ 13 ∷ 14 ∷ 15 ∷ []
   pub rule_names : flat_map (λ r. name_of r ++ codes " ") all_rules ≡ codes
@@ -241,6 +249,11 @@ pub record WorkedNames : Type 0 where
   -- the full profile allows all twelve, the light one the first nine
   pub full_allows : list_all (is_allowed full_profile) all_commands ≡ true
   pub light_allows : filter (is_allowed light_profile) all_commands ≡ take 9 all_commands
+  -- each word has a bit of its own
+  pub indexes : map index_of all_commands ≡ numbers_below 12
+  -- a set has 64 bits
+  pub the_greatest_seed : seed_list (2 ^ 63) ≡ 63 ∷ []
+  pub past_the_greatest_seed : seed_list (2 ^ 64) ≡ []
   -- a profile that allows the k-th command alone
   pub only_one_is_allowed :
       flat_map (λ k. filter (is_allowed (allowing k)) all_commands) (numbers_below 12) ≡ all_commands

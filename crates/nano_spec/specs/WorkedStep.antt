@@ -5,11 +5,12 @@ use Rattle.nano_spec.specs.declared.commands.Command.TheVariants.{Flip, GVoid}
 use Rattle.nano_spec.specs.declared.system.Bot.{Bot}
 use Rattle.nano_spec.specs.declared.system.Harmonics.{Harmonics}
 use Rattle.nano_spec.specs.declared.system.Harmonics.TheVariants.{Low, High}
+use Rattle.nano_spec.specs.Act.{acts}
 use Rattle.nano_spec.specs.Matrix.{Matrix, empty, matrix_where}
 use Rattle.nano_spec.specs.Next.{Next, Goes}
 use Rattle.nano_spec.specs.Profile.{full_profile}
 use Rattle.nano_spec.specs.State.{State}
-use Rattle.nano_spec.specs.Step.{after}
+use Rattle.nano_spec.specs.Step.{after, harmonics_after}
 use Rattle.nano_spec.specs.Worked.{diff, below_zero}
 use Rattle.vox_geom.specs.Point.{coord}
 
@@ -51,7 +52,9 @@ abbrev pub with_one : Harmonics → ℤ → State
 with_one harmonics energy =
     record { matrix = empty 3; harmonics = harmonics; bots = bot 1 0 0 0 ∷ []; energy = energy; profile = full_profile }
 
--- a Flip pays 81 + 20 where it begins under Low, and 810 + 20 where it begins under High
+-- a Flip pays 81 + 20 where it begins under Low, and 810 + 20 where it begins under High; three Flips are as one
 pub record FlipsPayByTheirStart : Type 0 where
   pub from_low : after (with_one Low (pos 0)) (Flip ∷ []) ≡ with_one High (pos 101)
   pub from_high : after (with_one High (pos 0)) (Flip ∷ []) ≡ with_one Low (pos 830)
+  pub three_flips :
+      harmonics_after Low (acts (bot 1 0 0 0 ∷ bot 2 0 0 1 ∷ bot 3 0 0 2 ∷ []) (Flip ∷ Flip ∷ Flip ∷ [])) ≡ High

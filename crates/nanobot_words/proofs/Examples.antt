@@ -57,6 +57,9 @@ worked_sides = record {
   low_from_no_source = λ h. h;
   swarm_to_a_target = tt;
   swarm_from_no_source = λ h. h;
+  a_run_to_nothing = tt;
+  a_run_from_nothing = tt;
+  a_void_plan = tt;
 }
 
 pub worked_forged : WorkedForged
@@ -137,6 +140,8 @@ worked_rows = record {
     of_table = tt;
   };
   no_light_run = λ h. let written = h.written in cc;
+  no_source_of_nothing = λ h. All-head IsName (codes "-") (codes "t" ∷ codes "b" ∷ []) h.named refl;
+  no_target_of_nothing = λ h. All-head IsName (codes "-") (codes "b" ∷ []) (All-tail IsName (codes "s") (codes "-" ∷ codes "b" ∷ []) h.named) refl;
   no_trace_of_nothing = λ h. All-head IsName (codes "-") [] (All-tail IsName (codes "t") (codes "-" ∷ []) (All-tail IsName (codes "s") (codes "t" ∷ codes "-" ∷ []) h.named)) refl;
   no_side_of_a_name = λ h. h.of_table;
   no_arguments = in_no_row;

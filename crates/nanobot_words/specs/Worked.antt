@@ -63,6 +63,10 @@ pub record WorkedSides : Type 0 where
   pub low_from_no_source : TakesSides Low (Some (codes "s")) (Some (codes "t")) → ⊥
   pub swarm_to_a_target : TakesSides Swarm None (Some (codes "t"))
   pub swarm_from_no_source : TakesSides Swarm (Some (codes "s")) None → ⊥
+  -- the rows of runs and plans have the same sides
+  pub a_run_to_nothing : IsOfTable (run Full (Some (codes "s")) None (codes "b"))
+  pub a_run_from_nothing : IsOfTable (run Full None (Some (codes "t")) (codes "b"))
+  pub a_void_plan : IsOfTable (plan Void (Some (codes "s")) None (codes "b"))
 
 -- the numbers and the resolutions that are forged: below 2 ^ 32, and from 1 to 400
 pub record WorkedForged : Type 0 where
@@ -89,8 +93,14 @@ pub record WorkedRows : Type 0 where
       (codes "b")
   pub a_run_from_nothing :
       IsRunOf (codes "run" ∷ codes "-" ∷ codes "t" ∷ codes "b" ∷ []) None (Some (codes "t")) (codes "b")
+  pub a_run_to_nothing :
+      IsRunOf (codes "run" ∷ codes "s" ∷ codes "-" ∷ codes "b" ∷ []) (Some (codes "s")) None (codes "b")
   pub no_light_run : IsRunOf (codes "run" ∷ codes "light" ∷ codes "t" ∷ codes "b" ∷ []) None (Some (codes "t"))
       (codes "b") → ⊥
+  pub no_source_of_nothing : IsRunOf (codes "run" ∷ codes "-" ∷ codes "t" ∷ codes "b" ∷ []) (Some (codes "-"))
+      (Some (codes "t")) (codes "b") → ⊥
+  pub no_target_of_nothing : IsRunOf (codes "run" ∷ codes "s" ∷ codes "-" ∷ codes "b" ∷ []) (Some (codes "s"))
+      (Some (codes "-")) (codes "b") → ⊥
   pub no_trace_of_nothing : IsRunOf (codes "run" ∷ codes "s" ∷ codes "t" ∷ codes "-" ∷ []) (Some (codes "s"))
       (Some (codes "t")) (codes "-") → ⊥
   pub no_side_of_a_name : IsRunOf (codes "run" ∷ codes "-" ∷ codes "-" ∷ codes "b" ∷ []) None None (codes "b") → ⊥

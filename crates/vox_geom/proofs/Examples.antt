@@ -23,6 +23,11 @@ worked_coordinates = record {
   by_z_last = refl;
   a_place = refl;
   at_a_place = refl;
+  numbers = refl;
+  all_in_their_order = refl;
+  of_a_point = refl;
+  right_below = refl;
+  same_points = refl;
   within_space = refl;
 }
 
@@ -32,8 +37,11 @@ worked_regions = record {
   beside = refl;
   its_size = refl;
   its_dimension = refl;
+  along_one_axis = refl;
+  along_all_axes = refl;
   of_one_coordinate = refl;
   of_no_dimension = refl;
   by_other_corners = refl;
   not_by_other_ends = refl;
+  not_by_one_end_alone = refl;
 }
