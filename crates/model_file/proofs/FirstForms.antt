@@ -1,16 +1,19 @@
 -- The bits of the first form.
-use Rattle.std.proofs.Common.{◌≡◌, ℕ, zero, suc, ◌+◌, ◌-◌, ◌*◌, ◌/◌, ◌%◌, ◌<◌, ◌≤◌, ◌^◌, ◌++◌, ◌==◌, add-one, zero-add, refl, sym, ◌∙◌, ap, arith, Bool, false, cond, List, [], ◌∷◌, length, map, get_or, min, drop, take, inl, inr}
+use Rattle.std.proofs.Common.{◌≡◌, ℕ, zero, suc, ◌+◌, ◌-◌, ◌*◌, ◌/◌, ◌%◌, ◌<◌, ◌≤◌, ◌^◌, ◌++◌, ◌==◌, add-one, zero-add, refl, sym, ◌∙◌, ap, arith, Bool, false, cond, List, [], ◌∷◌, length, map, get_or, inl, inr}
 use Rattle.std.specs.Prelude.{◌⊎◌, slice_index, sum_by}
 use Rattle.std.proofs.lemmas.Bool.{cases_lt}
-use Rattle.std.proofs.lemmas.List.{ext_get_or, get_or-drop, get_or-map, get_or_default, length-drop, length-map, take_rest}
+use Rattle.std.proofs.lemmas.List.{ext_get_or, get_or-map, length-map}
 use Rattle.std.proofs.Math.Nat.{pow-le-pow_right}
 use Rattle.std.proofs.lemmas.Nat.Bits.{bit_at_above}
 use Rattle.vox_geom.specs.Space.{numbers_below, numbers_from}
 use Rattle.nano_spec.specs.Matrix.{Matrix}
 use Rattle.nano_spec.specs.Model.{bit, byte_at, volume, voxel_bit}
 use Rattle.vox_planes.specs.Places.{is_from, voxel_at}
+use Rattle.vox_planes.specs.Voxel.{IsWhole}
 use Rattle.vox_planes.proofs.Placed.{before_these, one_of_these}
 use Rattle.vox_planes.proofs.Voxels.{get_or-numbers}
+use Rattle.model_file.specs.Words.{IsReadTo, IsWordOf}
+use Rattle.model_file.proofs.Octets.{bit_beyond}
 
 -- ---- a matrix by its voxels
 
@@ -33,33 +36,31 @@ matrix_is m r f er el h = λ i. record { resolution = er i; voxels = same i }
 
 -- ---- reading
 
--- a byte of the rest from one on
-pub byte_is : (bytes : List ℕ) (s k byte d : ℕ) → k < length (take (length bytes - s) (drop s bytes))
-    → byte ≡ get_or (take (length bytes - s) (drop s bytes)) k d → byte ≡ slice_index bytes (s + k)
-byte_is bytes s k byte d l e =
-    let rest : take (length bytes - s) (drop s bytes) ≡ drop s bytes = take_rest bytes s in
-    e ∙ (get_or_default (take (length bytes - s) (drop s bytes)) k d 0 l ∙ (ap (λ xs. get_or xs k 0) rest ∙ get_or-drop s bytes k 0))
+-- the bits of a word from the lowest byte's bit `place % 8` on are the voxels from the place on
+pub voxel_bits : (bytes : List ℕ) (place word : ℕ) → IsWordOf bytes (1 + place / 8) word → (k : ℕ) → k < 57
+    → bit (word / 2 ^ (place % 8)) k ≡ voxel_bit bytes (place + k)
+voxel_bits bytes place word is k l =
+    let byte : 1 + place / 8 + (place % 8 + k) / 8 ≡ 1 + (place + k) / 8 = omega arith in
+    let digit : (place % 8 + k) % 8 ≡ (place + k) % 8 = omega arith in
+    sym (bit_beyond word (place % 8) k) ∙ (is (place % 8 + k) (omega arith) ∙ (λ i. bit (slice_index bytes (byte i)) (digit i)))
 
-pub rest_length : (bytes : List ℕ) (s : ℕ) → length (take (length bytes - s) (drop s bytes)) ≡ length bytes - s
-rest_length bytes s = ap length (take_rest bytes s) ∙ length-drop s bytes
-
--- the voxels of one more byte
-pub byte_more : (old new : Matrix) (bytes : List ℕ) (places from k count byte : ℕ) → from ≡ 8 * k
-    → count ≡ min (places - from) 8 → byte ≡ slice_index bytes (1 + k)
-    → ((p : ℕ) → p < 8 * k → p < places → voxel_at old p ≡ voxel_bit bytes p)
-    → ((p : ℕ) → voxel_at new p ≡ cond (is_from from count p) (bit byte (p - from)) (voxel_at old p)) → (p : ℕ)
-    → p < 8 * (k + 1) → p < places → voxel_at new p ≡ voxel_bit bytes p
-byte_more old new bytes places from k count byte ef ec eb before set p l m = set p ∙ by (cases_lt p from)
+-- the voxels of one more word
+pub read_more : (old new : Matrix) (bytes : List ℕ) (place count bits : ℕ) → IsReadTo old bytes place
+    → ((p : ℕ) → voxel_at new p ≡ cond (is_from place count p) (bit bits (p - place)) (voxel_at old p))
+    → ((k : ℕ) → k < count → bit bits k ≡ voxel_bit bytes (place + k)) → IsWhole new
+    → IsReadTo new bytes (place + count)
+read_more old new bytes place count bits before set here whole = record {
+  voxels = λ p l. set p ∙ by p l (cases_lt p place);
+  whole = whole;
+}
   where
-    by : ((p < from) ⊎ (from ≤ p))
-        → cond (is_from from count p) (bit byte (p - from)) (voxel_at old p) ≡ voxel_bit bytes p
-    by (inl h) = ap (λ b. cond b (bit byte (p - from)) (voxel_at old p)) (before_these from count p h) ∙ before p (omega arith) m
-    by (inr h) =
-        let quotient_is : p / 8 ≡ k = omega arith in
-        let remainder_is : p % 8 ≡ p - from = omega arith in
-        ap (λ b. cond b (bit byte (p - from)) (voxel_at old p)) (one_of_these from count p h (omega (arith, ec)))
-        ∙ ((λ i. bit (eb i) (p - from))
-        ∙ sym (λ i. bit (slice_index bytes (1 + quotient_is i)) (remainder_is i)))
+    by : (p : ℕ) → p < place + count → ((p < place) ⊎ (place ≤ p))
+        → cond (is_from place count p) (bit bits (p - place)) (voxel_at old p) ≡ voxel_bit bytes p
+    by p l (inl m) = ap (λ b. cond b (bit bits (p - place)) (voxel_at old p)) (before_these place count p m) ∙ before.voxels p m
+    by p l (inr m) =
+        let on : place + (p - place) ≡ p = omega arith in
+        ap (λ b. cond b (bit bits (p - place)) (voxel_at old p)) (one_of_these place count p m l)
+        ∙ (here (p - place) (omega arith) ∙ ap (voxel_bit bytes) on)
 
 -- ---- writing
 

@@ -1,13 +1,13 @@
 -- Eight bytes as the bits of one word.
-use Rattle.std.proofs.Common.{◌≡◌, ℕ, zero, suc, ◌+◌, ◌*◌, ◌/◌, ◌%◌, ◌<◌, ◌≤◌, ◌^◌, ◌==◌, sym, ◌∙◌, ap, arith, List, [], ◌∷◌, ◌-◌}
-use Rattle.std.specs.Prelude.{◌⊎◌, slice_index}
+use Rattle.std.proofs.Common.{◌≡◌, ℕ, zero, suc, ◌+◌, ◌*◌, ◌/◌, ◌%◌, ◌<◌, ◌^◌, ◌==◌, sym, ◌∙◌, ap, arith, List, [], ◌∷◌}
+use Rattle.std.specs.Prelude.{slice_index}
 use Rattle.std.specs.Int.{from_le_bytes, w64}
 use Rattle.std.proofs.Math.Nat.{div-div-eq-div-mul}
 use Rattle.std.proofs.lemmas.Nat.{pow-add}
 use Rattle.nano_spec.specs.Model.{bit}
 use Rattle.model_file.specs.Words.{IsWordOf}
 
-bit_beyond : (n j i : ℕ) → bit n (j + i) ≡ bit (n / 2 ^ j) i
+pub bit_beyond : (n j i : ℕ) → bit n (j + i) ≡ bit (n / 2 ^ j) i
 bit_beyond n j i = ap (λ d. d % 2 == 1) (ap (λ d. n / d) (pow-add 2 j i) ∙ sym (div-div-eq-div-mul n (2 ^ j) (2 ^ i)))
 
 -- a byte of a number has its lowest bits
