@@ -7,7 +7,7 @@ use Rattle.std.proofs.lemmas.Nat.{pow-add}
 use Rattle.nano_spec.specs.Model.{bit}
 use Rattle.model_file.specs.Words.{IsWordOf}
 
-pub bit_beyond : (n j i : ℕ) → bit n (j + i) ≡ bit (n / 2 ^ j) i
+bit_beyond : (n j i : ℕ) → bit n (j + i) ≡ bit (n / 2 ^ j) i
 bit_beyond n j i = ap (λ d. d % 2 == 1) (ap (λ d. n / d) (pow-add 2 j i) ∙ sym (div-div-eq-div-mul n (2 ^ j) (2 ^ i)))
 
 -- a byte of a number has its lowest bits

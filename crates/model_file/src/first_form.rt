@@ -1,6 +1,7 @@
 //! The first form of a model file: the resolution, and a bit for each voxel.
 ghost use Rattle.std.specs.Prelude.{◌≡◌, ◌<◌, ◌≤◌, ◌+◌, ◌/◌, ◌∷◌, IfOk, length, map, slice_index};
 ghost use Rattle.vox_geom.specs.Space.{numbers_below};
+ghost use Rattle.nano_spec.specs.Matrix.{empty as empty_of};
 ghost use Rattle.nano_spec.specs.Model.{byte_at, first_form, volume as volume_of, voxel_bit, wanted as wanted_of};
 ghost use Rattle.model_file.specs.Fault.{ReadsModel};
 ghost use Rattle.model_file.specs.Words.{IsReadTo, IsWordOf, place_of_row};
@@ -73,7 +74,7 @@ fn word(bytes: &[u8], at: usize) -> u64
     ])
 }
 
-/// Makes the voxels of the row with this x and y those that the bytes say, if all before them are.
+/// Makes the voxels of the row with this x and y those that the bytes say, if all before them are, and all others void.
 fn set_row(planes: &mut Planes, bytes: &[u8], x: u16, y: u16)
     requires length { length bytes.now ≡ wanted_of planes.old.resolution }
     requires x { x < planes.old.resolution }
@@ -89,13 +90,17 @@ fn set_row(planes: &mut Planes, bytes: &[u8], x: u16, y: u16)
     while z < r {
         let count = (r - z).min(WORD_VOXELS);
         let place = row + u32::from(z);
-        let bits = word(bytes, 1 + place as usize / 8) >> (place % 8);
-        planes.set_row_bits(Coord { x, y, z }, u32::from(count), bits);
+        let first = Coord { x, y, z };
+        let bits = (word(bytes, 1 + place as usize / 8) >> (place % 8)) % (1 << count);
         z += count;
+        if bits == 0 {
+            continue;
+        }
+        planes.set_row_bits(first, u32::from(count), bits);
     }
 }
 
-/// Makes the voxels with this x those that the bytes say, if all before them are.
+/// Makes the voxels with this x those that the bytes say, if all before them are, and all others void.
 fn set_wall(planes: &mut Planes, bytes: &[u8], x: u16)
     requires length { length bytes.now ≡ wanted_of planes.old.resolution }
     requires x { x < planes.old.resolution }
@@ -108,9 +113,10 @@ fn set_wall(planes: &mut Planes, bytes: &[u8], x: u16)
     }
 }
 
-/// Makes the voxels those that the bytes say.
+/// Makes the void voxels those that the bytes say.
 fn set_voxels(planes: &mut Planes, bytes: &[u8])
-    requires { length bytes.now ≡ wanted_of planes.old.resolution }
+    requires length { length bytes.now ≡ wanted_of planes.old.resolution }
+    requires void { planes.old ≡ empty_of planes.old.resolution }
     ensures { planes.new
         ≡ record {
           resolution = planes.old.resolution;
