@@ -11,7 +11,6 @@ from .program import Runs
 OK = re.compile(r"ok energy (-?\d+) steps (\d+)")
 # The longest name that the system opens.
 LONGEST = 4095
-FIELDS = ("model", "trace", "source", "target", "energy", "steps", "host", "line")
 
 
 class Run(NamedTuple):
@@ -44,6 +43,12 @@ class Outcome(NamedTuple):
         energy, steps = self.cost or (None, None)
         files = {"trace": self.run.trace, "source": self.run.source, "target": self.run.target}
         return {**files, "energy": energy, "steps": steps, "host": self.host or None, "line": self.line}
+
+
+def record_of_model(name: str, line: str) -> Dict[str, object]:
+    """The record of a refused model, with the fields of a run's."""
+    record: Dict[str, object] = {"model": name, "trace": None, "source": None, "target": None, "energy": None, "steps": None, "host": None}
+    return {**record, "line": line}
 
 
 def runs_of(text: str) -> List[Run]:
