@@ -162,6 +162,7 @@ impl Deref for String {
 impl std::fmt::Display for String {
     fn fmt(&self, f: &mut std::fmt::Formatter<'_>) -> std::fmt::Result { f.write_str(&self.0) }
 }
+#[allow(unused_macros)]
 macro_rules! format_in { ($($t:tt)*) => { Ok(crate::shim::String(std::format!($($t)*))) } }
 pub(crate) use format_in;
 
