@@ -1,6 +1,4 @@
-"""Writes the models and traces of the benchmark of runs into a folder."""
-import sys
-from pathlib import Path
+"""Models and traces that are made for a benchmark, as bytes."""
 
 HALT, FLIP, WAIT = b"\xff", b"\xfd", b"\xfe"
 X, Y, Z = 0x14, 0x24, 0x34
@@ -18,10 +16,11 @@ def empty_model(r):
 
 
 def full_model(r):
-    """All of the legal box. The planes of one x must have whole bytes."""
-    line = ((1 << (r - 2)) - 1) << 1
-    plane = sum(line << (y * r) for y in range(r - 1)).to_bytes(r * r // 8, "little")
-    return bytes([r]) + bytes(r * r // 8) + plane * (r - 2) + bytes(r * r // 8)
+    """All of the legal box."""
+    line = f"{'1' * (r - 2):0^{r}}"
+    plane = line * (r - 1) + "0" * r
+    bits = "0" * (r * r) + plane * (r - 2) + "0" * (r * r)
+    return bytes([r]) + int(bits[::-1], 2).to_bytes((r**3 + 7) // 8, "little")
 
 
 def fill_all(r, harmonics):
@@ -43,6 +42,26 @@ def fill_all(r, harmonics):
     z = 1 if forward else r - 2
     out += [move(X, -x), move(Z, -z), move(Y, -(r - 1)), harmonics, HALT]
     return b"".join(out)
+
+
+def void_all(r):
+    """One bot voids the legal box from the top down, each voxel from above."""
+    void, lines = b"\x52", r - 2
+    there = void + (move(Z, 1) + void) * (lines - 1)
+    back = void + (move(Z, -1) + void) * (lines - 1)
+    out, forward, x, step = [move(Y, r - 1), move(X, 1), move(Z, 1)], True, 1, 1
+    for y in range(r - 2, -1, -1):
+        for turn in range(lines):
+            out.append(there if forward else back)
+            forward = not forward
+            if turn < lines - 1:
+                out.append(move(X, step))
+                x += step
+        step = -step
+        if y > 0:
+            out.append(move(Y, -1))
+    z = 1 if forward else r - 2
+    return b"".join([*out, move(X, -x), move(Z, -z), move(Y, -1), HALT])
 
 
 def line_of_bots(count):
@@ -69,37 +88,3 @@ def bridge_model(r):
     beam = [(x, r - 2, 1) for x in range(1, r - 1)]
     bits = sum(1 << ((x * r + y) * r + z) for x, y, z in posts + beam)
     return bytes([r]) + bits.to_bytes((r ** 3 + 7) // 8, "little")
-
-
-def planes(pairs):
-    """Four bots at the corners of a plane of 31 by 31 fill it and void it in turn, and the trace ends there."""
-    out = [line_of_bots(4), move(Y, 1) * 4]
-    for bot, way in ((3, move(Z, 28) + move(X, 31)), (2, move(X, 31) + move(Z, -1)), (1, move(Z, 30) + move(X, 1)), (0, move(Z, 1) + move(X, 1))):
-        out += [WAIT * bot + way[i:i + 2] + WAIT * (3 - bot) for i in range(0, len(way), 2)]
-    corners = [(60, 60), (60, 0), (0, 60), (0, 0)]
-    group = [b"".join(bytes([code, dx, 30, dz]) for dx, dz in corners) for code in (0x51, 0x50)]
-    return b"".join(out) + (group[0] + group[1]) * pairs
-
-
-def main():
-    folder = Path(sys.argv[1])
-    files = {
-        "e50.mdl": empty_model(50),
-        "f100.mdl": full_model(100),
-        "f200.mdl": full_model(200),
-        "fill200.nbt": fill_all(200, FLIP),
-        "fill100.nbt": fill_all(100, b""),
-        "f248.mdl": full_model(248),
-        "forty.nbt": forty_bots(500_000),
-        "fills.nbt": forty_fill(100_000),
-        "bridge.mdl": bridge_model(62),
-        "bridge.nbt": b"\xba\xbb" * 5_000 + HALT,
-        "planes.nbt": planes(1_000),
-        "pairs.nbt": b"\x73\x72" * 1_000_000 + HALT,
-    }
-    for name, data in files.items():
-        (folder / name).write_bytes(data)
-
-
-if __name__ == "__main__":
-    main()
