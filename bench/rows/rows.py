@@ -20,9 +20,9 @@ from pathlib import Path
 
 sys.dont_write_bytecode = True
 TOP = Path(__file__).resolve().parents[2]
-sys.path.insert(0, str(TOP / "bench/run"))
+sys.path.insert(0, str(TOP / "bench"))
 
-import make as synthetic  # noqa: E402
+import synthetic  # noqa: E402
 import models  # noqa: E402
 import traces  # noqa: E402
 

@@ -7,7 +7,7 @@ pub const CHUNK_WORDS: usize = 32_768;
 pub const ROW_WORDS: usize = 8;
 
 pub struct Chunk {
-    words: Box<[u32; CHUNK_WORDS]>,
+    words: std::boxed::Box<[u32; CHUNK_WORDS]>,
 }
 
 impl Chunk {

@@ -8,26 +8,9 @@
 set -eu
 # shellcheck source=scripts/common disable=SC2154
 . "$(dirname -- "$0")/../../scripts/common"
-here=$top/bench/unproved
 folder=${FOLDER:-/tmp/unproved}
-mkdir -p "$folder/src"
-python3 "$here/strip.py" "$top" "$folder"
-cp "$here/main.rs" "$here/shim.rs" "$folder/src/"
-cp "$here/touches.rs" "$folder/src/vox_geom/touches.rs"
-cp "$here/chunk.rs" "$folder/src/brick_arena/chunk.rs"
-cat > "$folder/Cargo.toml" <<'TOML'
-[package]
-name = "unproved"
-version = "0.1.0"
-edition = "2021"
-
-[profile.release]
-codegen-units = 1
-debug = 1
-lto = true
-panic = "abort"
-TOML
-(cd "$folder" && cargo build --release --offline --quiet)
+python3 "$top/bench/unproved/strip.py" "$top" "$folder"
+(cd "$folder" && cargo build --release --offline --quiet --bin unproved)
 case ${1-} in
 run | make | group | layer | crew | void | low | swarm | *-low) ;;
 *) set -- run "$@" ;;

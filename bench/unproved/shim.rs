@@ -24,6 +24,7 @@ impl<T> Vec<T> {
     pub fn pop(&mut self) -> Option<T> { self.0.pop() }
     #[inline(always)]
     pub fn clear(&mut self) { self.0.clear() }
+    pub fn truncate(&mut self, n: usize) { self.0.truncate(n) }
     pub fn remove(&mut self, at: usize) -> T { self.0.remove(at) }
     pub fn as_slice(&self) -> &[T] { &self.0 }
     pub fn reserve(&mut self, n: usize) -> Result<(), AllocError> { self.0.reserve(n); Ok(()) }
@@ -136,4 +137,62 @@ impl<T: std::fmt::Debug, const N: usize> std::fmt::Debug for ArrayVec<T, N> {
     fn fmt(&self, f: &mut std::fmt::Formatter<'_>) -> std::fmt::Result {
         self.as_slice().fmt(f)
     }
+}
+
+pub struct Box<T>(pub std::boxed::Box<T>);
+impl<T> Box<T> {
+    pub fn new(_: Global, v: T) -> Result<Box<T>, AllocError> { Ok(Box(std::boxed::Box::new(v))) }
+}
+impl<T> Deref for Box<T> {
+    type Target = T;
+    fn deref(&self) -> &T { &self.0 }
+}
+impl<T> DerefMut for Box<T> {
+    fn deref_mut(&mut self) -> &mut T { &mut self.0 }
+}
+
+pub struct String(pub std::string::String);
+impl String {
+    pub fn as_str(&self) -> &str { &self.0 }
+}
+impl Deref for String {
+    type Target = str;
+    fn deref(&self) -> &str { &self.0 }
+}
+impl std::fmt::Display for String {
+    fn fmt(&self, f: &mut std::fmt::Formatter<'_>) -> std::fmt::Result { f.write_str(&self.0) }
+}
+#[allow(unused_macros)]
+macro_rules! format_in { ($($t:tt)*) => { Ok(crate::shim::String(std::format!($($t)*))) } }
+pub(crate) use format_in;
+
+/// As the crate itoa: the digits of a number.
+pub struct Buffer(std::string::String);
+impl Buffer {
+    pub fn new() -> Buffer { Buffer(std::string::String::new()) }
+    pub fn format(&mut self, n: u32) -> &str {
+        self.0 = n.to_string();
+        &self.0
+    }
+}
+
+/// As the crate circular_buffer: a full one loses its first item.
+pub struct HeapCircularBuffer<T> {
+    room: usize,
+    items: std::collections::VecDeque<T>,
+}
+impl<T> HeapCircularBuffer<T> {
+    pub fn with_capacity(_: Global, room: usize) -> Result<Self, AllocError> {
+        Ok(HeapCircularBuffer { room, items: std::collections::VecDeque::with_capacity(room) })
+    }
+    pub fn len(&self) -> usize { self.items.len() }
+    pub fn capacity(&self) -> usize { self.room }
+    pub fn back(&self) -> Option<&T> { self.items.back() }
+    pub fn push_back(&mut self, v: T) -> Option<T> {
+        if self.room == 0 { return Some(v) }
+        let first = if self.items.len() == self.room { self.items.pop_front() } else { None };
+        self.items.push_back(v);
+        first
+    }
+    pub fn pop_back(&mut self) -> Option<T> { self.items.pop_back() }
 }

@@ -1,18 +1,29 @@
 #!/usr/bin/env python3
-"""Writes crates of this repository as modules of one plain Rust program: clauses, ghost items and tests are left out.
+"""Writes the crates of this repository as modules of a plain Rust package: clauses, ghost items and tests are left out.
 
-strip.py TOP OUT: reads TOP/crates and writes OUT/src. What is left of the code is as it stands, over the stand-ins of shim.rs
-for the kit's own types. Nothing of it is proved; it serves to measure a form of the code before its proof.
+strip.py TOP OUT: reads TOP/crates, and writes a package into OUT (package.toml) with the programs `nanobot` (program.rs) and
+`unproved` (main.rs), and the library for Python (library.rs). What is left of the code is as it stands, over stand-ins for Rattle's
+own types (shim.rs) and for the modules that use its raw memory, its files and its counters. Nothing of it is proved.
 """
 import os
 import re
+import shutil
 import sys
 
 CRATES = ("counter_permit vox_geom nano_spec step_order run_progress energy_sum brick_arena trace_codec bot_crew vox_planes model_file "
           "step_groups system_state support_forest step_machine trace_judge voxel_reads plan_tape layer_planner group_planner void_planner "
-          "low_planner swarm_planner squad_plans plan_choice model_forge").split()
-# Values for modules that only count touches or hold raw memory through the kit: each file here stands in for the crate's.
-KIT = r"(std::(alloc|marker|sync::ledger|collections|process|test)|arrayvec)"
+          "low_planner swarm_planner squad_plans plan_choice model_forge vox_depot trace_text nanobot_words debug_script step_debugger "
+          "nanobot_rows nanobot_app kept_machine nanobot_c machine_c").split()
+HERE = os.path.dirname(os.path.abspath(__file__))
+# The modules that use the kit's counters, raw memory or files, and the file here that stands in for each.
+STANDS_IN = {
+    "vox_geom/touches.rs": "touches.rs",
+    "brick_arena/chunk.rs": "chunk.rs",
+    "vox_depot/mod.rs": "depot.rs",
+    "machine_c/handle.rs": "handle.rs",
+    "machine_c/parts.rs": "/dev/null",
+}
+KIT = r"(std::(alloc|marker|sync::ledger|collections|process|test)|arrayvec|itoa|circular_buffer)"
 
 
 def block_end(text, start):
@@ -31,15 +42,17 @@ def without_clauses(text):
     while at < len(lines):
         line = lines[at]
         is_clause = re.match(r"\s*(requires|ensures)\b.*\{", line)
-        is_ghost = re.match(r"\s*ghost\b", line)
+        is_ghost = re.match(r"\s*(pub )?ghost\b", line)
         if not is_clause and not is_ghost:
             kept.append(line)
             at += 1
             continue
         depth = line.count("{") - line.count("}")
-        while depth > 0 or (is_ghost and not re.search(r"[;}]\s*$", lines[at])):
+        while depth > 0 or (is_ghost and not re.search(r"[;},]\s*$", lines[at])):
             at += 1
             depth += lines[at].count("{") - lines[at].count("}")
+        if is_clause and lines[at].rstrip().endswith("};"):
+            kept.append(";")  # the end of a method of a trait
         at += 1
     return "\n".join(kept)
 
@@ -54,25 +67,36 @@ def plain(text, crate):
     text = re.sub(r",?\s*\bDrop\b(?=[,)\]])", "", text).replace("#[derive()]", "").replace("derive(, ", "derive(")
     text = re.sub(r"#\[cfg\(test\)\]\s*\n\s*(pub )?mod \w+;", "", text)
     text = re.sub(r"\bcrate::", f"crate::{crate}::", text)
-    for name in CRATES:
-        text = re.sub(r"(?<![\w:])(pub )?use %s::" % name, lambda found: (found.group(1) or "") + f"use crate::{name}::", text)
+    text = re.sub(r"(?<![\w:])(%s)::" % "|".join(CRATES), r"crate::\1::", text)
     text = re.sub(r"^\s*(pub )?use %s\b[^;]*;" % KIT, "", text, flags=re.M)
+    text = re.sub(r"format!\(in alloc;\s*", "format_in!(", text)
     text = re.sub(r"vec!\[in (\w+); (.*?); (.*?)\]\?", r"Vec::filled(\2, \3)?", text)
     return "#[allow(unused_imports)] use crate::shim::*;\n" + text
 
 
+def write_crate(top, crate, out):
+    source = f"{top}/crates/{crate}/src"
+    for folder, _, files in os.walk(source):
+        for file in files:
+            if not file.endswith(".rt") or file == "tests.rt":
+                continue
+            path = os.path.relpath(os.path.join(folder, file), source)
+            target = f"{out}/src/{crate}/" + ("mod.rs" if path == "lib.rt" else path[:-3] + ".rs")
+            os.makedirs(os.path.dirname(target), exist_ok=True)
+            with open(os.path.join(folder, file), encoding="utf-8") as read, open(target, "w", encoding="utf-8") as write:
+                write.write(plain(read.read(), crate))
+
+
 def main(top, out):
     for crate in CRATES:
-        source = f"{top}/crates/{crate}/src"
-        for folder, _, files in os.walk(source):
-            for file in files:
-                if not file.endswith(".rt") or file == "tests.rt":
-                    continue
-                path = os.path.relpath(os.path.join(folder, file), source)
-                target = f"{out}/src/{crate}/" + ("mod.rs" if path == "lib.rt" else path[:-3] + ".rs")
-                os.makedirs(os.path.dirname(target), exist_ok=True)
-                with open(os.path.join(folder, file), encoding="utf-8") as read, open(target, "w", encoding="utf-8") as write:
-                    write.write(plain(read.read(), crate))
+        write_crate(top, crate, out)
+    for module, file in STANDS_IN.items():
+        shutil.copyfile(os.path.join(HERE, file), f"{out}/src/{module}")
+    for file in ("main.rs", "program.rs", "library.rs", "shim.rs"):
+        shutil.copyfile(f"{HERE}/{file}", f"{out}/src/{file}")
+    shutil.copyfile(f"{HERE}/package.toml", f"{out}/Cargo.toml")
+    with open(f"{out}/src/crates.rs", "w", encoding="utf-8") as write:
+        write.write("pub mod shim;\n" + "".join(f"pub mod {crate};\n" for crate in CRATES))
 
 
 main(sys.argv[1], sys.argv[2])

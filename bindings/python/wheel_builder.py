@@ -4,7 +4,8 @@ The shared library goes in from where `build_library` has put it beside the pack
 unless the environment variable NANOBOT_LIBRARY is set: it then names the library whenever the package is used. `pip install -e` installs a
 link to this folder.
 
-With NANOBOT_PROGRAM the wheel has the program of that name too, and `nanobot` then starts it; `scripts/package` makes such a wheel."""
+If NANOBOT_ARCHIVE names the folder of an unpacked archive, the wheel has its program too, and the command `nanobot`; `scripts/package`
+makes such a wheel."""
 
 import base64
 import hashlib
@@ -34,10 +35,12 @@ def _package_files():
 
 
 def _program():
-    """Yields the program that the environment names, as a script of the wheel."""
-    if os.environ.get("NANOBOT_PROGRAM"):
-        with open(os.environ["NANOBOT_PROGRAM"], "rb") as file:
-            yield f"{NAME}-{VERSION}.data/scripts/{NAME}", file.read()
+    """Yields the command `nanobot` and the program that it starts, from the archive that the environment names."""
+    archive = os.environ.get("NANOBOT_ARCHIVE")
+    for name, place in (("nanobot", "scripts"), ("lib/nanobot/nanobot", "data"), ("lib/nanobot/VERSION", "data")):
+        if archive:
+            with open(os.path.join(archive, name), "rb") as file:
+                yield f"{NAME}-{VERSION}.data/{place}/{name}", file.read()
 
 
 def _metadata():
@@ -61,11 +64,12 @@ def _metadata():
     return "\n".join([*fields, "", page])
 
 
-def _tag(library):
-    """Returns the wheel's tag: that of the oldest C library that has all which the shared library calls."""
-    if library is None:
+def _tag(files):
+    """Returns the wheel's tag: that of the oldest C library that has all which the shared library and the program call."""
+    if f"{NAME}/{LIBRARY}" not in files:
         return "py3-none-any"
-    minor = max([OLDEST_MINOR, *(int(found) for found in re.findall(rb"GLIBC_2\.(\d+)", library))])
+    binaries = [data for name, data in files.items() if name.endswith((LIBRARY, "lib/nanobot/nanobot"))]
+    minor = max([OLDEST_MINOR, *(int(found) for data in binaries for found in re.findall(rb"GLIBC_2\.(\d+)", data))])
     return f"py3-none-manylinux_2_{minor}_x86_64"
 
 
@@ -83,7 +87,7 @@ def _write_wheel(folder, files, tag):
     with zipfile.ZipFile(os.path.join(folder, made), "w") as out:
         for name, data in [*files, (f"{INFO}/RECORD", record.encode())]:
             entry = zipfile.ZipInfo(name, (2026, 1, 1, 0, 0, 0))
-            entry.external_attr = (0o100755 if "/scripts/" in name else 0o100644) << 16
+            entry.external_attr = (0o100755 if ".data/" in name and name.endswith("/nanobot") else 0o100644) << 16
             out.writestr(entry, data, zipfile.ZIP_DEFLATED)
     return made
 
@@ -101,7 +105,7 @@ def build_wheel(wheel_directory, config_settings=None, metadata_directory=None):
     """The hook of `pip install` and `pip wheel`."""
     files = {**dict(_package_files()), **dict(_program())}
     _stop_without_library(files)
-    return _write_wheel(wheel_directory, files.items(), _tag(files.get(f"{NAME}/{LIBRARY}")))
+    return _write_wheel(wheel_directory, files.items(), _tag(files))
 
 
 def build_editable(wheel_directory, config_settings=None, metadata_directory=None):

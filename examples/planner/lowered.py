@@ -3,13 +3,17 @@
 
 Usage: lowered.py MODEL TRACE
 
-Each command is judged before it is made; where it would break rule 12, a Flip is made first, and Low is tried again after each
-fill. Wants the Python package (bindings/python/README.md, "To install"). Takes some two seconds for the 34202 voxels that
+Each command is judged before it is made; if it would break rule 12, a Flip is made first, and Low is tried again after each
+fill. Needs the Python package (bindings/python/README.md, "To install"). Takes some two seconds for the 34202 voxels that
 `make 7 60` stores."""
 import sys
 
-import nanobot
 import planner
+
+try:
+    import nanobot
+except ImportError:
+    sys.exit("lowered.py: needs the Python package: bindings/python/README.md, \"To install\"")
 
 
 def accepts(machine, step):

@@ -1,9 +1,13 @@
-"""The commands of documents, with what they print; and the worked rows of crates/worked_rows."""
+"""The commands of documents, with what they print, and the worked rows of crates/worked_rows; and how each is tried in a folder."""
 from __future__ import annotations
 
 import ast
+import os
 import pathlib
 import re
+import shlex
+import shutil
+import subprocess
 from typing import Iterator, Optional, Tuple
 
 TOP = pathlib.Path(__file__).resolve().parents[2]
@@ -60,3 +64,67 @@ def worked_rows() -> Tuple[dict[str, bytes], list[WorkedRow]]:
             stores = " ".join([*words.split(" ")[:-1], "stored"])
             rows.append((stores, value(data, constants), (0, ast.literal_eval(f'"{line}"'), value(stored, constants))))
     return files, rows
+
+
+# What in a command says that it wants the library for Python.
+PACKAGED = ("python3 -m nanobot", "nanobot-tools explain", "nanobot-tools walk", "nanobot-tools compare", "nanobot-tools profile", "lowered.py")
+
+
+def make_folder(folder: pathlib.Path, program: pathlib.Path, library: Optional[pathlib.Path]) -> None:
+    """Makes a folder for the commands: a copy of examples/, `nanobot`, and links to the tools, which find the program and the library."""
+    shutil.copytree(TOP / "examples", folder / "examples")
+    for name, target in (("nanobot", program), ("nanobot-tools", TOP / "nanobot-tools"), ("scripts", TOP / "scripts")):
+        (folder / name).symlink_to(target)
+    os.environ.update(NANOBOT=str(program), PYTHONPATH=str(TOP / "bindings/python"), PYTHONDONTWRITEBYTECODE="1")
+    if library:
+        os.environ["NANOBOT_LIBRARY"] = str(library)
+
+
+def run(command: str, folder: pathlib.Path) -> Tuple[str, int, str]:
+    done = subprocess.run(["bash", "-c", command], cwd=folder, stdin=subprocess.DEVNULL, capture_output=True, text=True, check=False)
+    return done.stdout, done.returncode, done.stderr
+
+
+def try_documents(folder: pathlib.Path, has_library: bool) -> Tuple[int, int, list[str]]:
+    """Runs the commands of all pages. Returns how many were run and how many left out, and what differs."""
+    tried, left_out, faults = 0, 0, []
+    for page in documents():
+        for command, printed, status in commands_of(page):
+            if not has_library and any(name in command for name in PACKAGED):
+                left_out += 1
+                continue
+            tried += 1
+            said, ended, errors = run(command, folder)
+            if said != printed or status not in (None, ended):
+                faults.append(
+                    f"{page.relative_to(TOP)}: {command}\n  printed {said!r}, status {ended} {errors}\n  expected {printed!r}, status {status}"
+                )
+    return tried, left_out, faults
+
+
+def try_texts(folder: pathlib.Path) -> Tuple[int, list[str]]:
+    """Assembles each text of examples/ that has a trace of its name. Returns how many there are, and which have other bytes."""
+    tried, faults = 0, []
+    for trace in sorted((TOP / "examples").rglob("*.nbt")):
+        text = trace.with_suffix(".txt")
+        if text.exists():
+            tried += 1
+            run(f"./nanobot asm {shlex.quote(str(text))} again.nbt", folder)
+            if (folder / "again.nbt").read_bytes() != trace.read_bytes():
+                faults.append(f"{text.relative_to(TOP)} has other bytes than {trace.relative_to(TOP)}")
+    return tried, faults
+
+
+def try_rows(folder: pathlib.Path, program: pathlib.Path) -> Tuple[int, list[str]]:
+    """Runs the worked rows. Returns how many there are, and what differs."""
+    files, rows = worked_rows()
+    faults = []
+    for words, data, wanted in rows:
+        for name, content in {**files, "B": data}.items():
+            (folder / name).write_bytes(content)
+        done = subprocess.run([program, *words.split(" ")], cwd=folder, stdin=subprocess.DEVNULL, capture_output=True, check=False)
+        stored = [(folder / "stored").read_bytes()] if len(wanted) > 2 and done.returncode == 0 else []
+        found = (done.returncode, done.stdout.decode(), *stored)
+        if found != wanted:
+            faults.append(f"worked row {words}: {found!r}, and not {wanted!r}")
+    return len(rows), faults

@@ -3,13 +3,15 @@
 from __future__ import annotations
 
 import argparse
+import os
+import re
 import sys
 from pathlib import Path
-from typing import Callable, Dict, List, NamedTuple, Optional, Tuple
+from typing import Callable, Dict, Iterable, List, NamedTuple, NoReturn, Optional, Sequence, Tuple
 
 from ..errors import NanobotError
 from ..models import Model
-from . import cheapest, compare, profile, shapes, steps
+from . import cheapest, compare, contest, hosts, judge, profile, program, shapes, steps, tables
 
 
 class Tool(NamedTuple):
@@ -24,6 +26,31 @@ def _side(name: str) -> Optional[str]:
     return None if name == "-" else name
 
 
+def _form_arguments(parser: argparse.ArgumentParser, what: str) -> None:
+    form = parser.add_mutually_exclusive_group()
+    form.add_argument("--json", action="store_true", help=f"print a record for each {what}")
+    form.add_argument("--csv", action="store_true", help="the same with commas")
+
+
+def _print(given: argparse.Namespace, records: Sequence[Dict[str, object]], table: Iterable[str]) -> None:
+    """Prints the records as --json or --csv, or else the table."""
+    if given.json or given.csv:
+        print(tables.as_json(records) if given.json else tables.as_csv(records))
+    else:
+        print("\n".join(map(tables.printable, table)))
+
+
+def _number(least: int, most: int) -> Callable[[str], int]:
+    """The type of an argument that is a number within bounds."""
+
+    def number(word: str) -> int:
+        if not re.fullmatch("[1-9][0-9]*", word) or not least <= int(word) <= most:
+            raise argparse.ArgumentTypeError(f"not a number from {least} to {most}: {word}")
+        return int(word)
+
+    return number
+
+
 # ---- compare
 
 
@@ -32,9 +59,7 @@ def _compare_arguments(parser: argparse.ArgumentParser) -> None:
     parser.add_argument("folders", nargs="*", metavar="FOLDER", help="a folder of traces, NAME.nbt for each problem")
     parser.add_argument("--plan", default="", metavar="PLANNERS", help="also plan with these, as in --plan 'crew layer'")
     parser.add_argument("--baseline", type=Path, metavar="FOLDER", help="ratios to the traces of this folder, and not to the best")
-    form = parser.add_mutually_exclusive_group()
-    form.add_argument("--json", action="store_true", help="print a record for each problem and folder")
-    form.add_argument("--csv", action="store_true", help="the same with commas")
+    _form_arguments(parser, "problem and folder")
 
 
 def _compare(given: argparse.Namespace) -> int:
@@ -50,10 +75,7 @@ def _compare(given: argparse.Namespace) -> int:
         raise ValueError(f"{given.models} has no problem: NAME_src.mdl or NAME_tgt.mdl")
     baseline = compare.Column("baseline", given.baseline) if given.baseline else None
     result = compare.compare(found, compare.columns_of(given.folders, given.plan), baseline)
-    if given.json or given.csv:
-        print(compare.as_json(result) if given.json else compare.as_csv(result))
-    else:
-        print("\n".join(compare.table(result)))
+    _print(given, compare.records(result), compare.table(result))
     return 0 if result.all_accepted else 1
 
 
@@ -166,9 +188,81 @@ def _cheapest(given: argparse.Namespace) -> int:
     return 0
 
 
+# ---- many traces
+
+
+def _seconds_argument(parser: argparse.ArgumentParser) -> None:
+    parser.add_argument("--seconds", type=_number(1, 9_999_999), metavar="N", help="stop a run that takes longer; its line says so")
+
+
+def _judge_arguments(parser: argparse.ArgumentParser) -> None:
+    parser.description = (
+        "Judges the traces of standard input, a line each: SOURCE TARGET TRACE, with - for one empty model at most. Names have no blanks, quotes "
+        "or backslashes; empty lines and lines that begin with # are skipped. Prints the energy and the steps of each, or why it is refused. "
+        "Ends with 0 if all are accepted, with 1 if one is not, with 2 if a line or an argument is wrong, and with 12 if there is no program or "
+        "no temporary folder."
+    )
+    parser.epilog = (
+        "GNU parallel makes the runs on the hosts of FILE, a line each as ssh takes it (`8/me@host`; `:` is this machine). ssh has to get there "
+        "without a password, and rsync and perl to be there. The program and the files are sent into a folder nanobot-judge.* of the home folder "
+        "there, which is removed at the end; hosts that do not answer are left out."
+    )
+    parser.add_argument("number", nargs="?", type=_number(1, 999), metavar="NUMBER", help="runs at a time, here or on each host; one a processor")
+    _seconds_argument(parser)
+    parser.add_argument("--hosts", "--sshloginfile", type=Path, metavar="FILE", help="make the runs on these hosts")
+    _form_arguments(parser, "trace")
+
+
+def _judge(given: argparse.Namespace) -> int:
+    if given.hosts and not os.access(given.hosts, os.R_OK):
+        raise ValueError(f"--hosts needs a file with a line for each host, not {given.hosts}")
+    runs = judge.runs_of(os.fsdecode(sys.stdin.buffer.read()))
+    with program.stoppable():
+        if given.hosts and runs:
+            with hosts.Hosts(given.hosts, given.number, given.seconds) as others:
+                outcomes = others.judge(runs)
+        else:
+            outcomes = judge.judge_here(runs, given.number or os.cpu_count() or 1, given.seconds)
+    _print(given, [outcome.record() for outcome in outcomes], judge.table(outcomes))
+    return 0 if judge.accepted(outcomes) else 1
+
+
+def _contest_arguments(parser: argparse.ArgumentParser) -> None:
+    parser.description = (
+        "Checks each model and judges each trace below the folders, by the contest's names: of the problem FR001 the models FR001_src.mdl and "
+        "FR001_tgt.mdl, and the trace FR001.nbt; a problem without a source or a target has the empty one. Prints which models are refused, "
+        "then the table of `judge`. Ends with 0 if all is accepted, with 1 if something is refused, with 2 if there is no such file or two "
+        "models of one name differ, and with 12 if there is no program."
+    )
+    parser.add_argument("folders", nargs="+", type=Path, metavar="FOLDER", help="where the models and traces are, which may be apart")
+    _seconds_argument(parser)
+    _form_arguments(parser, "trace and refused model")
+
+
+def _contest(given: argparse.Namespace) -> int:
+    files, jobs = contest.find(given.folders), os.cpu_count() or 1
+    with program.stoppable():
+        checked = contest.check(files, jobs, given.seconds)
+        outcomes = contest.judge(files, jobs, given.seconds)
+    refused = [(name, line) for name, legal, line in checked if not legal]
+    records = [judge.record_of_model(name, line) for name, line in refused] + [{"model": None, **outcome.record()} for outcome in outcomes]
+    counted = f"{len(checked) - len(refused)} of {len(checked)} models are legal"
+    _print(given, records, [*(f"{name}: {line}" for name, line in refused), counted, *judge.table(outcomes)])
+    return 0 if not refused and judge.accepted(outcomes) else 1
+
+
+class Parser(argparse.ArgumentParser):
+    """Answers wrong arguments with one line."""
+
+    def error(self, message: str) -> NoReturn:
+        self.exit(2, f"{self.prog}: {message}: --help says more\n")
+
+
 TOOLS: Dict[str, Tool] = {
     "cheapest": Tool("plans with every planner and keeps the cheapest plan", _cheapest_arguments, _cheapest),
     "compare": Tool("compares the energies of traces, problem by problem", _compare_arguments, _compare),
+    "contest": Tool("checks and judges the contest's models and traces", _contest_arguments, _contest),
+    "judge": Tool("judges many traces at once, here or on other hosts", _judge_arguments, _judge),
     "layers": Tool("prints the layers of a model as text", _layers_arguments, _layers),
     "model": Tool("makes a model: empty, a box, a ball, or from text", _model_arguments, _model),
     "profile": Tool("shows where the energy of a trace goes", _profile_arguments, _profile),
@@ -177,9 +271,10 @@ TOOLS: Dict[str, Tool] = {
 
 
 def run(name: str, words: List[str]) -> int:
-    """Runs a tool; answers its exit status: 0, 1 if a rule is broken or a file is refused, 2 for wrong arguments or files."""
+    """Runs a tool; answers its exit status: 0, 1 if a rule is broken or a file is refused, 2 for wrong arguments or files, 12 if there is no
+    program or no temporary folder."""
     tool = TOOLS[name]
-    parser = argparse.ArgumentParser(prog=f"nanobot-tools {name}", description=tool.summary[0].upper() + tool.summary[1:] + ".")
+    parser = Parser(allow_abbrev=False, prog=f"nanobot-tools {name}", description=tool.summary[0].upper() + tool.summary[1:] + ".")
     tool.arguments(parser)
     given = parser.parse_args(words)
     try:
@@ -187,3 +282,6 @@ def run(name: str, words: List[str]) -> int:
     except (NanobotError, OSError, ValueError) as fault:
         print(f"nanobot-tools {name}: {fault}", file=sys.stderr)
         return 2
+    except program.Unavailable as fault:
+        print(f"nanobot-tools {name}: {fault}", file=sys.stderr)
+        return 12

@@ -2,9 +2,6 @@
 
 from __future__ import annotations
 
-import csv
-import io
-import json
 import math
 import re
 from dataclasses import dataclass, field
@@ -184,18 +181,6 @@ def records(found: Comparison) -> List[Dict[str, object]]:
             record["line"] = result if isinstance(result, str) else None
             out.append(record)
     return out
-
-
-def as_json(found: Comparison) -> str:
-    return json.dumps(records(found), indent=2)
-
-
-def as_csv(found: Comparison) -> str:
-    out, rows = io.StringIO(), records(found)
-    writer = csv.DictWriter(out, list(rows[0]) if rows else ["problem"], lineterminator="\n")
-    writer.writeheader()
-    writer.writerows(rows)
-    return out.getvalue().rstrip("\n")
 
 
 def columns_of(folders: List[str], planners: str) -> List[Column]:
