@@ -1,30 +1,30 @@
-/* nanobot as a static library: judges traces, checks models and plans, on bytes in memory.
+/* nanobot as a static library: judges traces, checks models and makes plans, on bytes in memory.
  *
- * Each call answers what the program `nanobot` answers over files of the same bytes (docs/FORMATS.md, "Printed lines"), and
- * is proved to: the contracts stand in crates/nanobot_c/src. A caller that is not Rattle is checked by nothing. Nobody sees
- * that it passes what is said here, so a wrong pointer or length is as undefined as it is in C:
+ * Each call gives what the program `nanobot` prints or stores for files of the same bytes (docs/FORMATS.md, "Printed lines").
+ * That is proved: the contracts are in crates/nanobot_c/src. Nothing checks callers in other languages: the contracts hold
+ * only if they follow these rules, and a wrong pointer or length is as undefined as anywhere in C.
  *
- * - Each pointer points to so many readable bytes, or to so many writable ones of a buffer, for the whole call. It is never
- *   null, not even where the length is 0: the compiled code relies on that, as Rust's slices do. An empty std::vector, a slice
- *   of no bytes in Go and ctypes' None give a null pointer: pass NANOBOT_NONE there, or call nanobot_bytes and nanobot_buffer.
- * - Nothing else writes to the bytes or the buffer during the call. The bytes that are read may overlap one another; the buffer,
- *   `size`, `energy` and `steps` overlap nothing else that is passed. No length is more than PTRDIFF_MAX.
+ * - Each input pointer points to that many readable bytes, and each buffer to that many writable ones, for the whole call. No
+ *   pointer is null, not even for a length of 0: the compiled code relies on that, as Rust's slices do. An empty std::vector,
+ *   an empty slice in Go and ctypes' None give a null pointer: pass NANOBOT_NONE, or call nanobot_bytes and nanobot_buffer.
+ * - Nothing else writes to the inputs or the buffer during the call. Inputs may overlap one another; the buffer, `size`,
+ *   `energy` and `steps` overlap nothing else that is passed. No length exceeds PTRDIFF_MAX.
  * - `size`, `energy` and `steps` point to one number each.
  * - `malloc`, `realloc` and `free` of the program come from one allocator and align as the C library's do. No call is made
  *   from a signal handler, or from the forked child of a process with threads.
- * - The thread has 192 KB of stack for the call: a thread of glibc has 8 MB, but one of musl only 128 KB. That is measured
- *   (scripts/try linked); no clause bounds it.
+ * - The thread has 192 KB of stack for the call: a thread of glibc has 8 MB, but one of musl only 128 KB. The figure is
+ *   measured (scripts/try linked); no clause bounds it.
  *
- * Calls keep nothing between them, so threads may call at the same time. A call takes memory and frees it before it
- * returns. It returns for all bytes, junk too; time and memory are promised by no clause.
+ * Calls keep nothing between them, so threads may call at the same time. A call frees all that it allocates before it
+ * returns. It returns for all bytes, junk too. No clause bounds its time or memory.
  *
- * A source or a target of length 0 is the empty model of the other's resolution, where the program has `-`; this is so of
- * nanobot_judge, nanobot_cost, nanobot_plan_layer, nanobot_plan_group and nanobot_plan_crew. To the other calls it is a file of no
- * bytes. NANOBOT_NONE is the pointer to pass with it.
+ * A source or a target of length 0 is the empty model of the other's resolution, as `-` is for the program. This holds for
+ * nanobot_judge, nanobot_cost, nanobot_plan_layer, nanobot_plan_group and nanobot_plan_crew. For the other calls it is a file
+ * of no bytes. Pass NANOBOT_NONE as its pointer.
  *
- * What is given is written to the front of the caller's buffer of `room` bytes, with no byte 0 behind it, and `*size` is
- * how many bytes it is. Where they are more than `room` the status is NANOBOT_TOO_SMALL, `*size` is the room that is
- * wanted, and the buffer is as it was. Behind what is given the buffer is as it was, too.
+ * The output is written to the front of the caller's buffer of `room` bytes, with no byte 0 behind it, and `*size` is its
+ * length. The rest of the buffer stays as it was. If the output is longer than `room`, the status is NANOBOT_TOO_SMALL,
+ * `*size` is the room that it needs, and the whole buffer stays as it was.
  *
  * To build and link: `./prove` makes out/libnanobot.a, and a package has it as lib/libnanobot.a; it links by itself, as in
  * `cc -Iinclude call.c out/libnanobot.a`. scripts/try linked does so for C, C++, Rust, Go and Python.
@@ -43,14 +43,14 @@
 extern "C" {
 #endif
 
-/* What to pass with a length of 0, since no pointer may be null. */
+/* The pointer to pass with a length of 0, since none may be null. */
 #ifdef __cplusplus
 #define NANOBOT_NONE (reinterpret_cast<const uint8_t *>(""))
 #else
 #define NANOBOT_NONE ((const uint8_t *)"")
 #endif
 
-/* Returns the same pointer, or NANOBOT_NONE for a null one, as std::vector's data() may be where it is empty:
+/* Returns the same pointer, or NANOBOT_NONE for a null one, which data() of an empty std::vector may be:
  * `nanobot_check(nanobot_bytes(model.data()), model.size(), ..)`. */
 static inline const uint8_t *nanobot_bytes(const uint8_t *bytes) { return bytes ? bytes : NANOBOT_NONE; }
 
@@ -61,22 +61,22 @@ static inline uint8_t *nanobot_buffer(uint8_t *buffer)
     return buffer ? buffer : &nothing;
 }
 
-/* The statuses that can come: those of the program but 6, and 10. */
+/* The statuses: those of the program except 6, and 10. */
 enum {
     NANOBOT_DONE = 0,        /* the trace is accepted, the model is legal, the plan is made */
     NANOBOT_BROKEN = 1,      /* a rule is broken */
     NANOBOT_WORDS = 2,       /* neither a source nor a target has bytes */
     NANOBOT_MODEL = 3,       /* a model is refused, two resolutions differ, or a group plan may be too long */
     NANOBOT_TRACE = 4,       /* the trace is refused: a bad or cut command, or more than 1073741824 bytes */
-    NANOBOT_DEPOT = 5,       /* a file could not be read: never seen here, where there are no files */
-    NANOBOT_MEMORY = 7,      /* there was no memory: nothing is given, and *size, *energy and *steps are 0 */
+    NANOBOT_DEPOT = 5,       /* a file could not be read: never here, since there are no files */
+    NANOBOT_MEMORY = 7,      /* out of memory: nothing is written, and *size, *energy and *steps are 0 */
     NANOBOT_TEXT = 8,        /* a text is refused */
     NANOBOT_UNSUPPORTED = 9, /* a part of the target of a low plan is unsupported */
-    NANOBOT_TOO_SMALL = 10   /* the buffer is too small: *size is the room that is wanted */
+    NANOBOT_TOO_SMALL = 10   /* the buffer is too small: *size is the room that is needed */
 };
 
-/* Judges the trace from the source to the target, by the light profile or the full one, and gives the line that
- * `nanobot run S T B`, or `nanobot run light S T B`, prints, with its line feed. No line is longer than 200 bytes.
+/* Judges the trace from the source to the target, by the light profile or the full one. Gives the line that
+ * `nanobot run S T B`, or `nanobot run light S T B`, prints, with its line feed; no line is longer than 200 bytes.
  *
  *     uint8_t line[200];
  *     size_t size;
@@ -87,7 +87,7 @@ uint32_t nanobot_judge(const uint8_t *source, size_t source_size, const uint8_t 
                        const uint8_t *trace, size_t trace_size, bool light,
                        uint8_t *line, size_t room, size_t *size);
 
-/* Judges as nanobot_judge does, and tells the energy and the number of steps of an accepted run; of any other both are 0.
+/* Judges as nanobot_judge does, and gives the energy and the number of steps of an accepted run; of any other both are 0.
  *
  *     int64_t energy;
  *     uint32_t steps;
@@ -105,12 +105,13 @@ uint32_t nanobot_cost(const uint8_t *source, size_t source_size, const uint8_t *
  */
 uint32_t nanobot_check(const uint8_t *model, size_t model_size, uint8_t *line, size_t room, size_t *size);
 
-/* The planners. Each gives the trace that the row of the program stores: nanobot_judge accepts it from the source to the
- * target, and of nanobot_plan_low and nanobot_plan_swarm by the light profile too. Where the status is another than 0 it
- * gives the line that the program prints. It plans anew at each call, so give it room at once where that can be told: the
- * functions nanobot_ROW_room below have the most bytes that such a plan takes at resolution r, which follow from what is proved
- * of its steps (docs/FORMATS.md) and from how many bytes its commands take. A group plan takes far fewer, as a rule: start with
- * some megabytes there, and let the status tell.
+/* The planners. Each gives the trace that the program's command stores: nanobot_judge accepts it from the source to the
+ * target, and those of nanobot_plan_low and nanobot_plan_swarm by the light profile too. If the status is not 0, it gives the
+ * line that the program prints.
+ *
+ * Each call plans anew, so give enough room at once: the functions nanobot_ROW_room below return the most bytes that a plan
+ * takes at resolution r. They follow from the proved bounds on its steps (docs/FORMATS.md) and the sizes of its commands. A
+ * group plan usually takes far fewer: start with some megabytes, and look at the status.
  *
  * nanobot_plan_layer, one bot:
  *
@@ -128,7 +129,7 @@ uint32_t nanobot_plan_group(const uint8_t *source, size_t source_size, const uin
                             uint8_t *plan, size_t room, size_t *size);
 
 /* Up to forty bots: the cheapest of its own plans and of those that the other planners make. It takes far fewer bytes than 2^30,
- * which is all that is proved: start with some megabytes, and let the status tell.
+ * which is all that is proved: start with some megabytes, and look at the status.
  *
  *     nanobot_plan_crew(NANOBOT_NONE, 0, model, model_size, plan, sizeof plan, &size);       // size is 1011
  */
@@ -141,7 +142,7 @@ uint32_t nanobot_plan_crew(const uint8_t *source, size_t source_size, const uint
  */
 uint32_t nanobot_plan_void(const uint8_t *source, size_t source_size, uint8_t *plan, size_t room, size_t *size);
 
-/* One bot, which builds the target under Low all the time, where each part of it is supported.
+/* One bot, which builds the target under Low all the time, if each part of it is supported.
  *
  *     if (nanobot_plan_low(model, model_size, plan, sizeof plan, &size) == NANOBOT_UNSUPPORTED)
  *         fwrite(plan, 1, size, stdout);                               // unsupported at 3 1 1
@@ -154,24 +155,24 @@ uint32_t nanobot_plan_low(const uint8_t *target, size_t target_size, uint8_t *pl
  */
 uint32_t nanobot_plan_swarm(const uint8_t *target, size_t target_size, uint8_t *plan, size_t room, size_t *size);
 
-/* Reads the text of a trace, and gives the trace that `nanobot asm X B` stores or, where the text is refused (NANOBOT_TEXT), the line
- * that the program prints. A trace has no more bytes than its text.
+/* Reads the text of a trace, and gives the trace that `nanobot asm X B` stores, or the line that the program prints if the text
+ * is refused (NANOBOT_TEXT). A trace has no more bytes than its text.
  *
  *     const uint8_t text[] = "Wait\nHalt\n";
  *     nanobot_asm(text, sizeof text - 1, plan, sizeof plan, &size);     // fe ff
  */
 uint32_t nanobot_asm(const uint8_t *text, size_t text_size, uint8_t *trace, size_t room, size_t *size);
 
-/* Reads a trace of at most 50,000,000 bytes, and gives the text that `nanobot dis B X` stores or, where the trace is refused, the
- * line that the program prints. A text has at most 18 bytes for each byte of its trace; a line that is told has less than 100.
+/* Reads a trace of at most 50,000,000 bytes, and gives the text that `nanobot dis B X` stores, or the line that the program
+ * prints if the trace is refused. A text has at most 18 bytes for each byte of its trace; a line has fewer than 100 bytes.
  *
  *     uint8_t spelled[100];
  *     nanobot_dis(plan, size, spelled, sizeof spelled, &size);          // Wait, Halt
  */
 uint32_t nanobot_dis(const uint8_t *trace, size_t trace_size, uint8_t *text, size_t room, size_t *size);
 
-/* Returns how many bytes a command has whose first byte is this one, 1, 2 or 4; 0 if none begins so. It cuts a trace that nanobot_commands
- * accepts into its commands; the bytes behind the first one may still spell none.
+/* Returns the size of a command by its first byte, 1, 2 or 4 bytes; 0 if no command begins with it. It cuts a trace that
+ * nanobot_commands accepts into its commands; in other bytes, those behind the first one may spell no command.
  *
  *     for (size_t at = 0; at < size && nanobot_command_size(plan[at]) > 0; at += nanobot_command_size(plan[at]))
  *         printf("a command at %zu\n", at);
@@ -192,7 +193,7 @@ static inline size_t nanobot_command_size(uint8_t first)
     return word == 5 ? 2 : word < 2 ? 4 : 1;
 }
 
-/* The most bytes that a plan takes at resolution r, r being at most 400. */
+/* Returns the most bytes that a plan takes at resolution r, which is at most 400. */
 static inline uint64_t nanobot_layer_room(uint64_t r) { return 8 * r * r * r + 200; }
 
 /* A row has at most (r + 1) / 2 runs, and each model r * r rows. */
