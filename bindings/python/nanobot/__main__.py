@@ -4,8 +4,8 @@
     walk [light] S T B        walks a trace by the lines of standard input; `help` lists them
 TOOLS
 `NAME --help` says more. S and T are models, of which one may be `-`, the empty model of the other's resolution; B is a trace.
-Ends with 0, with 1 if a trace is refused, and with 2 if the arguments are wrong or a file cannot be read. `--version` prints the
-version of the library. nanobot-explain and nanobot-walk do the same without the first word."""
+Ends with 0, with 1 if a trace is refused, with 2 if the arguments are wrong or a file cannot be read, and with 12 if judge or contest
+finds no program. `--version` prints the version of the library. nanobot-explain and nanobot-walk do the same without the first word."""
 
 from __future__ import annotations
 
@@ -60,9 +60,12 @@ def run(words: List[str]) -> int:
     light = words[1:2] == ["light"] and len(words) == 5
     rest = words[2:] if light else words[1:]
     if len(rest) != 3 or rest[:2] == ["-", "-"] or words[0] not in ("explain", "walk"):
-        asked = bool({"-h", "--help"} & set(words))
-        print(HELP, file=sys.stdout if asked else sys.stderr)
-        return 0 if asked else 2
+        if {"-h", "--help"} & set(words):
+            print(HELP)
+            return 0
+        what = f"{words[0]} takes [light] S T B" if words[:1] in (["explain"], ["walk"]) else f"there is no tool {words[0]}" if words else "no tool is named"
+        print(f"nanobot-tools: {what}: nanobot-tools --help", file=sys.stderr)
+        return 2
     try:
         return _explain(rest, light) if words[0] == "explain" else _walk(rest, light)
     except KeyboardInterrupt:

@@ -245,7 +245,7 @@ def _contest(given: argparse.Namespace) -> int:
         checked = contest.check(files, jobs, given.seconds)
         outcomes = contest.judge(files, jobs, given.seconds)
     refused = [(name, line) for name, legal, line in checked if not legal]
-    records = [judge.record_of_model(name, line) for name, line in refused] + [{"model": None, **outcome.record()} for outcome in outcomes]
+    records = [judge.record_of_model(name, line) for name, line in refused] + [judge.record_of_run(outcome) for outcome in outcomes]
     counted = f"{len(checked) - len(refused)} of {len(checked)} models are legal"
     _print(given, records, [*(f"{name}: {line}" for name, line in refused), counted, *judge.table(outcomes)])
     return 0 if not refused and judge.accepted(outcomes) else 1

@@ -45,6 +45,12 @@ class Outcome(NamedTuple):
         return {**files, "energy": energy, "steps": steps, "host": self.host or None, "line": self.line}
 
 
+def record_of_run(outcome: Outcome) -> Dict[str, object]:
+    """The record of a run among those of models."""
+    record: Dict[str, object] = {"model": None}
+    return {**record, **outcome.record()}
+
+
 def record_of_model(name: str, line: str) -> Dict[str, object]:
     """The record of a refused model, with the fields of a run's."""
     record: Dict[str, object] = {"model": name, "trace": None, "source": None, "target": None, "energy": None, "steps": None, "host": None}
