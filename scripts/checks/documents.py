@@ -88,12 +88,12 @@ def _neighbors(tree: Tree, crate: str) -> str:
     below = [it for it in tree.crates[crate] if it in tree.crates]
     of_kit = [it for it in tree.crates[crate] if it not in tree.crates]
     above = [it for it in tree.crates if crate in tree.crates[it]]
-    first = "Stands on " + (_quoted(below) or "no other crate of this repository")
+    first = "Depends on " + (_quoted(below) or "no other crate of this repository")
     if of_kit:
-        first += f"; of the kit on {_quoted(of_kit)}"
+        first += f"; from the kit, on {_quoted(of_kit)}"
     if len(above) > 10:
-        return f"{first}. {len(above)} crates stand on it."
-    return f"{first}. " + (f"Used by {_quoted(above)}." if above else "No crate stands on it.")
+        return f"{first}. {len(above)} crates depend on it."
+    return f"{first}. " + (f"Used by {_quoted(above)}." if above else "No crate depends on it.")
 
 
 def _quoted(names: list[str]) -> str:

@@ -1,16 +1,19 @@
 -- The bits of the first form.
-use Rattle.std.proofs.Common.{◌≡◌, ℕ, zero, suc, ◌+◌, ◌-◌, ◌*◌, ◌/◌, ◌%◌, ◌<◌, ◌≤◌, ◌^◌, ◌++◌, ◌==◌, add-one, zero-add, refl, sym, ◌∙◌, ap, arith, Bool, false, cond, List, [], ◌∷◌, length, map, get_or, min, drop, take, inl, inr}
+use Rattle.std.proofs.Common.{◌≡◌, ℕ, zero, suc, ◌+◌, ◌-◌, ◌*◌, ◌/◌, ◌%◌, ◌<◌, ◌≤◌, ◌^◌, ◌++◌, ◌==◌, add-one, zero-add, refl, sym, ◌∙◌, ap, arith, Bool, false, cond, List, [], ◌∷◌, length, map, get_or, inl, inr}
 use Rattle.std.specs.Prelude.{◌⊎◌, slice_index, sum_by}
 use Rattle.std.proofs.lemmas.Bool.{cases_lt}
-use Rattle.std.proofs.lemmas.List.{ext_get_or, get_or-drop, get_or-map, get_or_default, length-drop, length-map, take_rest}
-use Rattle.std.proofs.Math.Nat.{pow-le-pow_right}
-use Rattle.std.proofs.lemmas.Nat.Bits.{bit_at_above}
+use Rattle.std.proofs.lemmas.List.{ext_get_or, get_or-map, length-map}
+use Rattle.std.proofs.Math.Nat.{mod-eq_of_lt, pow-le-pow_right}
+use Rattle.std.proofs.lemmas.Nat.Bits.{bit_at-zero, bit_at_above}
 use Rattle.vox_geom.specs.Space.{numbers_below, numbers_from}
-use Rattle.nano_spec.specs.Matrix.{Matrix}
+use Rattle.nano_spec.specs.Matrix.{Matrix, empty}
 use Rattle.nano_spec.specs.Model.{bit, byte_at, volume, voxel_bit}
 use Rattle.vox_planes.specs.Places.{is_from, voxel_at}
-use Rattle.vox_planes.proofs.Placed.{before_these, one_of_these}
-use Rattle.vox_planes.proofs.Voxels.{get_or-numbers}
+use Rattle.vox_planes.specs.Voxel.{IsWhole}
+use Rattle.vox_planes.proofs.Placed.{after_these, before_these, one_of_these}
+use Rattle.vox_planes.proofs.Chunks.{chunk_bit}
+use Rattle.vox_planes.proofs.Voxels.{get_or-numbers, void_at}
+use Rattle.model_file.specs.Words.{IsReadTo, IsWordOf}
 
 -- ---- a matrix by its voxels
 
@@ -33,33 +36,62 @@ matrix_is m r f er el h = λ i. record { resolution = er i; voxels = same i }
 
 -- ---- reading
 
--- a byte of the rest from one on
-pub byte_is : (bytes : List ℕ) (s k byte d : ℕ) → k < length (take (length bytes - s) (drop s bytes))
-    → byte ≡ get_or (take (length bytes - s) (drop s bytes)) k d → byte ≡ slice_index bytes (s + k)
-byte_is bytes s k byte d l e =
-    let rest : take (length bytes - s) (drop s bytes) ≡ drop s bytes = take_rest bytes s in
-    e ∙ (get_or_default (take (length bytes - s) (drop s bytes)) k d 0 l ∙ (ap (λ xs. get_or xs k 0) rest ∙ get_or-drop s bytes k 0))
+-- a word's mask of so many bits does not overflow
+mask_power : (count : ℕ) → count ≤ 57 → 1 * 2 ^ count % 2 ^ 64 ≡ 2 ^ count
+mask_power count few =
+    let most : 2 ^ count ≤ 2 ^ 57 = pow-le-pow_right {n = 2} (omega arith) few in
+    mod-eq_of_lt (omega arith) ∙ omega arith
 
-pub rest_length : (bytes : List ℕ) (s : ℕ) → length (take (length bytes - s) (drop s bytes)) ≡ length bytes - s
-rest_length bytes s = ap length (take_rest bytes s) ∙ length-drop s bytes
+-- the bits of a word from the lowest byte's bit `place % 8` on are the voxels from the place on
+pub voxel_bits : (bytes : List ℕ) (place word count : ℕ) → IsWordOf bytes (1 + place / 8) word → count ≤ 57 → (k : ℕ)
+    → k < count → bit (word / 2 ^ (place % 8) % (1 * 2 ^ count % 2 ^ 64)) k ≡ voxel_bit bytes (place + k)
+voxel_bits bytes place word count is few k l =
+    let byte : 1 + place / 8 + (place % 8 + k) / 8 ≡ 1 + (place + k) / 8 = omega arith in
+    let digit : (place % 8 + k) % 8 ≡ (place + k) % 8 = omega arith in
+    ap (λ n. bit (word / 2 ^ (place % 8) % n) k) (mask_power count few)
+    ∙ (chunk_bit word (place % 8) count k l
+    ∙ (is (place % 8 + k) (omega arith) ∙ (λ i. bit (slice_index bytes (byte i)) (digit i))))
 
--- the voxels of one more byte
-pub byte_more : (old new : Matrix) (bytes : List ℕ) (places from k count byte : ℕ) → from ≡ 8 * k
-    → count ≡ min (places - from) 8 → byte ≡ slice_index bytes (1 + k)
-    → ((p : ℕ) → p < 8 * k → p < places → voxel_at old p ≡ voxel_bit bytes p)
-    → ((p : ℕ) → voxel_at new p ≡ cond (is_from from count p) (bit byte (p - from)) (voxel_at old p)) → (p : ℕ)
-    → p < 8 * (k + 1) → p < places → voxel_at new p ≡ voxel_bit bytes p
-byte_more old new bytes places from k count byte ef ec eb before set p l m = set p ∙ by (cases_lt p from)
-  where
-    by : ((p < from) ⊎ (from ≤ p))
-        → cond (is_from from count p) (bit byte (p - from)) (voxel_at old p) ≡ voxel_bit bytes p
-    by (inl h) = ap (λ b. cond b (bit byte (p - from)) (voxel_at old p)) (before_these from count p h) ∙ before p (omega arith) m
-    by (inr h) =
-        let quotient_is : p / 8 ≡ k = omega arith in
-        let remainder_is : p % 8 ≡ p - from = omega arith in
-        ap (λ b. cond b (bit byte (p - from)) (voxel_at old p)) (one_of_these from count p h (omega (arith, ec)))
-        ∙ ((λ i. bit (eb i) (p - from))
-        ∙ sym (λ i. bit (slice_index bytes (1 + quotient_is i)) (remainder_is i)))
+pub read_none : (m : Matrix) (bytes : List ℕ) → m ≡ empty m.resolution → IsWhole m → IsReadTo m bytes 0
+read_none m bytes e whole = record {
+  voxels = λ p l. absurd (omega arith);
+  void = λ p l. ap (λ (n : Matrix). voxel_at n p) e ∙ void_at m.resolution p;
+  whole = whole;
+}
+
+module _ (old : Matrix) (bytes : List ℕ) (place count bits : ℕ) (before : IsReadTo old bytes place)
+    (here : (k : ℕ) → k < count → bit bits k ≡ voxel_bit bytes (place + k)) where
+  bit_here : (p : ℕ) → place ≤ p → p < place + count → bit bits (p - place) ≡ voxel_bit bytes p
+  bit_here p m l =
+      let on : place + (p - place) ≡ p = omega arith in
+      here (p - place) (omega arith) ∙ ap (voxel_bit bytes) on
+
+  -- with no bit there is nothing to write
+  pub read_void : bits ≡ 0 → IsReadTo old bytes (place + count)
+  read_void none = record {
+    voxels = λ p l. by p l (cases_lt p place);
+    void = λ p l. before.void p (omega arith);
+    whole = before.whole;
+  }
+    where
+      by : (p : ℕ) → p < place + count → ((p < place) ⊎ (place ≤ p)) → voxel_at old p ≡ voxel_bit bytes p
+      by p l (inl m) = before.voxels p m
+      by p l (inr m) = before.void p m ∙ (sym (ap (λ b. bit b (p - place)) none ∙ ap (λ d. d == 1) (bit_at-zero (p - place))) ∙ bit_here p m l)
+
+  -- the voxels of one more word
+  pub read_more : (new : Matrix)
+      → ((p : ℕ) → voxel_at new p ≡ cond (is_from place count p) (bit bits (p - place)) (voxel_at old p)) → IsWhole new
+      → IsReadTo new bytes (place + count)
+  read_more new set whole = record {
+    voxels = λ p l. set p ∙ by p l (cases_lt p place);
+    void = λ p l. set p ∙ (ap (λ b. cond b (bit bits (p - place)) (voxel_at old p)) (after_these place count p l) ∙ before.void p (omega arith));
+    whole = whole;
+  }
+    where
+      by : (p : ℕ) → p < place + count → ((p < place) ⊎ (place ≤ p))
+          → cond (is_from place count p) (bit bits (p - place)) (voxel_at old p) ≡ voxel_bit bytes p
+      by p l (inl m) = ap (λ b. cond b (bit bits (p - place)) (voxel_at old p)) (before_these place count p m) ∙ before.voxels p m
+      by p l (inr m) = ap (λ b. cond b (bit bits (p - place)) (voxel_at old p)) (one_of_these place count p m l) ∙ bit_here p m l
 
 -- ---- writing
 

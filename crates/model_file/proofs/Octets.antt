@@ -1,6 +1,6 @@
 -- Eight bytes as the bits of one word.
-use Rattle.std.proofs.Common.{◌≡◌, ℕ, zero, suc, ◌+◌, ◌*◌, ◌/◌, ◌%◌, ◌<◌, ◌≤◌, ◌^◌, ◌==◌, sym, ◌∙◌, ap, arith, List, [], ◌∷◌, ◌-◌}
-use Rattle.std.specs.Prelude.{◌⊎◌, slice_index}
+use Rattle.std.proofs.Common.{◌≡◌, ℕ, zero, suc, ◌+◌, ◌*◌, ◌/◌, ◌%◌, ◌<◌, ◌^◌, ◌==◌, sym, ◌∙◌, ap, arith, List, [], ◌∷◌}
+use Rattle.std.specs.Prelude.{slice_index}
 use Rattle.std.specs.Int.{from_le_bytes, w64}
 use Rattle.std.proofs.Math.Nat.{div-div-eq-div-mul}
 use Rattle.std.proofs.lemmas.Nat.{pow-add}

@@ -1,23 +1,22 @@
 //! The first form of a model file: the resolution, and a bit for each voxel.
-ghost use Rattle.std.specs.Prelude.{◌≡◌, ◌<◌, ◌≤◌, ◌+◌, ◌/◌, ◌%◌, ◌∷◌, ℕ, IfOk, length, map};
+ghost use Rattle.std.specs.Prelude.{◌≡◌, ◌<◌, ◌≤◌, ◌+◌, ◌/◌, ◌∷◌, IfOk, length, map, slice_index};
 ghost use Rattle.vox_geom.specs.Space.{numbers_below};
+ghost use Rattle.nano_spec.specs.Matrix.{empty as empty_of};
 ghost use Rattle.nano_spec.specs.Model.{byte_at, first_form, volume as volume_of, voxel_bit, wanted as wanted_of};
 ghost use Rattle.model_file.specs.Fault.{ReadsModel};
-ghost use Rattle.model_file.specs.Words.{IsWordOf};
-ghost use Rattle.vox_planes.specs.Places.{voxel_at};
-ghost use Rattle.vox_planes.specs.Voxel.{IsWhole};
+ghost use Rattle.model_file.specs.Words.{IsReadTo, IsWordOf, place_of_row};
 
 use crate::fault::{ModelFault, ModelRefusal};
 use std::alloc::Global;
 use std::sync::ledger::Ledger;
-use vox_geom::{MOST_R, Memory, Steps};
+use vox_geom::{Coord, MOST_R, Memory, Steps};
 use vox_planes::Planes;
 
 /// The greatest resolution of this form.
 pub const FIRST_FORM_MOST_R: u8 = 250;
 
-/// How many voxels are read at a time.
-const WORD_PLACES: u32 = 64;
+/// How many voxels of a row are read at a time: the first one's bit is in the lowest byte of a word.
+const WORD_VOXELS: u16 = 57;
 
 /// The number of voxels at a resolution.
 pub fn volume(r: u16) -> u32
@@ -36,11 +35,33 @@ fn count_wanted(r: u16) -> u32
     1 + volume(r).div_ceil(8)
 }
 
-/// Eight bytes from one on, as the bits of a word.
+/// Returns a byte, and 0 behind the last one.
+fn byte_or_zero(bytes: &[u8], at: usize) -> u8
+    ensures { result ≡ slice_index bytes.now at }
+{
+    match bytes.get(at) {
+        Some(byte) => *byte,
+        None => 0,
+    }
+}
+
+/// Returns eight bytes from an index on as the bits of a word, with bytes of 0 behind the last one.
 fn word(bytes: &[u8], at: usize) -> u64
-    requires { at + 8 ≤ length bytes.now }
+    requires { at ≤ length bytes.now }
     ensures { IsWordOf bytes.now at result }
 {
+    if bytes.len() - at < 8 {
+        return u64::from_le_bytes([
+            byte_or_zero(bytes, at),
+            byte_or_zero(bytes, at + 1),
+            byte_or_zero(bytes, at + 2),
+            byte_or_zero(bytes, at + 3),
+            byte_or_zero(bytes, at + 4),
+            byte_or_zero(bytes, at + 5),
+            byte_or_zero(bytes, at + 6),
+            byte_or_zero(bytes, at + 7),
+        ]);
+    }
     u64::from_le_bytes([
         bytes[at],
         bytes[at + 1],
@@ -53,36 +74,58 @@ fn word(bytes: &[u8], at: usize) -> u64
     ])
 }
 
-/// Makes the first voxels those that the bytes say, 64 at a time, as far as there are so many. How many they are.
-fn set_words(planes: &mut Planes, bytes: &[u8]) -> u32
-    requires { length bytes.now ≡ wanted_of planes.old.resolution }
-    ensures set { (p : ℕ) → p < result → voxel_at planes.new p ≡ voxel_bit bytes.now p }
-    ensures count { (result % 8 ≡ 0) × (result ≤ volume_of planes.old.resolution) }
+/// Makes the voxels of the row with this x and y those that the bytes say, if all before them are, and all others void.
+fn set_row(planes: &mut Planes, bytes: &[u8], x: u16, y: u16)
+    requires length { length bytes.now ≡ wanted_of planes.old.resolution }
+    requires x { x < planes.old.resolution }
+    requires y { y < planes.old.resolution }
+    requires read { IsReadTo planes.old bytes.now (place_of_row planes.old.resolution x y) }
+    ensures read { IsReadTo planes.new bytes.now (place_of_row planes.old.resolution x (y + 1)) }
     ensures resolution { planes.new.resolution ≡ planes.old.resolution }
-    ensures whole { IsWhole planes.new }
 {
-    let words = volume(planes.resolution()) / WORD_PLACES;
-    for k in 0..words {
-        let bits = word(bytes, 1 + 8 * k as usize);
-        planes.set_places(WORD_PLACES * k, WORD_PLACES, bits);
+    planes.recall();
+    let r = planes.resolution();
+    let row = (u32::from(x) * u32::from(r) + u32::from(y)) * u32::from(r);
+    let mut z = 0;
+    while z < r {
+        let count = (r - z).min(WORD_VOXELS);
+        let place = row + u32::from(z);
+        let first = Coord { x, y, z };
+        let bits = (word(bytes, 1 + place as usize / 8) >> (place % 8)) % (1 << count);
+        z += count;
+        if bits == 0 {
+            continue;
+        }
+        planes.set_row_bits(first, u32::from(count), bits);
     }
-    WORD_PLACES * words
 }
 
-/// Makes the voxels those that the bytes say.
+/// Makes the voxels with this x those that the bytes say, if all before them are, and all others void.
+fn set_wall(planes: &mut Planes, bytes: &[u8], x: u16)
+    requires length { length bytes.now ≡ wanted_of planes.old.resolution }
+    requires x { x < planes.old.resolution }
+    requires read { IsReadTo planes.old bytes.now (place_of_row planes.old.resolution x 0) }
+    ensures read { IsReadTo planes.new bytes.now (place_of_row planes.old.resolution (x + 1) 0) }
+    ensures resolution { planes.new.resolution ≡ planes.old.resolution }
+{
+    for y in 0..planes.resolution() {
+        set_row(planes, bytes, x, y);
+    }
+}
+
+/// Makes the void voxels those that the bytes say.
 fn set_voxels(planes: &mut Planes, bytes: &[u8])
-    requires { length bytes.now ≡ wanted_of planes.old.resolution }
+    requires length { length bytes.now ≡ wanted_of planes.old.resolution }
+    requires void { planes.old ≡ empty_of planes.old.resolution }
     ensures { planes.new
         ≡ record {
           resolution = planes.old.resolution;
           voxels = map (voxel_bit bytes.now) (numbers_below (volume_of planes.old.resolution));
         } }
 {
-    let places = volume(planes.resolution());
-    let mut from = set_words(planes, bytes);
-    for byte in &bytes[1 + from as usize / 8..] {
-        planes.set_places(from, (places - from).min(8), u64::from(*byte));
-        from += 8;
+    planes.recall();
+    for x in 0..planes.resolution() {
+        set_wall(planes, bytes, x);
     }
 }
 

@@ -13,7 +13,7 @@ use Rattle.nano_spec.specs.Matrix.{Matrix, empty, matrix_where}
 use Rattle.nano_spec.specs.Model.{volume}
 use Rattle.vox_planes.specs.Places.{voxel_at}
 use Rattle.vox_planes.specs.Voxel.{IsWhole}
-use Rattle.vox_planes.proofs.Voxels.{get_or-where, length-where}
+use Rattle.vox_planes.proofs.Voxels.{get_or-where, length-where, void_at}
 use Rattle.model_forge.specs.declared.tower.Tower.{Tower}
 use Rattle.model_forge.specs.Forging.{IsForged, is_forged, row_place}
 
@@ -28,13 +28,6 @@ outer_x r c e = by c.x e
   where
     by : (x : ℕ) → x ≡ 0 → is_inner r (record c { x = x }) ≡ false
     by x g = grind (arith, nat_tests)
-
-void_at : (r p : ℕ) → voxel_at (empty r) p ≡ false
-void_at r p = by (cases_lt p (r * r * r))
-  where
-    by : ((p < r * r * r) ⊎ (r * r * r ≤ p)) → voxel_at (empty r) p ≡ false
-    by (inl l) = get_or-where r (λ _. false) p l
-    by (inr l) = get_or_past (empty r).voxels p false (omega (arith, length-where r (λ _. false)))
 
 pub begun : (number : ℕ) (tower : Tower) (r : ℕ) (m : Matrix) → m ≡ empty r → IsForged number tower m (row_place r 1 0)
 begun number tower r m e = subst (λ (n : Matrix). IsForged number tower n (row_place r 1 0)) (sym e) (record { voxels = λ p. void_at r p ∙ sym (by p (cases_lt p (row_place r 1 0))) })

@@ -1,5 +1,6 @@
 //! Rows of voxels of a forged model: those with one x and one y.
 ghost use Rattle.std.specs.Prelude.{◌≡◌, ◌+◌, ◌-◌, ◌*◌, ◌%◌, ◌^◌, ◌<◌, ◌≤◌, ◌&&◌, ◌||◌, ◌==◌, ℕ, cond, length, nat_lt, slice_index};
+ghost use Rattle.vox_geom.specs.Space.{IsInSpace, place};
 ghost use Rattle.nano_spec.specs.Model.{bit, volume};
 ghost use Rattle.vox_planes.specs.Places.{is_from, voxel_at};
 ghost use Rattle.vox_planes.specs.Voxel.{IsWhole};
@@ -7,6 +8,7 @@ ghost use Rattle.model_forge.specs.Forging.{AreHeights, IsForged, row_place};
 ghost use Rattle.model_forge.specs.Tower.{IsInside};
 
 use crate::tower::Tower;
+use vox_geom::Coord;
 use vox_planes::Planes;
 
 /// The bits of so many columns from an index on: 1 for those that are higher than y.
@@ -23,14 +25,13 @@ fn column_bits(heights: &[u16], first: usize, count: u32, y: u16) -> u64
     bits
 }
 
-/// Makes the voxels from a place on full where the columns are higher than y, and void where they are not.
-fn put_columns(planes: &mut Planes, from: u32, heights: &[u16], y: u16)
-    requires within { from + length heights.now ≤ volume planes.old.resolution }
-    requires small { from + length heights.now < 2 ^ 32 }
-    ensures places { (p : ℕ)
-        → voxel_at planes.new p
-        ≡ cond (is_from from (length heights.now) p) (nat_lt y (slice_index heights.now (p - from)))
-        (voxel_at planes.old p) }
+/// Makes the voxels of a row, from a coordinate on, full if their columns are higher than it, and void if not.
+fn put_columns(planes: &mut Planes, first: Coord, heights: &[u16])
+    requires within { IsInSpace planes.old.resolution first }
+    requires row { first.z + length heights.now ≤ planes.old.resolution }
+    ensures places { (p : ℕ) → voxel_at planes.new p
+        ≡ cond (is_from (place planes.old.resolution first) (length heights.now) p)
+        (nat_lt first.y (slice_index heights.now (p - place planes.old.resolution first))) (voxel_at planes.old p) }
     ensures resolution { planes.new.resolution ≡ planes.old.resolution }
     ensures whole { IsWhole planes.new }
 {
@@ -38,8 +39,11 @@ fn put_columns(planes: &mut Planes, from: u32, heights: &[u16], y: u16)
     let mut done = 0;
     while done < heights.len() {
         let count = (heights.len() - done).min(64) as u32;
-        let bits = column_bits(heights, done, count, y);
-        planes.set_places(from + done as u32, count, bits);
+        let at = Coord {
+            z: first.z + done as u16,
+            ..first
+        };
+        planes.set_row_bits(at, count, column_bits(heights, done, count, first.y));
         done += count as usize;
     }
 }
@@ -80,7 +84,7 @@ pub fn put_row(planes: &mut Planes, heights: &[u16], tower: Tower, x: u16, y: u1
 {
     let r = u32::from(planes.resolution());
     let from = (u32::from(x) * r + u32::from(y)) * r + 1;
-    put_columns(planes, from, heights, y);
+    put_columns(planes, Coord { x, y, z: 1 }, heights);
     if y + 1 == tower.height {
         put_roof(planes, from, r - 2, x, tower.z);
     }

@@ -139,6 +139,11 @@ worked_rows = record {
     named = All-cons IsName (codes "t") (codes "b" ∷ []) is_t (All-cons IsName (codes "b") [] is_b (All-nil IsName));
     of_table = tt;
   };
+  a_run_to_nothing = record {
+    written = refl;
+    named = All-cons IsName (codes "s") (codes "b" ∷ []) is_s (All-cons IsName (codes "b") [] is_b (All-nil IsName));
+    of_table = tt;
+  };
   no_light_run = λ h. let written = h.written in cc;
   no_source_of_nothing = λ h. All-head IsName (codes "-") (codes "t" ∷ codes "b" ∷ []) h.named refl;
   no_target_of_nothing = λ h. All-head IsName (codes "-") (codes "b" ∷ []) (All-tail IsName (codes "s") (codes "-" ∷ codes "b" ∷ []) h.named) refl;

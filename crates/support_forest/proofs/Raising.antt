@@ -160,8 +160,11 @@ low_bit n k l =
     let here : 0 + k ≡ k = omega arith in
     sym (ap (λ v. bit (v % 2 ^ 8) k) whole) ∙ (chunk_bit n 0 8 k l ∙ ap (bit n) here)
 
-zero_bit : (n k : ℕ) → n % 256 ≡ 0 → k < 8 → bit n k ≡ false
-zero_bit n k z l = sym (low_bit n k l) ∙ (ap (λ v. bit v k) z ∙ ap (λ d. d == 1) (bit_at-zero k))
+pub no_bit : (n k : ℕ) → n ≡ 0 → bit n k ≡ false
+no_bit n k z = ap (λ v. bit v k) z ∙ ap (λ d. d == 1) (bit_at-zero k)
+
+pub zero_bit : (n k : ℕ) → n % 256 ≡ 0 → k < 8 → bit n k ≡ false
+zero_bit n k z l = sym (low_bit n k l) ∙ no_bit (n % 256) k z
 
 one_bit : (n k : ℕ) → n % 256 ≡ 255 → k < 8 → bit n k ≡ true
 one_bit n k f l = sym (low_bit n k l) ∙ (ap (λ v. bit v k) f ∙ ap (λ d. d == 1) (bit_at_ones 8 k l))
@@ -217,14 +220,14 @@ module _ (m : Matrix) (g : Grid) (c : Coord) (n bits supported : ℕ) (start : L
         (sym (can.full k l) ∙ b) (sym (can.columns k l) ∙ s) e)
 
   -- no voxel of the row is full
-  pub blank : n ≤ 8 → bits % 256 ≡ 0 → IsScanned m g (scan_index c + n) start
-  blank l z = step n (omega arith)
+  pub blank : ((k : ℕ) → k < n → IsFalse (bit bits k)) → IsScanned m g (scan_index c + n) start
+  blank void = step n (omega arith)
     where
       step : (k : ℕ) → k ≤ n → IsScanned m g (scan_index c + k) start
       step zero i = raised_at m g (scan_index c) (scan_index c + 0) start (omega arith) can.raised
       step (suc k) i = let one_more : k + 1 ≡ suc k = omega arith in
           raised_at m g (scan_index c + (k + 1)) (scan_index c + suc k) start (omega arith)
-          (void_along g start k (omega arith) (step k (omega arith)) (zero_bit bits k z (omega arith)))
+          (void_along g start k (omega arith) (step k (omega arith)) (void k (omega arith)))
 
   -- a whole row gets its word
   pub whole_row : (old new : Grid) (word : ℕ) → n ≡ 8 → supported % 256 ≡ 255 → IsScanned m old (scan_index c) start

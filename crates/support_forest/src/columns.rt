@@ -116,6 +116,9 @@ fn raise_row<L: Ledger>(
     ensures touches { IfOk result
         (λ _. steps.new + 20 * length rest.new.items ≤ steps.old + 20 * length rest.old.items + 20 * count) }
 {
+    if bits == 0 {
+        return Ok(());
+    }
     let mut k = 0;
     while k < count {
         let part = (count - k).min(BRICK_SIDE);

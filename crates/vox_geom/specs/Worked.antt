@@ -57,8 +57,8 @@ pub record WorkedCoordinates : Type 0 where
       (point (coord 1 1 1) ∷ point (coord 2 1 1) ∷ point (coord 1 2 1) ∷ point (coord 1 1 2) ∷ [])
       ≡ true ∷ false ∷ false ∷ false ∷ []
   -- the least corner, the greatest one, and one past that or below 0 on each axis
-  pub within_space : map (in_space 3) (point (coord 0 0 0) ∷ point (coord 2 2 2) ∷ point (coord 3 2 2) ∷ point (coord 2 3 2)
-      ∷ point (coord 2 2 3) ∷ record { x = negsuc 0; y = pos 0; z = pos 0 }
+  pub within_space : map (in_space 3) (point (coord 0 0 0) ∷ point (coord 2 2 2) ∷ point (coord 3 2 2)
+      ∷ point (coord 2 3 2) ∷ point (coord 2 2 3) ∷ record { x = negsuc 0; y = pos 0; z = pos 0 }
       ∷ record { x = pos 0; y = negsuc 0; z = pos 0 } ∷ record { x = pos 0; y = pos 0; z = negsuc 0 } ∷ [])
       ≡ true ∷ true ∷ false ∷ false ∷ false ∷ false ∷ false ∷ false ∷ []
 

@@ -1,5 +1,5 @@
 -- The voxels at places: those whose bits stand in one word of a row, and many of them part by part.
-use Rattle.std.proofs.Common.{◌≡◌, ℕ, ◌+◌, ◌-◌, ◌*◌, ◌/◌, ◌%◌, ◌^◌, ◌<◌, ◌≤◌, sym, ◌∙◌, ap, arith, Bool, true, false, cond, ◌==◌, List, length, inl, inr}
+use Rattle.std.proofs.Common.{◌≡◌, ℕ, zero, suc, ◌+◌, ◌-◌, ◌*◌, ◌/◌, ◌%◌, ◌^◌, ◌<◌, ◌≤◌, sym, ◌∙◌, ap, arith, Bool, true, false, cond, ◌==◌, List, length, inl, inr}
 use Rattle.std.specs.Prelude.{◌⊎◌}
 use Rattle.std.specs.Int.{bit_at}
 use Rattle.std.proofs.Math.Arith.{digits_lt}
@@ -12,7 +12,7 @@ use Rattle.std.proofs.lemmas.Nat.Bits.{bit_at_cat_high, bit_at_cat_low, bit_at_o
 use Rattle.vox_geom.specs.declared.coordinate.Coord.{Coord}
 use Rattle.vox_geom.specs.Space.{IsInSpace, coordinate_at, place}
 use Rattle.vox_geom.proofs.Places.{coordinate_at-place, place-coordinate_at}
-use Rattle.vox_geom.proofs.Firsts.{at_in_space}
+use Rattle.vox_geom.proofs.Firsts.{at_in_space, place_below}
 use Rattle.nano_spec.specs.Matrix.{Matrix}
 use Rattle.nano_spec.specs.Model.{bit, volume}
 use Rattle.vox_planes.specs.Layers.{IsLayered, bit_index, is_set, layer_words, layered}
@@ -42,6 +42,24 @@ none_of_these from count p h = by (cases_lt p from) (cases_lt p (from + count))
     by (inr l) (inl m) = absurd (h (p - from) (omega arith) (omega arith))
 
 -- ---- the bits of places in one row
+
+pub at_place : (r n : ℕ) (c : Coord) → r ≡ n → IsInSpace n c → c ≡ coordinate_at r (place n c)
+at_place r n c e h = sym (ap (λ (k : ℕ). coordinate_at k (place n c)) e ∙ coordinate_at-place n c h)
+
+-- voxels that were put from a place on, by another form of the place
+pub put_from : (old new : Matrix) (from place count : ℕ) (test : ℕ → Bool) → from ≡ place
+    → ((p : ℕ) → voxel_at new p ≡ cond (is_from from count p) (test (p - from)) (voxel_at old p)) → (p : ℕ)
+    → voxel_at new p ≡ cond (is_from place count p) (test (p - place)) (voxel_at old p)
+put_from old new from place count test e h p =
+    h p ∙ ap (λ (n : ℕ). cond (is_from n count p) (test (p - n)) (voxel_at old p)) e
+
+-- the voxels of a row end within the volume
+pub row_ends : (r : ℕ) (c : Coord) (count : ℕ) → IsInSpace r c → c.z + count ≤ r → place r c + count ≤ volume r
+row_ends r c zero h l = let below = place_below r c h in omega arith
+row_ends r c (suc n) h l =
+    let last : Coord = at c (c.z + n) in
+    let below = place_below r last (record { x = h.x; y = h.y; z = omega arith }) in
+    omega (arith, below)
 
 -- the coordinate so many places on in its row
 pub next_place : (r from k : ℕ) → from < volume r → (coordinate_at r from).z + k < r

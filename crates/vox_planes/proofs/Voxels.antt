@@ -17,6 +17,7 @@ use Rattle.vox_geom.proofs.Points.{in_space_is, numbers_are_same, point_itself, 
 use Rattle.nano_spec.specs.Matrix.{empty, is_full, matrix_where}
 use Rattle.nano_spec.specs.Model.{bit}
 use Rattle.vox_planes.specs.Layers.{IsLayered, bit_index, is_set, layer_words, layered}
+use Rattle.vox_planes.specs.Places.{voxel_at}
 use Rattle.vox_planes.specs.Voxel.{IsWhole, with_voxel}
 use Rattle.vox_planes.proofs.Bits.{in_layer, one_bit}
 
@@ -156,3 +157,11 @@ pub changed_by : (r : ℕ) (c : Coord) (old old' new new' : List ℕ) (i : ℕ) 
     → IsChanged old new' (bit_index r c) b
 changed_by r c old old' new new' i b eo en el ei h k =
     subst (λ (n : ℕ). IsChanged old new' n b) ei (subst (λ (w : List ℕ). IsChanged old w i b) en (record { same_length = el; here = h; others = λ j n. k j n ∙ ap (λ w. is_set w j) eo }))
+
+-- the empty model has no full voxel
+pub void_at : (r p : ℕ) → voxel_at (empty r) p ≡ false
+void_at r p = by (cases_lt p (r * r * r))
+  where
+    by : ((p < r * r * r) ⊎ (r * r * r ≤ p)) → voxel_at (empty r) p ≡ false
+    by (inl l) = get_or-where r (λ _. false) p l
+    by (inr l) = get_or_past (empty r).voxels p false (omega (arith, length-where r (λ _. false)))

@@ -35,7 +35,8 @@ fn placed<L: Ledger>(rt: &impl Abort, blank: Blank, alloc: Global) -> Result<(),
 {
     let mut steps: Steps<L> = Steps::new(blank, CounterPermit);
     let mut planes = Planes::empty(alloc, 70)?;
-    planes.set_places(68, 5, 0b10101);
+    planes.set_row_bits(at(0, 0, 62), 8, 0b1000000);
+    planes.set_row_bits(at(0, 1, 0), 3, 0b101);
     assert_full(rt, &planes, at(0, 0, 68), true, &mut steps);
     assert_full(rt, &planes, at(0, 1, 2), true, &mut steps);
     assert_places(rt, &planes, 66, 64, 0b1010100, &mut steps);

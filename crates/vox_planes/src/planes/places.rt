@@ -1,7 +1,7 @@
-//! Voxels by their places, many at a time.
+//! Many voxels at a time: of a row, and by their places.
 ghost use Rattle.std.specs.Prelude.{◌≡◌, ◌+◌, ◌-◌, ◌*◌, ◌%◌, ◌^◌, ◌<◌, ◌≤◌, ◌&&◌, ◌||◌, not, IsFalse, ℕ, cond, length};
 ghost use Rattle.vox_geom.specs.declared.coordinate.Coord.{Coord as Coordinate};
-ghost use Rattle.vox_geom.specs.Space.{IsInSpace};
+ghost use Rattle.vox_geom.specs.Space.{IsInSpace, place as place_of};
 ghost use Rattle.nano_spec.specs.Matrix.{is_full};
 ghost use Rattle.nano_spec.specs.Model.{bit, volume};
 ghost use Rattle.vox_planes.specs.Layers.{is_set as is_set_of};
@@ -14,40 +14,47 @@ use std::sync::ledger::Ledger;
 use vox_geom::{Coord, Steps};
 
 impl Planes {
-    /// Makes the first of so many voxels, at consecutive places, full or void by the bits of a word: those whose bits
-    /// stand in one word of a row. How many they are.
-    fn set_part(&mut self, from: u32, most: u32, bits: u64) -> u32
+    /// Makes the first of up to `most` voxels, at consecutive places from a coordinate on, full or void by the bits of a
+    /// word: those whose bits are in one word of a row. Returns their number.
+    fn set_part(&mut self, first: Coord, most: u32, bits: u64) -> u32
         requires some { 1 ≤ most }
         requires few { most ≤ 64 }
-        requires within { from + most ≤ volume self.old.resolution }
+        requires within { IsInSpace self.old.resolution first }
+        requires end { place_of self.old.resolution first + most ≤ volume self.old.resolution }
         ensures some { 1 ≤ result }
         ensures most { result ≤ most }
-        ensures places { (p : ℕ)
-            → voxel_at self.new p ≡ cond (is_from from result p) (bit bits (p - from)) (voxel_at self.old p) }
+        ensures places { (p : ℕ) → voxel_at self.new p
+            ≡ cond (is_from (place_of self.old.resolution first) result p)
+            (bit bits (p - place_of self.old.resolution first)) (voxel_at self.old p) }
         ensures resolution { self.new.resolution ≡ self.old.resolution }
         ensures whole { IsWhole self.new }
     {
-        let c = Coord::of_place(from, self.resolution);
-        let index = bit_index(c, self.resolution, self.layer);
-        let count = part(u32::from(self.resolution - c.z), index, most);
+        let index = bit_index(first, self.resolution, self.layer);
+        let count = part(u32::from(self.resolution - first.z), index, most);
         put_bits(&mut self.words, index, count, bits);
         self.end = end_after(&self.words, self.end, index / WORD_BITS, bits != 0);
         count
     }
 
-    /// Makes up to 64 voxels, at consecutive places, full or void by the bits of a word. All other voxels stay.
-    pub fn set_places(&mut self, from: u32, count: u32, bits: u64)
+    /// Makes up to 64 voxels of a row, from a coordinate on, full or void by the bits of a word. All other voxels stay.
+    pub fn set_row_bits(&mut self, first: Coord, count: u32, bits: u64)
         requires few { count ≤ 64 }
-        requires within { from + count ≤ volume self.old.resolution }
-        ensures places { (p : ℕ)
-            → voxel_at self.new p ≡ cond (is_from from count p) (bit bits (p - from)) (voxel_at self.old p) }
+        requires within { IsInSpace self.old.resolution first }
+        requires row { first.z + count ≤ self.old.resolution }
+        ensures places { (p : ℕ) → voxel_at self.new p
+            ≡ cond (is_from (place_of self.old.resolution first) count p)
+            (bit bits (p - place_of self.old.resolution first)) (voxel_at self.old p) }
         ensures resolution { self.new.resolution ≡ self.old.resolution }
         ensures whole { IsWhole self.new }
     {
         self.recall();
         let mut done = 0;
         while done < count {
-            done += self.set_part(from + done, count - done, bits >> done);
+            let at = Coord {
+                z: first.z + done as u16,
+                ..first
+            };
+            done += self.set_part(at, count - done, bits >> done);
         }
     }
 
@@ -62,7 +69,8 @@ impl Planes {
         self.recall();
         let mut at = from;
         while at < end {
-            at += self.set_part(at, (end - at).min(64), u64::MAX);
+            let first = Coord::of_place(at, self.resolution);
+            at += self.set_part(first, (end - at).min(64), u64::MAX);
         }
     }
 

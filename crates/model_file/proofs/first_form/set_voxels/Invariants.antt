@@ -1,13 +1,9 @@
-use Rattle.std.proofs.Common.{◌≡◌, ◌+◌, ◌*◌, ◌<◌, ℕ}
-use Rattle.nano_spec.specs.Model.{volume, voxel_bit}
-use Rattle.vox_planes.specs.Places.{voxel_at}
-use Rattle.vox_planes.specs.Voxel.{IsWhole}
+use Rattle.std.proofs.Common.{◌≡◌}
+use Rattle.model_file.specs.Words.{IsReadTo, place_of_row}
 use Rattle.model_file.proofs.first_form.set_voxels.Given as goal
 
-abbrev pub invariant-loop-byte : goal.invariant-loop-byte
-invariant-loop-byte l = record {
-  from : l.from ≡ l.initial.from + 8 * l.byte-index;
-  resolution : l.planes.resolution ≡ l.fn.planes.resolution;
-  whole : IsWhole l.planes;
-  set : (p : ℕ) → p < l.from → p < volume l.fn.planes.resolution → voxel_at l.planes p ≡ voxel_bit l.bytes p;
+abbrev pub invariant-loop-x : goal.invariant-loop-x
+invariant-loop-x l = record {
+  read : IsReadTo l.planes l.bytes (place_of_row l.initial.planes.resolution l.x 0);
+  resolution : l.planes.resolution ≡ l.initial.planes.resolution;
 }

@@ -3,11 +3,12 @@ use Rattle.vox_geom.specs.declared.coordinate.Coord.{Coord}
 use Rattle.support_forest.specs.Grid.{side}
 use Rattle.support_forest.specs.Spots.{voxel_of}
 use Rattle.support_forest.specs.Stretches.{AreWritten}
-use Rattle.support_forest.proofs.Raising.{blank, raised_same, whole_row}
+use Rattle.support_forest.proofs.Raising.{blank, raised_same, whole_row, zero_bit}
 use Rattle.support_forest.proofs.columns.raise_part.Goals as goal
 
 pub returns-then-bits-eq0-clause-raised : goal.returns-then-bits-eq0-clause-raised
-returns-then-bits-eq0-clause-raised g c = blank _ _ _ _ _ _ _ c.requires.can (omega (arith, c.requires.brick)) c.if-bits-eq0.true
+returns-then-bits-eq0-clause-raised g c = blank _ _ _ _ _ _ _ c.requires.can
+    (λ k l. zero_bit _ k c.if-bits-eq0.true (omega (arith, c.requires.brick)))
 
 pub returns-then-count-eq-BRICK_SIDE-clause-raised : goal.returns-then-count-eq-BRICK_SIDE-clause-raised
 returns-then-count-eq-BRICK_SIDE-clause-raised g c =

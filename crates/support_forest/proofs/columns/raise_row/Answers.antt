@@ -1,6 +1,9 @@
 use Rattle.std.proofs.Common.{arith}
-use Rattle.support_forest.proofs.Raising.{part_of, raised_at}
+use Rattle.support_forest.proofs.Raising.{blank, no_bit, part_of, raised_at}
 use Rattle.support_forest.proofs.columns.raise_row.Goals as goal
+
+pub returns-then-bits-eq0-clause-raised : goal.returns-then-bits-eq0-clause-raised
+returns-then-bits-eq0-clause-raised g c = blank _ _ _ _ _ _ _ c.requires.can (λ k l. no_bit _ k c.if-bits-eq0.true)
 
 pub loop-k-init : goal.loop-k-init
 loop-k-init g c = record { within = omega arith; whole = λ l. omega (arith, c.requires.whole); raised = raised_at _ _ _ _ _ (omega arith) c.requires.can.raised; touches = omega arith }

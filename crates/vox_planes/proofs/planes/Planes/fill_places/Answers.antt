@@ -1,9 +1,10 @@
-use Rattle.std.proofs.Common.{◌≡◌, ◌+◌, ◌-◌, ◌≤◌, ◌^◌, ℕ, ◌∙◌, ap, subst, arith, true, cond}
+use Rattle.std.proofs.Common.{◌≡◌, ◌+◌, ◌-◌, ◌≤◌, ◌^◌, ℕ, sym, ◌∙◌, ap, subst, arith, true, cond}
+use Rattle.vox_geom.specs.Space.{place}
 use Rattle.nano_spec.specs.Matrix.{Matrix}
 use Rattle.nano_spec.specs.Model.{bit}
 use Rattle.vox_planes.specs.Places.{is_from, voxel_at}
 use Rattle.vox_planes.proofs.Placed.{ArePut}
-use Rattle.vox_planes.proofs.Placed.{full_bit, put_parts}
+use Rattle.vox_planes.proofs.Placed.{full_bit, put_from, put_parts}
 use Rattle.vox_planes.proofs.planes.Planes.fill_places.Goals as goal
 
 -- one more part of full voxels
@@ -21,7 +22,9 @@ filled_more old mid new from at count most begun few less h set =
 
 pub loop-at-preserved : goal.loop-at-preserved
 loop-at-preserved c = record {
-  put = filled_more c.args.self.now c.loop-at.self c.set_part-at.new.self c.args.from c.loop-at.at c.set_part-at.result c.min.result c.loop-at.invariant.begun c.set_part-at.ensures.most (omega (arith, c.min.ensures)) c.loop-at.invariant.put c.set_part-at.ensures.places;
+  put = filled_more c.args.self.now c.loop-at.self c.set_part-at.new.self c.args.from c.loop-at.at c.set_part-at.result c.min.result c.loop-at.invariant.begun c.set_part-at.ensures.most (omega (arith, c.min.ensures)) c.loop-at.invariant.put
+      (put_from c.loop-at.self c.set_part-at.new.self _ _ _ (λ k. bit (2 ^ 64 - 1) k)
+      (sym (ap (λ (m : Matrix). place m.resolution c.of_place-first.result) c.self-in-loop-at.view_is) ∙ c.of_place-first.ensures.inverse) c.set_part-at.ensures.places);
   begun = omega (arith, c.loop-at.invariant.begun);
   few = omega (arith, c.set_part-at.ensures.most, c.min.ensures, c.loop-at.invariant.few);
   resolution = c.set_part-at.ensures.resolution ∙ c.loop-at.invariant.resolution;
