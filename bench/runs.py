@@ -101,7 +101,7 @@ def _millions(program: Path, words: List[str], folder: Path) -> float:
 
 
 def _measured(run: Run, programs: List[Path], rounds: int, folder: Path) -> List[float]:
-    """The least seconds of so many rounds by each program, or the millions of instructions if there are none."""
+    """The least seconds of the rounds by each program, or the millions of instructions if there are none."""
     files = _files(run, folder)
     if not rounds:
         return [_millions(program, files, folder) for program in programs]

@@ -2,9 +2,9 @@
 """Writes the crates of this repository as modules of a plain Rust package: clauses, ghost items and tests are left out.
 
 strip.py TOP OUT: reads TOP/crates, and writes a package into OUT (package.toml) with the programs `nanobot`
-(program.rs) and `unproved` (main.rs), and the library for Python (library.rs). What is left of the code is as it
-stands, over stand-ins for Rattle's own types (shim.rs) and for the modules that use its raw memory, its files and its
-counters. Nothing of it is proved.
+(program.rs) and `unproved` (main.rs), and the library for Python (library.rs). The rest of the code is unchanged. It
+uses replacements for Rattle's own types (shim.rs) and for the modules over its raw memory, its files and its counters.
+Nothing of it is proved.
 """
 import os
 import re
@@ -19,8 +19,8 @@ CRATES = """
     nanobot_c machine_c
 """.split()
 HERE = os.path.dirname(os.path.abspath(__file__))
-# The modules that use the kit's counters, raw memory or files, and the file here that stands in for each.
-STANDS_IN = {
+# The modules that use the kit's counters, raw memory or files, and the file here that replaces each.
+REPLACED = {
     "vox_geom/touches.rs": "touches.rs",
     "brick_arena/chunk.rs": "chunk.rs",
     "vox_depot/mod.rs": "depot.rs",
@@ -31,7 +31,7 @@ KIT = r"(std::(alloc|marker|sync::ledger|collections|process|test)|arrayvec|itoa
 
 
 def block_end(text, start):
-    """Where the block ends whose first brace comes at or after start."""
+    """The end of the block whose first brace comes at or after start."""
     depth, at = 0, text.index("{", start)
     while True:
         depth += {"{": 1, "}": -1}.get(text[at], 0)
@@ -96,7 +96,7 @@ def write_crate(top, crate, out):
 def main(top, out):
     for crate in CRATES:
         write_crate(top, crate, out)
-    for module, file in STANDS_IN.items():
+    for module, file in REPLACED.items():
         shutil.copyfile(os.path.join(HERE, file), f"{out}/src/{module}")
     for file in ("main.rs", "program.rs", "library.rs", "shim.rs"):
         shutil.copyfile(f"{HERE}/{file}", f"{out}/src/{file}")

@@ -70,7 +70,7 @@ def worked_rows() -> Tuple[dict[str, bytes], list[WorkedRow]]:
     return files, rows
 
 
-# What in a command says that it wants the library for Python.
+# What in a command says that it needs the library for Python.
 PACKAGED = (
     "python3 -m nanobot",
     "nanobot-tools explain",

@@ -33,7 +33,7 @@ def _form_arguments(parser: argparse.ArgumentParser, what: str) -> None:
 
 
 def _print(given: argparse.Namespace, records: Sequence[Dict[str, object]], table: Iterable[str]) -> None:
-    """Prints the records as --json or --csv, or else the table."""
+    """Prints the records as --json or --csv, otherwise the table."""
     if given.json or given.csv:
         print(tables.as_json(records) if given.json else tables.as_csv(records))
     else:

@@ -18,7 +18,7 @@ from ..progress import Progress
 
 
 class Unavailable(Exception):
-    """The program or a temporary folder cannot be had: the tools end with 12."""
+    """There is no program or no temporary folder: the tools end with 12."""
 
 
 def program() -> str:
