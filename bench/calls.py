@@ -1,11 +1,11 @@
-"""The library against the program, and the calls of a machine that is kept (RESULTS.md, "The library and the machine that is kept").
+"""The library against the program, and the calls of a machine that is kept (RESULTS.md has a section of that name).
 
 bench/bench calls [COUNT]
 
-Judges the house, and a forged model of resolution 20 with its plan of one bot, COUNT times (10000): through the static library, from C,
-and by starting the program as often. Then times calls of a machine from C, Rust and Python (steps, judgements, copies, counts of what
-differs; from Python also reading a model and the steps of a long trace), and a step of the program beside them. Needs cc, cargo and the
-proved program and library; takes some minutes."""
+Judges the house, and a forged model of resolution 20 with its plan of one bot, COUNT times (10000): through the static
+library, from C, and by starting the program as often. Then times calls of a machine from C, Rust and Python (steps,
+judgements, copies, counts of what differs; from Python also reading a model and the steps of a long trace), and a step
+of the program beside them. Needs cc, cargo and the proved program and library; takes some minutes."""
 
 from __future__ import annotations
 
@@ -35,7 +35,8 @@ def _call(folder: Path, *words: object, **environment: str) -> None:
 
 
 def _compile(folder: Path, name: str) -> None:
-    _call(folder, "cc", "-std=c11", "-D_POSIX_C_SOURCE=200809L", "-O2", f"-I{TOP}/include", "-o", name, SOURCES / f"{name}.c", LIBRARY)
+    flags = f"-std=c11 -D_POSIX_C_SOURCE=200809L -O2 -I{TOP}/include -o {name}".split()
+    _call(folder, "cc", *flags, SOURCES / f"{name}.c", LIBRARY)
 
 
 def _time(folder: Path, what: str, words: List[str], count: int = 1) -> None:
@@ -63,13 +64,13 @@ def _keep(folder: Path) -> None:
     (folder / "rust/src").mkdir(parents=True)
     (folder / "rust/src/main.rs").write_bytes((SOURCES / "machine.rs").read_bytes())
     (folder / "rust/Cargo.toml").write_text(CARGO.format(path=TOP / "bindings/rust"))
-    manifest = ("--manifest-path", "rust/Cargo.toml")
-    _call(folder, "cargo", "build", "--quiet", "--release", "--offline", *manifest, "--target-dir", "rust/target", NANOBOT_LIB=str(LIBRARY.parent))
+    build = "cargo build --quiet --release --offline --manifest-path rust/Cargo.toml --target-dir rust/target".split()
+    _call(folder, *build, NANOBOT_LIB=str(LIBRARY.parent))
     _call(folder, "cc", "-shared", "-o", "libnanobot.so", "-Wl,--whole-archive", LIBRARY, "-Wl,--no-whole-archive")
     for resolution in (20, 250):
         _call(folder, "rust/target/release/machine", resolution)
-        package = {"NANOBOT_LIBRARY": f"{folder}/libnanobot.so", "PYTHONPATH": f"{TOP}/bindings/python", "PYTHONDONTWRITEBYTECODE": "1"}
-        _call(folder, "python3", SOURCES / "machine.py", resolution, **package)
+        package = {"NANOBOT_LIBRARY": f"{folder}/libnanobot.so", "PYTHONPATH": f"{TOP}/bindings/python"}
+        _call(folder, "python3", "-B", SOURCES / "machine.py", resolution, **package)
 
 
 def main(words: List[str]) -> int:
@@ -83,7 +84,10 @@ def main(words: List[str]) -> int:
         _judge(folder, count)
         _keep(folder)
         (folder / "empty.mdl").write_bytes(bytes([20]) + bytes(1000))
-        for what, commands in (("a million moves", b"\x34\x10\x34\x0e" * 500_000), ("a million fills and voids", b"\x73\x72" * 500_000)):
+        for what, commands in (
+            ("a million moves", b"\x34\x10\x34\x0e" * 500_000),
+            ("a million fills and voids", b"\x73\x72" * 500_000),
+        ):
             (folder / "trace.nbt").write_bytes(commands + b"\xff")
             _time(folder, what, ["empty.mdl", "empty.mdl", "trace.nbt"])
     return 0

@@ -2,9 +2,9 @@
 
 bench/bench plans [--program FILE] [MODEL..]
 
-Prints a row of a table for each plan: the model, its arguments, energy, steps, commands and bytes, and the seconds of one processor to
-plan it from file to file and to run it; a refusal in place of the numbers. Takes a minute with the proved program, out/nanobot. The models
-are house, full-100, full-248 and forged-7-100."""
+Prints a row of a table for each plan: the model, its arguments, energy, steps, commands and bytes, and the seconds of
+one processor to plan it from file to file and to run it; a refusal in place of the numbers. Takes a minute with the
+proved program, out/nanobot. The models are house, full-100, full-248 and forged-7-100."""
 
 from __future__ import annotations
 
@@ -60,7 +60,9 @@ def main(words: List[str]) -> int:
     for model in given.models:
         if model not in MODELS:
             parser.error(f"there is no model {model}: {', '.join(MODELS)}")
-    print("| Model | Plan | Energy | Steps | Commands | Bytes | Planned, s | Run, s |\n|---|---|---|---|---|---|---|---|")
+    print(
+        "| Model | Plan | Energy | Steps | Commands | Bytes | Planned, s | Run, s |\n|---|---|---|---|---|---|---|---|"
+    )
     with scratch.folder() as name:
         for model in given.models or MODELS:
             _make(program, Path(name), model)

@@ -2,9 +2,10 @@
 
 bench/bench runs [--count] [--rounds N] [--program FILE].. [NAME..]
 
-Times each run, or those that are named, with out/nanobot or with the programs that are given: seconds of one processor, from start to
-end, the least of N rounds (5). The programs take turns. --count counts millions of instructions by valgrind, which other work on the
-machine does not change, on the smaller runs; it takes some minutes. Prints a table, with a column for each program."""
+Times each run, or those that are named, with out/nanobot or with the programs that are given: seconds of one processor,
+from start to end, the least of N rounds (5). The programs take turns. --count counts millions of instructions by
+valgrind, which other work on the machine does not change, on the smaller runs; it takes some minutes. Prints a table,
+with a column for each program."""
 
 from __future__ import annotations
 
@@ -49,14 +50,22 @@ def _moving(trace: bytes) -> Tuple[bytes, bytes, bytes]:
 
 
 RUNS: Dict[str, Run] = {
-    "voxel-100": Run("one voxel of a full 100-cube filled and voided a million times", lambda: _still(synthetic.full_model(100), b"\x73\x72" * 1_000_000)),
+    "voxel-100": Run(
+        "one voxel of a full 100-cube filled and voided a million times",
+        lambda: _still(synthetic.full_model(100), b"\x73\x72" * 1_000_000),
+    ),
     "fill-200-high": Run("one bot fills a 200-cube under High", lambda: _fill(200, synthetic.FLIP)),
     "fill-150-low": Run("one bot fills a 150-cube under Low", lambda: _fill(150, b"")),
-    "void-150-low": Run("one bot voids a 150-cube under Low", lambda: (synthetic.full_model(150), None, synthetic.void_all(150))),
+    "void-150-low": Run(
+        "one bot voids a 150-cube under Low", lambda: (synthetic.full_model(150), None, synthetic.void_all(150))
+    ),
     "layer-7-250": Run("the plan of `plan layer - M` for `make 7 250`", lambda: _forged(250)),
     "move-40": Run("forty bots move (200,000 steps)", lambda: _moving(synthetic.forty_bots(200_000))),
     "fill-void-40": Run("forty bots fill and void (100,000 rounds)", lambda: _moving(synthetic.forty_fill(100_000))),
-    "bridge-62": Run("the foot of a bridge of resolution 62 voided and filled 5,000 times", lambda: _still(synthetic.bridge_model(62), b"\xba\xbb" * 5_000)),
+    "bridge-62": Run(
+        "the foot of a bridge of resolution 62 voided and filled 5,000 times",
+        lambda: _still(synthetic.bridge_model(62), b"\xba\xbb" * 5_000),
+    ),
 }
 SMALLER: Dict[str, Run] = {
     "fill-100-high": Run("as fill-200-high", lambda: _fill(100, synthetic.FLIP)),
@@ -86,27 +95,28 @@ def _seconds(program: Path, words: List[str], folder: Path) -> float:
 
 
 def _millions(program: Path, words: List[str], folder: Path) -> float:
-    valgrind = ["valgrind", "--tool=cachegrind", "--cache-sim=no", "--cachegrind-out-file=/dev/null", str(program), "run", *words]
-    done = subprocess.run(valgrind, cwd=folder, capture_output=True, text=True, check=True)
+    valgrind = "valgrind --tool=cachegrind --cache-sim=no --cachegrind-out-file=/dev/null".split()
+    done = subprocess.run([*valgrind, program, "run", *words], cwd=folder, capture_output=True, text=True, check=True)
     return int(re.findall(r"I *refs: *([0-9,]+)", done.stderr)[0].replace(",", "")) / 1e6
 
 
 def _measured(run: Run, programs: List[Path], rounds: int, folder: Path) -> List[float]:
-    """The least seconds of so many rounds by each program, or the millions of instructions if there are none."""
+    """The least seconds of the rounds by each program, or the millions of instructions if there are none."""
     files = _files(run, folder)
     if not rounds:
         return [_millions(program, files, folder) for program in programs]
-    return [min(column) for column in zip(*([_seconds(program, files, folder) for program in programs] for _ in range(rounds)))]
+    found = [[_seconds(program, files, folder) for program in programs] for _ in range(rounds)]
+    return [min(column) for column in zip(*found)]
 
 
 def main(words: List[str]) -> int:
-    parser = Parser("runs", f"{__doc__}\n\n" + "\n".join(f"{name:20} {run.shows}" for name, run in {**RUNS, **SMALLER}.items()))
+    known = {**RUNS, **SMALLER}
+    parser = Parser("runs", f"{__doc__}\n\n" + "\n".join(f"{name:20} {run.shows}" for name, run in known.items()))
     parser.add_argument("--count", action="store_true")
     parser.add_argument("--rounds", type=int, default=5)
     parser.add_argument("--program", type=Path, action="append", default=[])
     parser.add_argument("names", nargs="*", metavar="NAME")
     given = parser.parse_args(words)
-    known = {**RUNS, **SMALLER}
     for name in given.names:
         if name not in known:
             parser.error(f"there is no run {name}: --help lists them")
@@ -115,5 +125,6 @@ def main(words: List[str]) -> int:
     with scratch.folder() as folder:
         for name in given.names or (SMALLER if given.count else RUNS):
             found = _measured(known[name], programs, 0 if given.count else max(given.rounds, 1), Path(folder))
-            print(f"| {known[name].shows} | `{name}` | " + " | ".join(f"{it:.1f}" if given.count else f"{it:.3f}" for it in found) + " |", flush=True)
+            cells = [known[name].shows, f"`{name}`", *(f"{it:.1f}" if given.count else f"{it:.3f}" for it in found)]
+            print(f"| {' | '.join(cells)} |", flush=True)
     return 0

@@ -1,4 +1,4 @@
-//! Stands in for brick_arena's chunk of raw memory.
+//! Replaces brick_arena's chunk of raw memory.
 use crate::shim::*;
 use crate::vox_geom::{Memory, Steps};
 

@@ -1,4 +1,4 @@
-// Stands in for vox_depot's adapters over the files and the output of the system.
+// Replaces vox_depot's adapters over the files and the output of the system.
 mod depot;
 mod whole;
 

@@ -1,4 +1,4 @@
-//! Stands in for machine_c's handle: a pointer to a machine, or null.
+//! Replaces machine_c's handle: a pointer to a machine, or null.
 use crate::kept_machine::KeptMachine;
 use crate::shim::*;
 

@@ -1,4 +1,4 @@
-//! The program nanobot as plain Rust: crates/nanobot over the stand-ins. Nothing of it is proved.
+//! The program nanobot as plain Rust: crates/nanobot over what replaces the kit's modules. Nothing of it is proved.
 #![allow(warnings)]
 include!("crates.rs");
 

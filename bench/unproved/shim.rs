@@ -1,4 +1,4 @@
-//! Stand-ins for what the code uses of the kit: lists whose growth can fail, ledgers, and vectors of fixed room.
+//! Replacements for what the code uses of the kit: lists whose growth can fail, ledgers, and vectors of fixed room.
 use std::mem::MaybeUninit;
 use std::ops::{Deref, DerefMut};
 

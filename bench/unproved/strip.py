@@ -1,22 +1,26 @@
 #!/usr/bin/env python3
 """Writes the crates of this repository as modules of a plain Rust package: clauses, ghost items and tests are left out.
 
-strip.py TOP OUT: reads TOP/crates, and writes a package into OUT (package.toml) with the programs `nanobot` (program.rs) and
-`unproved` (main.rs), and the library for Python (library.rs). What is left of the code is as it stands, over stand-ins for Rattle's
-own types (shim.rs) and for the modules that use its raw memory, its files and its counters. Nothing of it is proved.
+strip.py TOP OUT: reads TOP/crates, and writes a package into OUT (package.toml) with the programs `nanobot`
+(program.rs) and `unproved` (main.rs), and the library for Python (library.rs). The rest of the code is unchanged. It
+uses replacements for Rattle's own types (shim.rs) and for the modules over its raw memory, its files and its counters.
+Nothing of it is proved.
 """
 import os
 import re
 import shutil
 import sys
 
-CRATES = ("counter_permit vox_geom nano_spec step_order run_progress energy_sum brick_arena trace_codec bot_crew vox_planes model_file "
-          "step_groups system_state support_forest step_machine trace_judge voxel_reads plan_tape layer_planner group_planner void_planner "
-          "low_planner swarm_planner squad_plans plan_choice model_forge vox_depot trace_text nanobot_words debug_script step_debugger "
-          "nanobot_rows nanobot_app kept_machine nanobot_c machine_c").split()
+CRATES = """
+    counter_permit vox_geom nano_spec step_order run_progress energy_sum brick_arena trace_codec bot_crew
+    vox_planes model_file step_groups system_state support_forest step_machine trace_judge voxel_reads plan_tape
+    layer_planner group_planner void_planner low_planner swarm_planner squad_plans plan_choice model_forge
+    vox_depot trace_text nanobot_words debug_script step_debugger nanobot_rows nanobot_app kept_machine
+    nanobot_c machine_c
+""".split()
 HERE = os.path.dirname(os.path.abspath(__file__))
-# The modules that use the kit's counters, raw memory or files, and the file here that stands in for each.
-STANDS_IN = {
+# The modules that use the kit's counters, raw memory or files, and the file here that replaces each.
+REPLACED = {
     "vox_geom/touches.rs": "touches.rs",
     "brick_arena/chunk.rs": "chunk.rs",
     "vox_depot/mod.rs": "depot.rs",
@@ -27,7 +31,7 @@ KIT = r"(std::(alloc|marker|sync::ledger|collections|process|test)|arrayvec|itoa
 
 
 def block_end(text, start):
-    """Where the block ends whose first brace comes at or after start."""
+    """The end of the block whose first brace comes at or after start."""
     depth, at = 0, text.index("{", start)
     while True:
         depth += {"{": 1, "}": -1}.get(text[at], 0)
@@ -83,14 +87,16 @@ def write_crate(top, crate, out):
             path = os.path.relpath(os.path.join(folder, file), source)
             target = f"{out}/src/{crate}/" + ("mod.rs" if path == "lib.rt" else path[:-3] + ".rs")
             os.makedirs(os.path.dirname(target), exist_ok=True)
-            with open(os.path.join(folder, file), encoding="utf-8") as read, open(target, "w", encoding="utf-8") as write:
-                write.write(plain(read.read(), crate))
+            with open(os.path.join(folder, file), encoding="utf-8") as read:
+                text = plain(read.read(), crate)
+            with open(target, "w", encoding="utf-8") as write:
+                write.write(text)
 
 
 def main(top, out):
     for crate in CRATES:
         write_crate(top, crate, out)
-    for module, file in STANDS_IN.items():
+    for module, file in REPLACED.items():
         shutil.copyfile(os.path.join(HERE, file), f"{out}/src/{module}")
     for file in ("main.rs", "program.rs", "library.rs", "shim.rs"):
         shutil.copyfile(f"{HERE}/{file}", f"{out}/src/{file}")

@@ -1,4 +1,4 @@
-//! Stands in for vox_geom's counter of touches, which takes no bytes and makes no code.
+//! Replaces vox_geom's counter of touches, which takes no bytes and makes no code.
 use crate::counter_permit::CounterPermit;
 use crate::shim::*;
 use std::marker::PhantomData;

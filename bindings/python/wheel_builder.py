@@ -1,11 +1,11 @@
 """Builds the wheel of this folder with nothing but Python's own library, so that pip needs no network.
 
-The shared library goes in from where `build_library` has put it beside the package's modules. If it is not there, the build is refused,
-unless the environment variable NANOBOT_LIBRARY is set: it then names the library whenever the package is used. `pip install -e` installs a
-link to this folder.
+The shared library goes in from where `build_library` has put it beside the package's modules. If it is not there, the
+build is refused, unless the environment variable NANOBOT_LIBRARY is set: it then names the library whenever the package
+is used. `pip install -e` installs a link to this folder.
 
-If NANOBOT_ARCHIVE names the folder of an unpacked archive, the wheel has its program too, and the command `nanobot`; `scripts/package`
-makes such a wheel."""
+If NANOBOT_ARCHIVE names the folder of an unpacked archive, the wheel has its program too, and the command `nanobot`;
+`scripts/package` makes such a wheel."""
 
 import base64
 import hashlib
@@ -65,7 +65,8 @@ def _metadata():
 
 
 def _tag(files):
-    """Returns the wheel's tag: that of the oldest C library that has all which the shared library and the program call."""
+    """Returns the wheel's tag: that of the oldest C library that has all which the shared library and the program
+    call."""
     if f"{NAME}/{LIBRARY}" not in files:
         return "py3-none-any"
     binaries = [data for name, data in files.items() if name.endswith((LIBRARY, "lib/nanobot/nanobot"))]

@@ -1,4 +1,5 @@
-"""The commands of documents, with what they print, and the worked rows of crates/worked_rows; and how each is tried in a folder."""
+"""The commands of documents, with what they print, and the worked rows of crates/worked_rows; and how each is tried in
+a folder."""
 from __future__ import annotations
 
 import ast
@@ -48,7 +49,8 @@ def value(text: str, constants: dict[str, bytes]) -> bytes:
 
 
 def worked_rows() -> Tuple[dict[str, bytes], list[WorkedRow]]:
-    """The files of the table, and the rows that run a trace, check or forge a model, or assemble or disassemble a trace."""
+    """The files of the table, and the rows that run a trace, check or forge a model, or assemble or disassemble a
+    trace."""
     files: dict[str, bytes] = {}
     rows: list[WorkedRow] = []
     for path in sorted((TOP / "crates/worked_rows/src").glob("*.rt")):
@@ -57,7 +59,9 @@ def worked_rows() -> Tuple[dict[str, bytes], list[WorkedRow]]:
         constants = {name: value(text, {}) for name, text in found}
         if path.name == "table.rt":
             files = {name: value(text, {}) for name, text in re.findall(rf'\(\s*"(\w+)",\s*{VALUE},?\s*\)', source)}
-        for words, data, status, line in re.findall(rf"\(\s*{WORDS},\s*{VALUE},\s*Status::(\w+),\s*{TEXT},?\s*\)", source):
+        for words, data, status, line in re.findall(
+            rf"\(\s*{WORDS},\s*{VALUE},\s*Status::(\w+),\s*{TEXT},?\s*\)", source
+        ):
             rows.append((words, value(data, constants), (STATUSES[status], ast.literal_eval(f'"{line}"'))))
         form = rf"(?m)^    Storing {{\s*words: {WORDS},\s*bytes: {VALUE},\s*printed: {TEXT},\s*name: \"\w\",\s*stored: {VALUE},"
         for words, data, line, stored in re.findall(form, source):
@@ -66,12 +70,20 @@ def worked_rows() -> Tuple[dict[str, bytes], list[WorkedRow]]:
     return files, rows
 
 
-# What in a command says that it wants the library for Python.
-PACKAGED = ("python3 -m nanobot", "nanobot-tools explain", "nanobot-tools walk", "nanobot-tools compare", "nanobot-tools profile", "lowered.py")
+# What in a command says that it needs the library for Python.
+PACKAGED = (
+    "python3 -m nanobot",
+    "nanobot-tools explain",
+    "nanobot-tools walk",
+    "nanobot-tools compare",
+    "nanobot-tools profile",
+    "lowered.py",
+)
 
 
 def make_folder(folder: pathlib.Path, program: pathlib.Path, library: Optional[pathlib.Path]) -> None:
-    """Makes a folder for the commands: a copy of examples/, `nanobot`, and links to the tools, which find the program and the library."""
+    """Makes a folder for the commands: a copy of examples/, `nanobot`, and links to the tools, which find the program
+    and the library."""
     shutil.copytree(TOP / "examples", folder / "examples")
     for name, target in (("nanobot", program), ("nanobot-tools", TOP / "nanobot-tools"), ("scripts", TOP / "scripts")):
         (folder / name).symlink_to(target)
@@ -81,7 +93,9 @@ def make_folder(folder: pathlib.Path, program: pathlib.Path, library: Optional[p
 
 
 def run(command: str, folder: pathlib.Path) -> Tuple[str, int, str]:
-    done = subprocess.run(["bash", "-c", command], cwd=folder, stdin=subprocess.DEVNULL, capture_output=True, text=True, check=False)
+    done = subprocess.run(
+        ["bash", "-c", command], cwd=folder, stdin=subprocess.DEVNULL, capture_output=True, text=True, check=False
+    )
     return done.stdout, done.returncode, done.stderr
 
 
@@ -97,13 +111,15 @@ def try_documents(folder: pathlib.Path, has_library: bool) -> Tuple[int, int, li
             said, ended, errors = run(command, folder)
             if said != printed or status not in (None, ended):
                 faults.append(
-                    f"{page.relative_to(TOP)}: {command}\n  printed {said!r}, status {ended} {errors}\n  expected {printed!r}, status {status}"
+                    f"{page.relative_to(TOP)}: {command}\n  printed {said!r}, status {ended} {errors}\n"
+                    f"  expected {printed!r}, status {status}"
                 )
     return tried, left_out, faults
 
 
 def try_texts(folder: pathlib.Path) -> Tuple[int, list[str]]:
-    """Assembles each text of examples/ that has a trace of its name. Returns how many there are, and which have other bytes."""
+    """Assembles each text of examples/ that has a trace of its name. Returns how many there are, and which have other
+    bytes."""
     tried, faults = 0, []
     for trace in sorted((TOP / "examples").rglob("*.nbt")):
         text = trace.with_suffix(".txt")
@@ -122,7 +138,9 @@ def try_rows(folder: pathlib.Path, program: pathlib.Path) -> Tuple[int, list[str
     for words, data, wanted in rows:
         for name, content in {**files, "B": data}.items():
             (folder / name).write_bytes(content)
-        done = subprocess.run([program, *words.split(" ")], cwd=folder, stdin=subprocess.DEVNULL, capture_output=True, check=False)
+        done = subprocess.run(
+            [program, *words.split(" ")], cwd=folder, stdin=subprocess.DEVNULL, capture_output=True, check=False
+        )
         stored = [(folder / "stored").read_bytes()] if len(wanted) > 2 and done.returncode == 0 else []
         found = (done.returncode, done.stdout.decode(), *stored)
         if found != wanted:

@@ -3,9 +3,10 @@
     explain [light] S T B     says why a trace is refused, down to the commands
     walk [light] S T B        walks a trace by the lines of standard input; `help` lists them
 TOOLS
-`NAME --help` says more. S and T are models, of which one may be `-`, the empty model of the other's resolution; B is a trace.
-Ends with 0, with 1 if a trace is refused, and with 2 if the arguments are wrong or a file cannot be read. `--version` prints the
-version of the library. nanobot-explain and nanobot-walk do the same without the first word."""
+`NAME --help` says more. S and T are models, of which one may be `-`, the empty model of the other's resolution; B is a
+trace. Ends with 0, with 1 if a trace is refused, with 2 if the arguments are wrong or a file cannot be read, and
+with 12 if judge or contest finds no program. `--version` prints the version of the library. nanobot-explain and
+nanobot-walk do the same without the first word."""
 
 from __future__ import annotations
 
@@ -19,7 +20,9 @@ from .machine import version
 from .tools import cli
 from .walk import Walk
 
-HELP = (__doc__ or "").replace("TOOLS\n", "".join(f"    {name:<25} {tool.summary}\n" for name, tool in cli.TOOLS.items()))
+HELP = (__doc__ or "").replace(
+    "TOOLS\n", "".join(f"    {name:<25} {tool.summary}\n" for name, tool in cli.TOOLS.items())
+)
 
 
 def _explain(words: List[str], light: bool) -> int:
@@ -45,6 +48,13 @@ def _end_as_interrupted() -> int:
     return 128 + signal.SIGINT
 
 
+def _fault(words: List[str]) -> str:
+    """What is wrong with the arguments."""
+    if not words:
+        return "no tool is named"
+    return f"{words[0]} takes [light] S T B" if words[0] in ("explain", "walk") else f"there is no tool {words[0]}"
+
+
 def run(words: List[str]) -> int:
     """Does what the words say, and returns the exit status."""
     if hasattr(signal, "SIGPIPE"):
@@ -60,9 +70,11 @@ def run(words: List[str]) -> int:
     light = words[1:2] == ["light"] and len(words) == 5
     rest = words[2:] if light else words[1:]
     if len(rest) != 3 or rest[:2] == ["-", "-"] or words[0] not in ("explain", "walk"):
-        asked = bool({"-h", "--help"} & set(words))
-        print(HELP, file=sys.stdout if asked else sys.stderr)
-        return 0 if asked else 2
+        if {"-h", "--help"} & set(words):
+            print(HELP)
+            return 0
+        print(f"nanobot-tools: {_fault(words)}: nanobot-tools --help", file=sys.stderr)
+        return 2
     try:
         return _explain(rest, light) if words[0] == "explain" else _walk(rest, light)
     except KeyboardInterrupt:

@@ -1,4 +1,5 @@
-"""The tools that call the program: `judge` and `contest`, with a program of their own that answers by the names of its files."""
+"""The tools that call the program: `judge` and `contest`, with a program of their own that answers by the names of its
+files."""
 
 import io
 import json
@@ -43,7 +44,9 @@ class Tools(unittest.TestCase):
     def said(self, *words, stdin=""):
         """The status, the output and the standard error of a tool."""
         out, errors = io.StringIO(), io.StringIO()
-        with redirect_stdout(out), redirect_stderr(errors), patch("sys.stdin", io.TextIOWrapper(io.BytesIO(stdin.encode()))):
+        with redirect_stdout(out), redirect_stderr(errors), patch(
+            "sys.stdin", io.TextIOWrapper(io.BytesIO(stdin.encode()))
+        ):
             try:
                 status = run([str(word) for word in words])
             except SystemExit as ended:
@@ -53,15 +56,24 @@ class Tools(unittest.TestCase):
     def test_a_table_in_the_order_of_the_lines(self):
         status, out, _ = self.said("judge", stdin="# mine\n- t.mdl a.nbt\r\n\n- t.mdl bad.nbt\nt.mdl - b.nbt\n")
         lines = [line.split() for line in out.splitlines()]
-        self.assertEqual((status, lines[1], lines[3], lines[4]), (1, ["420", "4", "a.nbt"], ["420", "4", "b.nbt"], ["840", "2", "of", "3", "accepted"]))
+        self.assertEqual(
+            (status, lines[1], lines[3], lines[4]),
+            (1, ["420", "4", "a.nbt"], ["420", "4", "b.nbt"], ["840", "2", "of", "3", "accepted"]),
+        )
         self.assertTrue(out.splitlines()[2].endswith("  bad.nbt: broken 4 HaltLow step 3 bid 1 at 0 0 0"))
-        self.assertEqual(self.said("judge")[:2], (0, f"{'energy':>18} {'steps':>10}  trace\n{0:>18} {'':>10}  0 of 0 accepted\n"))
+        self.assertEqual(
+            self.said("judge")[:2], (0, f"{'energy':>18} {'steps':>10}  trace\n{0:>18} {'':>10}  0 of 0 accepted\n")
+        )
 
     def test_records(self):
         status, out, _ = self.said("judge", "--json", stdin="- t a\n- t bad\n")
         found = json.loads(out)
-        self.assertEqual((status, found[0]["energy"], found[1]["energy"], found[1]["line"][:6]), (1, 420, None, "broken"))
-        self.assertEqual(self.said("judge", "--csv", stdin="- t a\n")[1].splitlines()[1], "a,-,t,420,4,,ok energy 420 steps 4")
+        self.assertEqual(
+            (status, found[0]["energy"], found[1]["energy"], found[1]["line"][:6]), (1, 420, None, "broken")
+        )
+        self.assertEqual(
+            self.said("judge", "--csv", stdin="- t a\n")[1].splitlines()[1], "a,-,t,420,4,,ok energy 420 steps 4"
+        )
 
     def test_a_run_that_takes_too_long_is_stopped(self):
         status, out, _ = self.said("judge", "2", "--seconds", "1", stdin="- t slow\n- t a\n")
@@ -70,7 +82,15 @@ class Tools(unittest.TestCase):
         self.assertIn("1 of 2 accepted", out)
 
     def test_wrong_arguments(self):
-        wrong = [(["0"], ""), (["1000"], ""), (["--seconds", "x"], ""), (["--second", "1"], ""), (["--hosts", "nowhere"], ""), ([], "a b\n"), ([], "a b 'c'\n")]
+        wrong = [
+            (["0"], ""),
+            (["1000"], ""),
+            (["--seconds", "x"], ""),
+            (["--second", "1"], ""),
+            (["--hosts", "nowhere"], ""),
+            ([], "a b\n"),
+            ([], "a b 'c'\n"),
+        ]
         for words, stdin in wrong:
             status, out, errors = self.said("judge", *words, stdin=stdin)
             self.assertEqual((status, out, errors.count("\n")), (2, "", 1), words)
@@ -88,7 +108,9 @@ class Tools(unittest.TestCase):
         ended = self.folder / "pid"
         self.program.write_text(f"#!/bin/sh\necho $$ > '{ended}'\nexec sleep 60\n")
         for number in (signal.SIGTERM, signal.SIGINT):
-            with subprocess.Popen([sys.executable, "-m", "nanobot", "judge"], cwd=HERE, stdin=subprocess.PIPE, stderr=subprocess.PIPE) as child:
+            with subprocess.Popen(
+                [sys.executable, "-m", "nanobot", "judge"], cwd=HERE, stdin=subprocess.PIPE, stderr=subprocess.PIPE
+            ) as child:
                 child.stdin.write(b"- t a\n")
                 child.stdin.close()
                 while not ended.exists() or not ended.read_text().strip():
@@ -109,11 +131,16 @@ class Tools(unittest.TestCase):
             path.touch()
         status, out, _ = self.said("contest", models, mine, other)
         self.assertEqual(status, 1)
-        self.assertEqual(out.splitlines()[:2], ["bad.mdl: broken 4 HaltLow step 3 bid 1 at 0 0 0", "3 of 4 models are legal"])
+        self.assertEqual(
+            out.splitlines()[:2], ["bad.mdl: broken 4 HaltLow step 3 bid 1 at 0 0 0", "3 of 4 models are legal"]
+        )
         for shown in (f"  {mine}/FA001.nbt\n", f"  {other}/FA001.nbt\n", "  FR002.nbt\n", "3 of 3 accepted\n"):
             self.assertIn(shown, out)
         found = json.loads(self.said("contest", "--json", models, mine)[1])
-        self.assertEqual([(it["model"], it["trace"] and Path(it["trace"]).name, it["energy"]) for it in found], [("bad.mdl", None, None), (None, "FA001.nbt", 420), (None, "FR002.nbt", 420)])
+        self.assertEqual(
+            [(it["model"], it["trace"] and Path(it["trace"]).name, it["energy"]) for it in found],
+            [("bad.mdl", None, None), (None, "FA001.nbt", 420), (None, "FR002.nbt", 420)],
+        )
 
     def test_wrong_folders(self):
         for name in ("one", "two"):

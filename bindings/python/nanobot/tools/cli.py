@@ -33,7 +33,7 @@ def _form_arguments(parser: argparse.ArgumentParser, what: str) -> None:
 
 
 def _print(given: argparse.Namespace, records: Sequence[Dict[str, object]], table: Iterable[str]) -> None:
-    """Prints the records as --json or --csv, or else the table."""
+    """Prints the records as --json or --csv, otherwise the table."""
     if given.json or given.csv:
         print(tables.as_json(records) if given.json else tables.as_csv(records))
     else:
@@ -55,10 +55,16 @@ def _number(least: int, most: int) -> Callable[[str], int]:
 
 
 def _compare_arguments(parser: argparse.ArgumentParser) -> None:
-    parser.add_argument("models", type=Path, help="a folder with NAME_src.mdl and NAME_tgt.mdl, or a file with lines NAME SOURCE TARGET")
+    parser.add_argument(
+        "models", type=Path, help="a folder with NAME_src.mdl and NAME_tgt.mdl, or a file with lines NAME SOURCE TARGET"
+    )
     parser.add_argument("folders", nargs="*", metavar="FOLDER", help="a folder of traces, NAME.nbt for each problem")
-    parser.add_argument("--plan", default="", metavar="PLANNERS", help="also plan with these, as in --plan 'crew layer'")
-    parser.add_argument("--baseline", type=Path, metavar="FOLDER", help="ratios to the traces of this folder, and not to the best")
+    parser.add_argument(
+        "--plan", default="", metavar="PLANNERS", help="also plan with these, as in --plan 'crew layer'"
+    )
+    parser.add_argument(
+        "--baseline", type=Path, metavar="FOLDER", help="ratios to the traces of this folder, and not to the best"
+    )
     _form_arguments(parser, "problem and folder")
 
 
@@ -84,8 +90,15 @@ def _compare(given: argparse.Namespace) -> int:
 
 def _profile_arguments(parser: argparse.ArgumentParser) -> None:
     parser.usage = "%(prog)s [--timeline] [--json] [light] SOURCE TARGET TRACE"
-    parser.add_argument("names", nargs="+", metavar="NAME", help="[light] SOURCE TARGET TRACE, as for `nanobot run`: - is the empty model")
-    parser.add_argument("--timeline", action="store_true", help="draw bots, changed voxels, waits and harmonics over the steps")
+    parser.add_argument(
+        "names",
+        nargs="+",
+        metavar="NAME",
+        help="[light] SOURCE TARGET TRACE, as for `nanobot run`: - is the empty model",
+    )
+    parser.add_argument(
+        "--timeline", action="store_true", help="draw bots, changed voxels, waits and harmonics over the steps"
+    )
     parser.add_argument("--json", action="store_true", help="print all numbers")
 
 
@@ -104,7 +117,11 @@ def _profile(given: argparse.Namespace) -> int:
 
 def _model_arguments(parser: argparse.ArgumentParser) -> None:
     kinds = parser.add_subparsers(dest="kind", required=True, metavar="empty | box | sphere | text")
-    for kind, text in (("empty", "the empty model"), ("box", "a box between two corners"), ("sphere", "a ball on the floor")):
+    for kind, text in (
+        ("empty", "the empty model"),
+        ("box", "a box between two corners"),
+        ("sphere", "a ball on the floor"),
+    ):
         one = kinds.add_parser(kind, help=text, description=text)
         one.add_argument("resolution", type=int)
         if kind == "box":
@@ -112,7 +129,11 @@ def _model_arguments(parser: argparse.ArgumentParser) -> None:
         if kind != "empty":
             one.add_argument("--hollow", action="store_true", help="its shell alone")
         one.add_argument("model", type=Path)
-    one = kinds.add_parser("text", help="the model of a text, as `layers` prints it", description="the model of a text, as `layers` prints it")
+    one = kinds.add_parser(
+        "text",
+        help="the model of a text, as `layers` prints it",
+        description="the model of a text, as `layers` prints it",
+    )
     one.add_argument("text", type=Path)
     one.add_argument("model", type=Path)
 
@@ -192,22 +213,32 @@ def _cheapest(given: argparse.Namespace) -> int:
 
 
 def _seconds_argument(parser: argparse.ArgumentParser) -> None:
-    parser.add_argument("--seconds", type=_number(1, 9_999_999), metavar="N", help="stop a run that takes longer; its line says so")
+    parser.add_argument(
+        "--seconds", type=_number(1, 9_999_999), metavar="N", help="stop a run that takes longer; its line says so"
+    )
 
 
 def _judge_arguments(parser: argparse.ArgumentParser) -> None:
     parser.description = (
-        "Judges the traces of standard input, a line each: SOURCE TARGET TRACE, with - for one empty model at most. Names have no blanks, quotes "
-        "or backslashes; empty lines and lines that begin with # are skipped. Prints the energy and the steps of each, or why it is refused. "
-        "Ends with 0 if all are accepted, with 1 if one is not, with 2 if a line or an argument is wrong, and with 12 if there is no program or "
-        "no temporary folder."
+        "Judges the traces of standard input, a line each: SOURCE TARGET TRACE, with - for one empty model at "
+        "most. Names have no blanks, quotes or backslashes; empty lines and lines that begin with # are skipped. "
+        "Prints the energy and the steps of each, or why it is refused. Ends with 0 if all are accepted, with 1 "
+        "if one is not, with 2 if a line or an argument is wrong, and with 12 if there is no program or no "
+        "temporary folder."
     )
     parser.epilog = (
-        "GNU parallel makes the runs on the hosts of FILE, a line each as ssh takes it (`8/me@host`; `:` is this machine). ssh has to get there "
-        "without a password, and rsync and perl to be there. The program and the files are sent into a folder nanobot-judge.* of the home folder "
-        "there, which is removed at the end; hosts that do not answer are left out."
+        "GNU parallel makes the runs on the hosts of FILE, a line each as ssh takes it (`8/me@host`; `:` is this "
+        "machine). ssh has to get there without a password, and rsync and perl to be there. The program and the "
+        "files are sent into a folder nanobot-judge.* of the home folder there, which is removed at the end; "
+        "hosts that do not answer are left out."
     )
-    parser.add_argument("number", nargs="?", type=_number(1, 999), metavar="NUMBER", help="runs at a time, here or on each host; one a processor")
+    parser.add_argument(
+        "number",
+        nargs="?",
+        type=_number(1, 999),
+        metavar="NUMBER",
+        help="runs at a time, here or on each host; one a processor",
+    )
     _seconds_argument(parser)
     parser.add_argument("--hosts", "--sshloginfile", type=Path, metavar="FILE", help="make the runs on these hosts")
     _form_arguments(parser, "trace")
@@ -229,12 +260,15 @@ def _judge(given: argparse.Namespace) -> int:
 
 def _contest_arguments(parser: argparse.ArgumentParser) -> None:
     parser.description = (
-        "Checks each model and judges each trace below the folders, by the contest's names: of the problem FR001 the models FR001_src.mdl and "
-        "FR001_tgt.mdl, and the trace FR001.nbt; a problem without a source or a target has the empty one. Prints which models are refused, "
-        "then the table of `judge`. Ends with 0 if all is accepted, with 1 if something is refused, with 2 if there is no such file or two "
-        "models of one name differ, and with 12 if there is no program."
+        "Checks each model and judges each trace below the folders, by the contest's names: of the problem FR001 "
+        "the models FR001_src.mdl and FR001_tgt.mdl, and the trace FR001.nbt; a problem without a source or a "
+        "target has the empty one. Prints which models are refused, then the table of `judge`. Ends with 0 if all "
+        "is accepted, with 1 if something is refused, with 2 if there is no such file or two models of one name "
+        "differ, and with 12 if there is no program."
     )
-    parser.add_argument("folders", nargs="+", type=Path, metavar="FOLDER", help="where the models and traces are, which may be apart")
+    parser.add_argument(
+        "folders", nargs="+", type=Path, metavar="FOLDER", help="where the models and traces are, which may be apart"
+    )
     _seconds_argument(parser)
     _form_arguments(parser, "trace and refused model")
 
@@ -245,7 +279,9 @@ def _contest(given: argparse.Namespace) -> int:
         checked = contest.check(files, jobs, given.seconds)
         outcomes = contest.judge(files, jobs, given.seconds)
     refused = [(name, line) for name, legal, line in checked if not legal]
-    records = [judge.record_of_model(name, line) for name, line in refused] + [{"model": None, **outcome.record()} for outcome in outcomes]
+    records = [judge.record_of_model(name, line) for name, line in refused] + [
+        judge.record_of_run(outcome) for outcome in outcomes
+    ]
     counted = f"{len(checked) - len(refused)} of {len(checked)} models are legal"
     _print(given, records, [*(f"{name}: {line}" for name, line in refused), counted, *judge.table(outcomes)])
     return 0 if not refused and judge.accepted(outcomes) else 1
@@ -271,10 +307,12 @@ TOOLS: Dict[str, Tool] = {
 
 
 def run(name: str, words: List[str]) -> int:
-    """Runs a tool; answers its exit status: 0, 1 if a rule is broken or a file is refused, 2 for wrong arguments or files, 12 if there is no
-    program or no temporary folder."""
+    """Runs a tool; answers its exit status: 0, 1 if a rule is broken or a file is refused, 2 for wrong arguments or
+    files, 12 if there is no program or no temporary folder."""
     tool = TOOLS[name]
-    parser = Parser(allow_abbrev=False, prog=f"nanobot-tools {name}", description=tool.summary[0].upper() + tool.summary[1:] + ".")
+    parser = Parser(
+        allow_abbrev=False, prog=f"nanobot-tools {name}", description=tool.summary[0].upper() + tool.summary[1:] + "."
+    )
     tool.arguments(parser)
     given = parser.parse_args(words)
     try:

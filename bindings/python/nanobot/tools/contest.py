@@ -1,4 +1,5 @@
-"""The contest's files, unpacked into folders: `nanobot-tools contest FOLDER..` checks each model and judges each trace."""
+"""The contest's files, unpacked into folders: `nanobot-tools contest FOLDER..` checks each model and judges each
+trace."""
 
 from __future__ import annotations
 
@@ -27,11 +28,14 @@ def _found(folder: Path) -> Iterator[Path]:
             continue
         seen.add((there.st_dev, there.st_ino))
         folders.sort()
-        yield from (path for name in sorted(names) if (path := Path(below, name)).suffix in (".mdl", ".nbt") and path.is_file())
+        yield from (
+            path for name in sorted(names) if (path := Path(below, name)).suffix in (".mdl", ".nbt") and path.is_file()
+        )
 
 
 def find(folders: List[Path]) -> Files:
-    """The models and traces of folders. Raises ValueError for two different models of one name, and if there is no model; and OSError."""
+    """The models and traces of folders. Raises ValueError for two different models of one name, and if there is no
+    model; and OSError."""
     models: Dict[str, Path] = {}
     traces: List[Path] = []
     for folder in folders:

@@ -1,4 +1,5 @@
-"""Traces judged on other hosts: GNU parallel sends the program and the files there over ssh, and removes them at the end."""
+"""Traces judged on other hosts: GNU parallel sends the program and the files there over ssh, and removes them at the
+end."""
 
 from __future__ import annotations
 
@@ -17,7 +18,8 @@ from ..progress import Progress
 from .judge import Outcome, Run, judge_here
 from .program import Unavailable, program
 
-# Makes a run on a host, where the program and the files lie below the folder that it is started in, or here, if they do not.
+# Makes a run on a host, where the program and the files lie below the folder that it is started in, or here, if they do
+# not.
 ON_A_HOST = r"""below=$PWD; program=./nanobot; [ -x "$program" ] || { below=; program=PROGRAM; }
 named() { case $1 in -) echo - ;; *) echo "$below$1" ;; esac; }
 said=$(LIMIT"$program" run "$(named {3})" "$(named {4})" "$(named {5})" 2>&1)
@@ -42,14 +44,26 @@ class Hosts:
         try:
             self._folder = Path(tempfile.mkdtemp(prefix="nanobot-judge."))
         except OSError as fault:
-            raise Unavailable(f"no temporary folder can be made in {os.environ.get('TMPDIR') or '/tmp'}: {fault.strerror}") from None
+            raise Unavailable(
+                f"no temporary folder can be made in {os.environ.get('TMPDIR') or '/tmp'}: {fault.strerror}"
+            ) from None
         return self
 
     def __exit__(self, *_: Any) -> None:
         if self._child is not None:
             self._end(self._child)
-            words = ["parallel", "--will-cite", "--sshloginfile", self._hosts, "--filter-hosts", "--nonall", f"cd && rm -rf {self._there}"]
-            subprocess.run(words, stdin=subprocess.DEVNULL, stdout=subprocess.DEVNULL, stderr=subprocess.DEVNULL, check=False)
+            words = [
+                "parallel",
+                "--will-cite",
+                "--sshloginfile",
+                self._hosts,
+                "--filter-hosts",
+                "--nonall",
+                f"cd && rm -rf {self._there}",
+            ]
+            subprocess.run(
+                words, stdin=subprocess.DEVNULL, stdout=subprocess.DEVNULL, stderr=subprocess.DEVNULL, check=False
+            )
         shutil.rmtree(self._there, ignore_errors=True)
         shutil.rmtree(self._folder, ignore_errors=True)
 
@@ -64,12 +78,19 @@ class Hosts:
 
     def judge(self, runs: List[Run]) -> List[Outcome]:
         """Judges the traces; those with a file that cannot be read are judged here."""
-        sent = {number: run for number, run in enumerate(runs) if all(name == "-" or os.access(name, os.R_OK) for name in run[:3])}
+        sent = {
+            number: run
+            for number, run in enumerate(runs)
+            if all(name == "-" or os.access(name, os.R_OK) for name in run[:3])
+        }
         here = [run for number, run in enumerate(runs) if number not in sent]
         others = iter(judge_here(here, 1, self._seconds) if here else [])
         answers = dict(self._answers(sent)) if sent else {}
         log = self._log(list(sent))
-        return [self._outcome(run, answers.get(number) or log[number]) if number in sent else next(others) for number, run in enumerate(runs)]
+        return [
+            self._outcome(run, answers.get(number) or log[number]) if number in sent else next(others)
+            for number, run in enumerate(runs)
+        ]
 
     @staticmethod
     def _outcome(run: Run, answer: Tuple[str, str]) -> Outcome:
@@ -79,10 +100,16 @@ class Hosts:
     def _answers(self, sent: Dict[int, Run]) -> Iterator[Tuple[int, Tuple[str, str]]]:
         """Yields the number of each run with its host and its line, as they come."""
         jobs = self._folder / "jobs"
-        jobs.write_bytes(b"".join(os.fsencode("\t".join([str(number), *_job(run)]) + "\n") for number, run in sent.items()))
+        jobs.write_bytes(
+            b"".join(os.fsencode("\t".join([str(number), *_job(run)]) + "\n") for number, run in sent.items())
+        )
         shutil.copy(program(), self._folder / "nanobot")
         self._child = child = subprocess.Popen(
-            self._words(jobs), stdin=subprocess.DEVNULL, stdout=subprocess.PIPE, start_new_session=True, env={**os.environ, "LC_ALL": "C"}
+            self._words(jobs),
+            stdin=subprocess.DEVNULL,
+            stdout=subprocess.PIPE,
+            start_new_session=True,
+            env={**os.environ, "LC_ALL": "C"},
         )
         assert child.stdout is not None
         progress, done = Progress("judge", len(sent)), 0
@@ -96,8 +123,20 @@ class Hosts:
 
     def _words(self, jobs: Path) -> List[str]:
         limit = f"timeout --foreground {self._seconds} " if self._seconds else ""
-        command = ON_A_HOST.replace("LIMIT", limit).replace("SECONDS", str(self._seconds or "")).replace("PROGRAM", shlex.quote(program()))
-        words = ["parallel", "--will-cite", "--sshloginfile", self._hosts, "--filter-hosts", "--jobs", str(self._jobs or "100%")]
+        command = (
+            ON_A_HOST.replace("LIMIT", limit)
+            .replace("SECONDS", str(self._seconds or ""))
+            .replace("PROGRAM", shlex.quote(program()))
+        )
+        words = [
+            "parallel",
+            "--will-cite",
+            "--sshloginfile",
+            self._hosts,
+            "--filter-hosts",
+            "--jobs",
+            str(self._jobs or "100%"),
+        ]
         words += ["--retries", "3", "--colsep", r"\t", "--joblog", str(self._folder / "log"), "--workdir", self._there]
         words += ["--basefile", f"{self._folder}/./nanobot"]
         for place in (5, 6, 7):
@@ -105,7 +144,8 @@ class Hosts:
         return [*words, "-a", str(jobs), command]
 
     def _log(self, numbers: List[int]) -> Dict[int, Tuple[str, str]]:
-        """What to say of each run that has no answer, by the log of parallel: its line N + 1 begins with the number of a job."""
+        """What to say of each run that has no answer, by the log of parallel: its line N + 1 begins with the number of
+        a job."""
         out = {number: ("-", "was not run") for number in numbers}
         with suppress(FileNotFoundError):
             for line in (self._folder / "log").read_text(errors="replace").splitlines()[1:]:
@@ -115,6 +155,7 @@ class Hosts:
 
 
 def _job(run: Run) -> List[str]:
-    """The trace, then source, target and trace as whole names or -, and the files that are sent for source and target."""
+    """The trace, then source, target and trace as whole names or -, and the files that are sent for source and
+    target."""
     whole = ["-" if name == "-" else os.path.realpath(name) for name in run[:3]]
     return [run.trace, *whole, *(whole[2] if name == "-" else name for name in whole[:2])]

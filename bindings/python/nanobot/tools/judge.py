@@ -14,7 +14,8 @@ LONGEST = 4095
 
 
 class Run(NamedTuple):
-    """The names of a run's files; "-" is the empty model. `shown` is the trace's name in the table, if it is not `trace`."""
+    """The names of a run's files; "-" is the empty model. `shown` is the trace's name in the table, if it is not
+    `trace`."""
 
     source: str
     target: str
@@ -45,9 +46,23 @@ class Outcome(NamedTuple):
         return {**files, "energy": energy, "steps": steps, "host": self.host or None, "line": self.line}
 
 
+def record_of_run(outcome: Outcome) -> Dict[str, object]:
+    """The record of a run among those of models."""
+    record: Dict[str, object] = {"model": None}
+    return {**record, **outcome.record()}
+
+
 def record_of_model(name: str, line: str) -> Dict[str, object]:
     """The record of a refused model, with the fields of a run's."""
-    record: Dict[str, object] = {"model": name, "trace": None, "source": None, "target": None, "energy": None, "steps": None, "host": None}
+    record: Dict[str, object] = {
+        "model": name,
+        "trace": None,
+        "source": None,
+        "target": None,
+        "energy": None,
+        "steps": None,
+        "host": None,
+    }
     return {**record, "line": line}
 
 
@@ -77,7 +92,8 @@ def accepted(outcomes: Iterable[Outcome]) -> bool:
 
 
 def table(outcomes: List[Outcome]) -> Iterator[str]:
-    """Yields the energy, the steps and the name of each trace, or why it is refused; then the sum, and how many are accepted."""
+    """Yields the energy, the steps and the name of each trace, or why it is refused; then the sum, and how many are
+    accepted."""
     yield f"{'energy':>18} {'steps':>10}  trace"
     for outcome in outcomes:
         energy, steps = outcome.cost or ("-", "-")

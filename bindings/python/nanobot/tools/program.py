@@ -1,4 +1,5 @@
-"""The program `nanobot` as a process of its own: a run that takes too long can be stopped, and other hosts can run it."""
+"""The program `nanobot` as a process of its own: a run that takes too long can be stopped, and other hosts can run
+it."""
 
 from __future__ import annotations
 
@@ -16,13 +17,13 @@ from typing import Any, Iterable, Iterator, Optional, Set, Tuple
 from ..progress import Progress
 
 
-
 class Unavailable(Exception):
-    """The program or a temporary folder cannot be had: the tools end with 12."""
+    """There is no program or no temporary folder: the tools end with 12."""
 
 
 def program() -> str:
-    """Returns the path of the program: the one that NANOBOT names, that of the installation that Python runs from, or the one on the PATH.
+    """Returns the path of the program: the one that NANOBOT names, that of the installation that Python runs from, or
+    the one on the PATH.
 
     Raises Unavailable."""
     beside = os.path.join(sys.prefix, "lib", "nanobot", "nanobot")
@@ -38,7 +39,8 @@ def _stop(number: int, _: Optional[FrameType]) -> None:
 
 @contextmanager
 def stoppable() -> Iterator[None]:
-    """In this block TERM and HUP raise SystemExit, as Ctrl-C raises KeyboardInterrupt, so that what was begun is ended."""
+    """In this block TERM and HUP raise SystemExit, as Ctrl-C raises KeyboardInterrupt, so that what was begun is
+    ended."""
     numbers = [number for number in (signal.SIGTERM, signal.SIGHUP) if signal.getsignal(number) != signal.SIG_IGN]
     before = {number: signal.signal(number, _stop) for number in numbers}
     try:
@@ -49,7 +51,8 @@ def stoppable() -> Iterator[None]:
 
 
 class Runs:
-    """Calls of the program, at most `jobs` at a time; one that takes more than `seconds` is stopped. Those under way end with the block."""
+    """Calls of the program, at most `jobs` at a time; one that takes more than `seconds` is stopped. Those under way
+    end with the block."""
 
     def __init__(self, jobs: int, seconds: Optional[int]) -> None:
         self._program, self._seconds = program(), seconds
@@ -72,7 +75,9 @@ class Runs:
         with self._lock:
             if self._ended:
                 raise Unavailable("stopped")
-            child = subprocess.Popen([self._program, *words], stdin=subprocess.DEVNULL, stdout=subprocess.PIPE, stderr=subprocess.STDOUT)
+            child = subprocess.Popen(
+                [self._program, *words], stdin=subprocess.DEVNULL, stdout=subprocess.PIPE, stderr=subprocess.STDOUT
+            )
             self._children.add(child)
         return child
 

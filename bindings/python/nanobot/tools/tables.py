@@ -13,7 +13,9 @@ def aligned(rows: List[List[str]]) -> Iterator[str]:
     """Yields the lines of a table: the first column is aligned to the left, the others to the right."""
     widths = [max(map(len, column)) for column in zip(*rows)]
     for row in rows:
-        yield "  ".join([row[0].ljust(widths[0]), *(cell.rjust(width) for cell, width in zip(row[1:], widths[1:]))]).rstrip()
+        yield "  ".join(
+            [row[0].ljust(widths[0]), *(cell.rjust(width) for cell, width in zip(row[1:], widths[1:]))]
+        ).rstrip()
 
 
 def share(part: int, whole: int) -> str:
