@@ -129,6 +129,16 @@ typedef struct nanobot_step {
     nanobot_broken broken;
 } nanobot_step;
 
+/* How far a trace was played: the steps that were `made`, of the first `used` bytes, and where the machine stands after them, as
+ * nanobot_state tells it. `offset` and `broken` are those of the step that was refused, as in nanobot_step, with `offset` counted from
+ * the beginning of the trace. */
+typedef struct nanobot_played {
+    int64_t energy;
+    uint64_t used, offset;
+    uint32_t made, steps, active, high;
+    nanobot_broken broken;
+} nanobot_played;
+
 /* What a step would come to: the energy that the machine would have (its own where the step would be refused), and `halts` 1 where
  * no bot would be left. `offset` and `broken` are as in nanobot_step. */
 typedef struct nanobot_judged {
@@ -178,6 +188,17 @@ uint32_t nanobot_machine_start_empty(uint32_t resolution, bool light, uint32_t n
  *         printf("rule %u at bot %u\n", (unsigned)step.broken.rule, (unsigned)step.broken.bid);
  */
 uint32_t nanobot_machine_step(nanobot_machine *machine, const uint8_t *commands, size_t commands_size, nanobot_step *step);
+
+/* Plays a trace: makes its steps one after another, each as nanobot_machine_step makes it, and at most `most` of them. NANOBOT_DONE: so
+ * many were made, or the bytes ended. Any other status is that of a step which begins at byte played.used: it was refused, and the
+ * machine is as the step before it left it. So is a last step that has fewer commands than active bots (NANOBOT_COUNT). The status
+ * NANOBOT_MEMORY is that of a step too.
+ *
+ *     nanobot_played played;
+ *     if (nanobot_machine_play(&machine, trace, trace_size, UINT32_MAX, &played) == NANOBOT_BROKEN)
+ *         printf("step %u begins at byte %llu\n", (unsigned)played.broken.step, (unsigned long long)played.used);
+ */
+uint32_t nanobot_machine_play(nanobot_machine *machine, const uint8_t *trace, size_t trace_size, uint32_t most, nanobot_played *played);
 
 /* Tells what a step of these bytes would come to, with the status of nanobot_machine_step, and leaves the machine as it was: whether it
  * would be accepted, and at what energy. It copies nothing: it takes as long as a step and an undo, and as a start after one that

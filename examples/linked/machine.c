@@ -1,5 +1,5 @@
 /* A machine that is kept between steps, from C: `machine run [light] S T B` prints what `nanobot run` prints, step by step. Each step
- * is made, taken back, and made again, and half way the machine goes on as a copy. A trace that is bad or cut is told by the byte
+ * is made, taken back, and made again, and half way the machine goes on as a copy; another machine plays the trace by one call. A trace that is bad or cut is told by the byte
  * alone, and a model that is refused by a number. Ends with the program's status. */
 #include "nanobot_machine.h"
 
@@ -158,6 +158,21 @@ static uint32_t run(nanobot_machine *machine, struct bytes target, struct bytes 
     }
 }
 
+/* Plays the trace on another machine, which has to come as far as this one. */
+static void play(nanobot_machine *machine, struct bytes source, struct bytes target, struct bytes trace, bool light)
+{
+    nanobot_machine other = {0};
+    nanobot_state state;
+    nanobot_played played;
+    nanobot_machine_tell(machine, &state);
+    if (start(&other, source, target, light) != NANOBOT_DONE)
+        exit(NANOBOT_MEMORY);
+    nanobot_machine_play(&other, trace.at, trace.size, UINT32_MAX, &played);
+    if (played.energy != state.energy || played.steps != state.steps || played.active != state.active || played.high != state.high)
+        abort();
+    nanobot_machine_end(&other);
+}
+
 int main(int count, char **words)
 {
     bool light = count == 6 && strcmp(words[2], "light") == 0;
@@ -167,8 +182,10 @@ int main(int count, char **words)
         return NANOBOT_WORDS;
     struct bytes source = bytes_of(words[2 + light]), target = bytes_of(words[3 + light]), trace = bytes_of(words[4 + light]);
     status = start(&machine, source, target, light);
-    if (status == NANOBOT_DONE)
+    if (status == NANOBOT_DONE) {
         status = run(&machine, target, trace);
+        play(&machine, source, target, trace, light);
+    }
     nanobot_machine_end(&machine);
     free(source.at);
     free(target.at);

@@ -1,5 +1,6 @@
 // A machine that is kept between steps, from C++, as machine.c is from C: `machine run [light] S T B` prints what `nanobot run` prints of
-// a run that is accepted or breaks a rule. Each step is made, taken back, and made again, and half way the machine goes on as a copy.
+// a run that is accepted or breaks a rule. Each step is made, taken back, and made again, and half way the machine goes on as a copy;
+// another machine plays the trace by one call.
 #include "nanobot_machine.h"
 
 #include <algorithm>
@@ -63,6 +64,12 @@ public:
     {
         return nanobot_machine_step(&handle, commands, size, &told);
     }
+    nanobot_played play(const Bytes &trace)
+    {
+        nanobot_played told;
+        nanobot_machine_play(&handle, at(trace), trace.size(), UINT32_MAX, &told);
+        return told;
+    }
     void undo() { must(nanobot_machine_undo(&handle)); }
     std::uint32_t compare(const Bytes &target, nanobot_place &place)
     {
@@ -114,7 +121,7 @@ static int finish(Machine &machine, const Bytes &target, bool left)
     return NANOBOT_DONE;
 }
 
-static int run(Machine machine, const Bytes &target, const Bytes &trace)
+static int run(Machine &machine, const Bytes &target, const Bytes &trace)
 {
     for (std::size_t first = 0, next = 0;; first = next) {
         std::vector<nanobot_bot> bots = machine.bots();
@@ -145,5 +152,10 @@ int main(int count, char **words)
         return NANOBOT_WORDS;
     Bytes source = bytes_of(words[2 + light]), target = bytes_of(words[3 + light]), trace = bytes_of(words[4 + light]);
     std::uint32_t resolution = target.size() > 2 && target[0] == 0xff ? target[1] * 256u + target[2] : target.empty() ? 0 : target[0];
-    return run(Machine(source, resolution, light), target, trace);
+    Machine machine(source, resolution, light);
+    int status = run(machine, target, trace);
+    nanobot_played played = Machine(source, resolution, light).play(trace);
+    if (played.energy != machine.state().energy || played.steps != machine.state().steps)
+        std::abort();
+    return status;
 }

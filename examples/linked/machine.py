@@ -1,7 +1,7 @@
 #!/usr/bin/env python3
 """A machine that is kept between steps, from Python, as machine.c is from C: `machine.py run [light] S T B` prints what `nanobot run`
 prints of a run that is accepted or breaks a rule. Each step is made, taken back, and made again, and half way the machine goes on as a
-copy. It needs the package of bindings/python."""
+copy; another machine plays the trace by one call. It needs the package of bindings/python."""
 
 import sys
 
@@ -51,13 +51,17 @@ def main():
     light = sys.argv[2:3] == ["light"] and len(sys.argv) == 6
     source, target = (None if name == "-" else Model.read(name) for name in sys.argv[2 + light : 4 + light])
     machine = Machine(source or Model.empty(target.resolution), light=light, notes=4)
+    other = machine.copy()
     with open(sys.argv[4 + light], "rb") as file:
         trace = file.read()
+    refused = other.play(trace).refused
     try:
         print(run(machine, target, trace))
     except BrokenRule as broken:
         print(broken)
+        assert broken.rule in (1, 13, 14) or str(refused) == str(broken)
         return 1
+    assert not refused
     return 0
 
 

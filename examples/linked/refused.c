@@ -82,6 +82,17 @@ static uint32_t judge(nanobot_machine *machine, const uint8_t *commands, size_t 
     return status == NANOBOT_MEMORY ? judge(machine, commands, size) : status;
 }
 
+/* A trace of one step, played: where it is refused memory, no step is made. */
+static void play(nanobot_machine *machine, const uint8_t *trace, size_t size)
+{
+    struct seen before = see(machine);
+    nanobot_played played;
+    uint32_t status;
+    while ((status = nanobot_machine_play(machine, trace, size, UINT32_MAX, &played)) == NANOBOT_MEMORY)
+        must(played.made == 0 && same(before, see(machine)), "a refused play changed the machine");
+    must(status == NANOBOT_DONE && played.made == 1 && played.used == size, "a trace of one step");
+}
+
 /* Moves, fills, and a fill of a voxel that floats, each judged and then made, with a trace; then copies, levels, undo, and the model. */
 static void try_once(nanobot_machine *machine, nanobot_machine *copy)
 {
@@ -107,6 +118,7 @@ static void try_once(nanobot_machine *machine, nanobot_machine *copy)
     must(status == NANOBOT_DONE && level == 0, "a level");
     while (nanobot_machine_copy(machine, copy) == NANOBOT_MEMORY)
         must(copy->at == NULL, "a refused copy");
+    play(copy, moves, sizeof moves);
     for (int i = 0; i < NOTES; i++)
         must(undo(machine) == NANOBOT_DONE, "an undo");
     must(undo(machine) == NANOBOT_NO_NOTE, "an undo past the notes");

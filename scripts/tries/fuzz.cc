@@ -194,12 +194,23 @@ static void check_end(nanobot_machine *machine, const Bytes &target, size_t left
     }
 }
 
+// Plays the trace by one call, which has to come as far as a walk by single steps.
+static void check_play(nanobot_machine *machine, const Bytes &trace, size_t used, const nanobot_state &state)
+{
+    Lent lent(trace);
+    nanobot_played played;
+    uint32_t status = nanobot_machine_play(machine, lent.at(), lent.size, UINT32_MAX, &played);
+    CHECK(played.used == used && played.energy == state.energy && played.steps == state.steps && played.made == state.steps);
+    CHECK(played.active == state.active && played.high == state.high && (status != NANOBOT_DONE || used == trace.size()));
+}
+
 // Walks a trace of legal commands, and compares each step with the line.
 static void walk(nanobot_machine *machine, const Bytes &target, const Bytes &trace, const std::string &line, uint32_t status)
 {
     size_t offset = 0;
     bool goes_on = true;
-    CHECK(nanobot_machine_keep(machine) == NANOBOT_DONE);
+    nanobot_machine other = {0};
+    CHECK(nanobot_machine_keep(machine) == NANOBOT_DONE && nanobot_machine_copy(machine, &other) == NANOBOT_DONE);
     for (uint32_t active; goes_on && (active = state_of(machine).active);) {
         size_t end = offset;
         uint32_t count = 0;
@@ -217,6 +228,8 @@ static void walk(nanobot_machine *machine, const Bytes &target, const Bytes &tra
     Bytes kept;
     CHECK(give([&](uint8_t *b, size_t room, size_t *size) { return nanobot_machine_trace(machine, b, room, size); }, kept, offset / 2) == NANOBOT_DONE);
     CHECK(kept == Bytes(trace.begin(), trace.begin() + offset));
+    check_play(&other, trace, offset, state_of(machine));
+    nanobot_machine_end(&other);
 }
 
 // A step that is taken back, and a copy.

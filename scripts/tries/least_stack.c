@@ -114,6 +114,11 @@ static void level_one(const uint8_t *at, size_t n)
     for (uint32_t y = 0; y < resolution; y++) nanobot_machine_level(&machine, 5, y, 5, &level);
 }
 static void step(void) { walk(0, 0); }
+static void play(void)
+{
+    nanobot_played played;
+    nanobot_machine_play(&machine, trace, trace_size, UINT32_MAX, &played);
+}
 static void judge_steps(void) { walk(judge_one, 0); }
 static void undo(void) { walk(0, undo_one); }
 static void level(void) { walk(0, level_one); }
@@ -154,7 +159,8 @@ static const struct {
     {"nanobot_plan_void", take_down, CALL}, {"nanobot_plan_low", low, CALL}, {"nanobot_plan_swarm", swarm, CALL},
     {"nanobot_asm", assemble, CALL}, {"nanobot_dis", dis, CALL},
     {"nanobot_machine_start", start, START}, {"nanobot_machine_start_empty", start_empty, START}, {"nanobot_machine_copy", copy, START},
-    {"nanobot_machine_step", step, OTHER}, {"nanobot_machine_judge", judge_steps, OTHER}, {"nanobot_machine_undo", undo, OTHER},
+    {"nanobot_machine_step", step, OTHER}, {"nanobot_machine_play", play, OTHER}, {"nanobot_machine_judge", judge_steps, OTHER},
+    {"nanobot_machine_undo", undo, OTHER},
     {"nanobot_machine_level", level, OTHER}, {"nanobot_machine_tell", tell, OTHER}, {"nanobot_machine_bots", bots, OTHER},
     {"nanobot_machine_full", full, OTHER}, {"nanobot_machine_count", count, OTHER}, {"nanobot_machine_model", matrix, OTHER},
     {"nanobot_machine_compare", compare, OTHER}, {"nanobot_machine_differences", differences, OTHER},

@@ -37,7 +37,7 @@ from .errors import (
     TooManySteps,
     WrongCount,
 )
-from .machine import Bot, Judged, Machine, State, Step, version
+from .machine import Bot, Judged, Machine, Played, State, Step, version
 from .models import Model, Voxels
 from .rows import (
     Cost,
@@ -85,6 +85,7 @@ __all__ = [
     "Order",
     "OtherResolution",
     "OutOfSpace",
+    "Played",
     "Refused",
     "RefusedModel",
     "SMove",

@@ -36,6 +36,14 @@ class StepTold(ctypes.Structure):
     _fields_ = [("energy", c_int64), ("offset", c_uint64), ("steps", c_uint32), ("active", c_uint32), ("broken", Broken)]
 
 
+class PlayedTold(ctypes.Structure):
+    _fields_ = (
+        [("energy", c_int64), ("used", c_uint64), ("offset", c_uint64)]
+        + [(name, c_uint32) for name in ("made", "steps", "active", "high")]
+        + [("broken", Broken)]
+    )
+
+
 class JudgedTold(ctypes.Structure):
     _fields_ = [("energy", c_int64), ("offset", c_uint64), ("halts", c_uint32), ("broken", Broken)]
 
@@ -68,8 +76,8 @@ CALLS: Dict[str, List[Any]] = {
     "nanobot_dis": BYTES + GIVEN,
     "nanobot_machine_start": BYTES + [c_bool, c_uint32, MACHINE, POINTER(Refusal)],
     "nanobot_machine_start_empty": [c_uint32, c_bool, c_uint32, MACHINE],
-    # Addresses, which `trace.Player` passes as numbers: these are passed on quicker than pointers.
-    "nanobot_machine_step": [c_void_p] + BYTES + [c_void_p],
+    "nanobot_machine_step": [MACHINE] + BYTES + [POINTER(StepTold)],
+    "nanobot_machine_play": [MACHINE] + BYTES + [c_uint32, POINTER(PlayedTold)],
     "nanobot_machine_judge": [MACHINE] + BYTES + [POINTER(JudgedTold)],
     "nanobot_machine_undo": [MACHINE],
     "nanobot_machine_copy": [MACHINE, MACHINE],
@@ -137,6 +145,11 @@ library = _Library()
 def lend(data: bytes) -> Tuple[bytes, int]:
     """What a call takes for bytes: a pointer, which is never null, and a length."""
     return data, len(data)
+
+
+def address_of(data: bytes) -> int:
+    """Where the bytes lie, for a call that reads a part of them without a copy. It is never null."""
+    return ctypes.cast(ctypes.c_char_p(data), c_void_p).value or 0
 
 
 def _mapped(room: int, least: int) -> mmap.mmap:

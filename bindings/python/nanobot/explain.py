@@ -26,20 +26,14 @@ def walk_to_the_end(machine: Machine, data: bytes) -> Tuple[int, Optional[Broken
     """Makes the steps of a trace as far as they go: the byte that comes next, the rule that stops it, and the step's commands."""
     player, progress = Player(machine, data), Progress("explain", len(data))
     try:
-        player.play(progress=progress)
+        refused = player.play(progress=progress)
     finally:
         progress.clear()
     bots = machine.bots()
     if not bots:
         return player.offset, None, []
-    row, end = orders_at(data, player.offset, bots)
-    if len(row) < len(bots):
-        return player.offset, trace_ends(machine, len(row)), row
-    try:
-        machine.step(data[player.offset : end])
-    except BrokenRule as broken:
-        return player.offset, broken, row
-    raise AssertionError("a step was refused and then made")
+    row, _ = orders_at(data, player.offset, bots)
+    return player.offset, refused if isinstance(refused, BrokenRule) else trace_ends(machine, len(row)), row
 
 
 class Runs:
@@ -88,7 +82,7 @@ def _first_step_with(runs: Runs, extra: Model, last: int) -> Tuple[int, Coord]:
     while low + 1 < high:
         middle = (low + high) // 2
         ahead = machine.copy()
-        player = Player(ahead, runs.data, offset=offset)
+        player = Player(ahead, runs.data, offset)
         player.play(middle - low, progress)
         there = ahead.matrix() & extra
         if there.full:

@@ -57,6 +57,20 @@ class Step(NamedTuple):
     active: int
 
 
+class Played(NamedTuple):
+    """How far a trace was played: the steps that were `made`, of the first `used` bytes, and the `energy`, the `steps` so far, the `active` bots and
+    whether harmonics are `high` after them. `refused` is the error that `step` raises for the next step, which begins at byte `used`; None
+    if as many steps were made as were asked for, or the bytes ended."""
+
+    made: int
+    used: int
+    energy: int
+    steps: int
+    active: int
+    high: bool
+    refused: Optional[NanobotError]
+
+
 class Judged(NamedTuple):
     """The result that a step would have: the machine's `energy` after it, and whether it `halts`, so that no bot is left."""
 
@@ -227,19 +241,26 @@ class Machine:
         other._light = self._light
         return other
 
+    def _refusal(self, status: int, broken: lib.Broken, offset: int, data: bytes) -> Optional[NanobotError]:
+        """Why a step of these bytes is refused; None of a step that was made. Raises the error of a status that is no refusal."""
+        if status == lib.BROKEN:
+            return BrokenRule(broken.rule, broken.step, broken.bid, Coord(broken.x, broken.y, broken.z))
+        if status == lib.TRACE:
+            return BadCommands(offset)
+        if status == lib.COUNT:
+            return WrongCount(self.state.active, count_of(data))
+        if status == lib.ENDED:
+            return Ended("no bot is active any more")
+        if status == lib.LONG:
+            return TooManySteps("the machine has made 1073741824 steps, and makes no more")
+        self._check(status)
+        return None
+
     def _refuse(self, status: int, broken: lib.Broken, offset: int, data: bytes) -> None:
         """Raises why a step of these bytes is refused."""
-        if status == lib.BROKEN:
-            raise BrokenRule(broken.rule, broken.step, broken.bid, Coord(broken.x, broken.y, broken.z))
-        if status == lib.TRACE:
-            raise BadCommands(offset)
-        if status == lib.COUNT:
-            raise WrongCount(self.state.active, count_of(data))
-        if status == lib.ENDED:
-            raise Ended("no bot is active any more")
-        if status == lib.LONG:
-            raise TooManySteps("the machine has made 1073741824 steps, and makes no more")
-        self._check(status)
+        refused = self._refusal(status, broken, offset, data)
+        if refused:
+            raise refused
 
     def _spelled(self, commands: Commands) -> bytes:
         """The bytes of a step: of a mapping, with Wait for each other active bot."""
@@ -269,6 +290,22 @@ class Machine:
         if status:
             self._refuse(status, told.broken, told.offset, data)
         return Step(told.energy, told.steps, told.active)
+
+    def play(self, trace: Source, most: Optional[int] = None, offset: int = 0) -> Played:
+        """Makes the steps of a trace one after another, from a byte on, at most so many or all, and returns how far it came.
+
+        The trace is bytes or the name of a file. Each step is made as `step` makes it, and may be taken back as others are. A step that is
+        refused ends the call and is told in `refused`; the machine is then as the step before it left it. Nothing is refused where the bytes
+        end behind a step, also if bots are left. A step takes a fraction of a microsecond.
+
+        Raises `Closed`, TypeError, ValueError, OSError or MemoryError; after a MemoryError the steps before it are made."""
+        data, told = bytes_of(trace, "a trace"), lib.PlayedTold()
+        begin = number_of("offset", offset, 0, len(data))
+        steps = MOST_NUMBER if most is None else number_of("most", most, 0, MOST_NUMBER)
+        status = library.machine_play(byref(self._handle), lib.address_of(data) + begin, len(data) - begin, steps, byref(told))
+        used = begin + told.used
+        refused = self._refusal(status, told.broken, begin + told.offset, data[used:]) if status else None
+        return Played(told.made, used, told.energy, told.steps, told.active, told.high == 1, refused)
 
     def judge(self, commands: Commands) -> Judged:
         """Returns the energy that the machine would have after such a step, and whether it would halt; makes no step.

@@ -2,21 +2,17 @@
 
 from __future__ import annotations
 
-import ctypes
-from array import array
 from typing import Iterator, List, NamedTuple, Optional, Sequence, Tuple
 
-from . import _library as lib
-from ._library import library
 from .commands import SIZES, Command, Fill, Flip, GFill, GVoid, Void, command_at
-from .errors import BrokenRule
+from .errors import BrokenRule, Ended, NanobotError, WrongCount
 from .geometry import region, volume
 from .machine import Bot, Machine, Source, bytes_of
 from .models import Model
 from .progress import Progress
 
-# How many steps are made between two looks at the clock.
-STRETCH = 8192
+# How many steps are made between two notes of the byte, and two looks at the clock.
+STRETCH = 1024
 COSTS = {"SMove": 0, "LMove": 4, "Fission": 24, "FusionP": -24}
 
 
@@ -55,45 +51,39 @@ def trace_ends(machine: Machine, commands: int) -> BrokenRule:
 
 
 class Player:
-    """Makes many steps of a trace on a machine, with little work for each."""
+    """Makes many steps of a trace on a machine, forwards and backwards, with a note of its byte now and then."""
 
-    def __init__(self, machine: Machine, data: bytes, ends: Optional["array[int]"] = None, offset: int = 0) -> None:
-        """Begins at a byte of the trace. The byte behind each step that is made is added to `ends`."""
-        self.machine, self.data, self.ends, self.offset = machine, data, ends, offset
-        self._told = lib.StepTold()
-        # Addresses as numbers: turning them into pointers anew at each call would take longer than the step.
-        self._base = ctypes.cast(ctypes.c_char_p(data), ctypes.c_void_p).value or 0
+    def __init__(self, machine: Machine, data: bytes, offset: int = 0) -> None:
+        """Begins at a byte of the trace."""
+        self.machine, self.data, self.offset = machine, data, offset
+        self._marks = [(machine.steps, offset)]
 
-    def _some(self, most: int, active: int) -> Tuple[int, int]:
-        """Makes at most so many steps, until one is refused or cannot be cut. Returns how many are left to make, and the active bots."""
-        step, handle, told = library.machine_step, ctypes.addressof(self.machine._handle), ctypes.addressof(self._told)
-        data, base, sizes, whole, at, ends = self.data, self._base, SIZES, len(self.data), self.offset, self.ends
-        while most and active:
-            end = at
-            try:
-                for _ in range(active):
-                    end += sizes[data[end]]
-            except IndexError:
-                break
-            if end > whole or step(handle, base + at, end - at, told):
-                break
-            at, most, active = end, most - 1, self._told.active
-            if ends is not None:
-                ends.append(end)
-        self.offset = at
-        return most, active
-
-    def play(self, most: Optional[int] = None, progress: Optional[Progress] = None) -> None:
-        """Makes at most so many steps, or all, until the next step is refused, its commands are no commands or too few, or no bot is left."""
-        left, active = len(self.data) if most is None else most, self.machine.state.active
-        while left and active:
-            stretch = min(left, STRETCH)
-            rest, active = self._some(stretch, active)
-            left -= stretch - rest
+    def play(self, most: Optional[int] = None, progress: Optional[Progress] = None) -> Optional[NanobotError]:
+        """Makes at most so many steps, or all. Returns why the next step is refused; None if none was."""
+        left = len(self.data) if most is None else most
+        while left and self.offset < len(self.data):
+            played = self.machine.play(self.data, min(left, STRETCH), self.offset)
+            self.offset, left = played.used, left - played.made
+            self._marks.append((played.steps, played.used))
             if progress:
                 progress.show(self.offset)
-            if rest:
-                break
+            if played.refused:
+                return played.refused
+        return None
+
+    def back_to(self, steps: int) -> bool:
+        """Takes steps back until so many are left, and returns whether enough are noted; otherwise the machine stays."""
+        while len(self._marks) > 1 and self._marks[-1][0] > steps:
+            self._marks.pop()
+        first, offset = self._marks[-1]
+        state = self.machine.state
+        if state.steps - first > state.noted:
+            return False
+        for _ in range(state.steps - first):
+            self.machine.undo()
+        self.offset = offset
+        self.play(steps - first)
+        return True
 
 
 class TracedStep(NamedTuple):
@@ -142,18 +132,30 @@ def _changes(machine: Machine, orders: Sequence[Order], work: int, full: int) ->
     return more + voided, voided
 
 
-def steps(source: Optional[Source], trace: Source, *, resolution: Optional[int] = None, light: bool = False) -> Iterator[TracedStep]:
-    """Makes the steps of a trace on a machine of their own, and yields each with its commands, its cost and what it changed.
+def _raise_why(machine: Machine, refused: Optional[NanobotError]) -> None:
+    """Raises why a step was refused, if one was. What follows a Halt is not looked at."""
+    if isinstance(refused, WrongCount):
+        raise trace_ends(machine, refused.given)
+    if refused and not isinstance(refused, Ended):
+        raise refused
+
+
+def steps(
+    source: Optional[Source], trace: Source, *, resolution: Optional[int] = None, light: bool = False, first: int = 1
+) -> Iterator[TracedStep]:
+    """Makes the steps of a trace on a machine of their own, and yields each from the `first` on with its commands, its cost and what it changed.
 
     The source is bytes, a `Model` or the name of a file, or None with the resolution of the empty model; the trace is bytes or the name of a
-    file. The energies are the machine's; `filled` and `voided` follow from them.
+    file. The steps before the first are made by one call, in a second or two for five million. The energies are the machine's; `filled` and `voided` follow from them.
 
     Raises `BrokenRule` at a step that is refused, and at the end of a trace that ends too early; `BadCommands`; `RefusedModel`, TypeError,
     OSError or MemoryError. What follows a Halt is not looked at: `judge` does. 50,000 steps of one bot take about a second."""
     data = bytes_of(trace, "the trace")
     with Machine(source, resolution=resolution, light=light) as machine:
-        before, offset, full = machine.state, 0, machine.count()
-        active, energy, high = before.active, 0, before.high
+        player = Player(machine, data)
+        _raise_why(machine, player.play(max(0, first - 1)))
+        before, offset, full = machine.state, player.offset, machine.count()
+        active, energy, high = before.active, before.energy, before.high
         while active:
             orders, end = orders_at(data, offset, machine.bots())
             if len(orders) < active:

@@ -3,10 +3,9 @@
 from __future__ import annotations
 
 import cmd
-from array import array
 from typing import Any, Optional
 
-from .errors import BadCommands, BrokenRule, Coord, OutOfSpace, Refused
+from .errors import BadCommands, BrokenRule, Coord, NanobotError, OutOfSpace, Refused
 from .machine import Machine, Source, bytes_of
 from .progress import Progress
 from .rows import judge
@@ -27,14 +26,14 @@ class Walk(cmd.Cmd):
         if not self.is_asked:
             self.intro = None
         self.data = bytes_of(trace)
-        self.ends = array("Q", [0])
         self._models, self._light = (source, target), light
-        self.machine = self._start()
+        self._start()
         self._ask()
 
-    def _start(self) -> Machine:
-        """The machine before the first step."""
-        return machine_of(*self._models, light=self._light, notes=NOTES)
+    def _start(self) -> None:
+        """Goes to the place before the first step."""
+        self.machine = machine_of(*self._models, light=self._light, notes=NOTES)
+        self._player = Player(self.machine, self.data)
 
     def say(self, text: str) -> None:
         self.stdout.write(text + "\n")
@@ -44,7 +43,7 @@ class Walk(cmd.Cmd):
         self.prompt = f"{self.machine.steps}> " if self.is_asked else ""
 
     def _row(self) -> Row:
-        return orders_at(self.data, self.ends[-1], self.machine.bots())[0]
+        return orders_at(self.data, self._player.offset, self.machine.bots())[0]
 
     def _told_row(self) -> Row:
         """The next step, or none if its bytes are no commands, which is said."""
@@ -62,49 +61,41 @@ class Walk(cmd.Cmd):
         except Refused as refused:
             self.say(refused.line)
 
-    def _say_why(self) -> None:
+    def _say_why(self, refused: Optional[NanobotError]) -> None:
         """Says why the next step is not made."""
         active = self.machine.state.active
         if not active:
             self._end()
-            return
-        try:
-            row, end = orders_at(self.data, self.ends[-1], self.machine.bots())
-            if len(row) < active:
-                self.say(f"the trace ends: {len(row)} commands for {active} bots")
-                return
-            self.machine.judge(self.data[self.ends[-1] : end])
-        except BadCommands as bad:
-            self.say(str(bad))
-        except BrokenRule as broken:
-            self.say(str(broken))
-            for line in why(self.machine, broken, row):
+        elif isinstance(refused, BadCommands):
+            self.say(str(refused))
+        elif isinstance(refused, BrokenRule):
+            self.say(str(refused))
+            for line in why(self.machine, refused, self._row()):
                 self.say(line)
+        else:
+            self.say(f"the trace ends: {len(self._row())} commands for {active} bots")
+
+    def _play(self, most: Optional[int]) -> Optional[NanobotError]:
+        """Makes so many steps, or all, and returns why the next one is refused."""
+        progress = Progress("walk", len(self.data))
+        try:
+            return self._player.play(most, progress)
+        finally:
+            progress.clear()
 
     def _forwards(self, most: Optional[int] = None) -> None:
         """Makes so many steps, or all, and says why one is not made."""
         wanted = None if most is None else self.machine.steps + most
-        progress = Progress("walk", len(self.data))
-        try:
-            Player(self.machine, self.data, self.ends, self.ends[-1]).play(most, progress)
-        finally:
-            progress.clear()
+        refused = self._play(most)
         if wanted is None or self.machine.steps < wanted:
-            self._say_why()
+            self._say_why(refused)
 
     def _back_to(self, wanted: int) -> None:
         """Takes steps back; past the notes the trace is walked anew from its start."""
-        if wanted < self.machine.steps - self.machine.state.noted:
+        if not self._player.back_to(wanted):
             self.machine.close()
-            self.machine = self._start()
-            progress = Progress("walk", len(self.data))
-            try:
-                Player(self.machine, self.data).play(wanted, progress)
-            finally:
-                progress.clear()
-        while self.machine.steps > wanted:
-            self.machine.undo()
-        del self.ends[wanted + 1 :]
+            self._start()
+            self._play(wanted)
 
     def _number(self, words: str, default: Optional[int]) -> Optional[int]:
         if not words and default is not None:

@@ -76,6 +76,54 @@ class Steps(unittest.TestCase):
             self.assertEqual(caught.exception.rule, 15)
 
 
+class Playing(unittest.TestCase):
+    # Two bots; they wait; one waits and the other moves; the other halts, which it may not beside another.
+    TRACE = bytes.fromhex("7505 fefe fe1410 feff")
+
+    def setUp(self):
+        self.machine = Machine(resolution=3, notes=9)
+
+    def test_so_many_steps(self):
+        played = self.machine.play(self.TRACE, 2)
+        self.assertEqual(played[:2] + played[3:], (2, 4, 2, 2, False, None))
+        self.assertEqual((played.energy, self.machine.steps), (self.machine.energy, 2))
+
+    def test_from_a_byte_to_a_step_that_is_refused(self):
+        self.machine.play(self.TRACE, 2)
+        played = self.machine.play(self.TRACE, offset=4)
+        self.assertEqual((played.made, played.used, played.steps), (1, 7, 3))
+        self.assertEqual(str(played.refused), "broken 2 HaltAlone step 4 bid 2 at 1 0 1")
+        with self.assertRaises(nanobot.BrokenRule):
+            self.machine.step(self.TRACE[7:])
+
+    def test_each_step_is_noted(self):
+        self.machine.play(self.TRACE)
+        for steps in (2, 1, 0):
+            self.machine.undo()
+            self.assertEqual(self.machine.steps, steps)
+
+    def test_bytes_that_end_or_are_no_commands(self):
+        self.machine.play(self.TRACE, 1)
+        self.assertIsNone(self.machine.play(b"").refused)
+        self.assertEqual(self.machine.play(self.TRACE, 0, offset=2)[:2], (0, 2))
+        self.assertEqual(str(self.machine.play(b"\xfe").refused), "1 command for 2 active bots")
+        refused = self.machine.play(bytes.fromhex("fdfd fefe fe14"), offset=2).refused
+        self.assertEqual((type(refused), refused.offset, self.machine.steps), (nanobot.BadCommands, 5, 2))
+
+    def test_behind_the_halt(self):
+        played = self.machine.play(b"\xff\xfe")
+        self.assertEqual((played.made, played.used, played.active, type(played.refused)), (1, 1, 0, nanobot.Ended))
+
+    def test_arguments(self):
+        for trace, most, offset in ((b"\xfe", -1, 0), (b"\xfe", 2**32, 0), (b"\xfe", 1, 2), (b"\xfe", 1, -1)):
+            with self.assertRaises(ValueError):
+                self.machine.play(trace, most, offset)
+        for trace in (7, None, [1]):
+            with self.assertRaises(TypeError):
+                self.machine.play(trace)
+        self.assertEqual(self.machine.steps, 0)
+
+
 class Judging(unittest.TestCase):
     def test_a_step_that_is_judged_is_not_made(self):
         with Machine(resolution=4, notes=1) as machine:
@@ -428,6 +476,18 @@ class StepsOfTraces(unittest.TestCase):
                 for step in nanobot.steps(b"\x03\x00\x04\x00\x00", trace):
                     last = step
             self.assertEqual(((last.filled, last.voided), last.high, caught.exception.name), (changed, True, "TraceEnds"))
+
+    def test_from_a_later_step_on(self):
+        trace = WAIT + FILL_BESIDE + FLIP + FLIP + HALT
+        for first in range(1, 7):
+            made = list(nanobot.steps(None, trace + WAIT, resolution=4, first=first))
+            self.assertEqual([it.number for it in made], list(range(first, 6)))
+            self.assertEqual(made, list(nanobot.steps(None, trace, resolution=4))[first - 1 :])
+        for trace, kind in ((WAIT + FILL_ABOVE, "Ungrounded"), (WAIT, "TraceEnds"), (SPLIT + WAIT, "TraceEnds")):
+            with self.assertRaises(nanobot.BrokenRule) as caught:
+                list(nanobot.steps(None, trace, resolution=4, first=9))
+            self.assertEqual((caught.exception.name, caught.exception.step), (kind, 2))
+        self.assertRaises(nanobot.BadCommands, list, nanobot.steps(None, WAIT + b"\x04", resolution=4, first=9))
 
     def test_a_step_that_is_refused(self):
         made = []

@@ -1,5 +1,6 @@
 //! A machine that is kept between steps: `steps run [light] S T B` prints what `nanobot run` prints of a run that is accepted or breaks a
-//! rule. Each step is made, taken back, and made again, and half way the machine goes on as a copy.
+//! rule. Each step is made, taken back, and made again, and half way the machine goes on as a copy; another machine plays the trace by one
+//! call.
 
 use nanobot::{Broken, Coord, Machine, Profile, Rule, StepError};
 use std::error::Error;
@@ -86,12 +87,14 @@ fn main() -> Told<ExitCode> {
         rest => (Profile::Full, rest),
     };
     let (source, target, trace) = (bytes_of(&rest[0])?, bytes_of(&rest[1])?, fs::read(&rest[2])?);
-    let machine = match (&source, &target) {
+    let mut machine = match (&source, &target) {
         (Some(source), _) => Machine::start(source, profile, 4)?,
         (None, Some(target)) => Machine::empty(resolution_of(target), profile, 4)?,
         (None, None) => return Ok(ExitCode::from(2)),
     };
+    let played = machine.try_clone()?.play(&trace, u32::MAX);
     let (mut machine, broken) = run(machine, target.as_deref(), &trace)?;
+    assert_eq!((played.energy, played.steps), (machine.state().energy, machine.state().steps));
     if let Some(broken) = broken {
         println!("{broken}");
         return Ok(ExitCode::from(1));

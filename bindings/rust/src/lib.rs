@@ -55,6 +55,19 @@ pub struct Step {
     pub active: u32,
 }
 
+/// How far a trace was played: the steps that were made, of the first `used` bytes, and where the machine stands after them. `refused`
+/// is why the next step was not made, which begins at byte `used`; None where as many were made as were asked for, or the bytes ended.
+#[derive(Clone, Copy, PartialEq, Eq, Debug)]
+pub struct Played {
+    pub made: u32,
+    pub used: u64,
+    pub energy: i64,
+    pub steps: u32,
+    pub active: u32,
+    pub high: bool,
+    pub refused: Option<StepError>,
+}
+
 /// What a step would come to: the energy that the machine would have, and whether no bot would be left.
 #[derive(Clone, Copy, PartialEq, Eq, Debug)]
 pub struct Judged {
@@ -144,6 +157,29 @@ impl Machine {
             steps: told.steps,
             active: told.active,
         })
+    }
+
+    /// Makes the steps of a trace one after another, at most so many, until one is refused or the bytes end. The machine is then as the
+    /// last step that was made left it.
+    pub fn play(&mut self, trace: &[u8], most: u32) -> Played {
+        let mut told = sys::Played::default();
+        // SAFETY: each pointer is that of a slice or a reference.
+        let status = unsafe { sys::nanobot_machine_play(&mut self.handle, trace.as_ptr(), trace.len(), most, &mut told) };
+        let refused = sys::Step {
+            offset: told.offset,
+            active: told.active,
+            broken: told.broken,
+            ..sys::Step::default()
+        };
+        Played {
+            made: told.made,
+            used: told.used,
+            energy: told.energy,
+            steps: told.steps,
+            active: told.active,
+            high: told.high == 1,
+            refused: errors::stepped(status, &refused).err(),
+        }
     }
 
     /// What a step would come to. The machine stays as it is.

@@ -65,6 +65,19 @@ pub struct Step {
 
 #[repr(C)]
 #[derive(Clone, Copy, Default)]
+pub struct Played {
+    pub energy: i64,
+    pub used: u64,
+    pub offset: u64,
+    pub made: u32,
+    pub steps: u32,
+    pub active: u32,
+    pub high: u32,
+    pub broken: Broken,
+}
+
+#[repr(C)]
+#[derive(Clone, Copy, Default)]
 pub struct Judged {
     pub energy: i64,
     pub offset: u64,
@@ -104,6 +117,7 @@ extern "C" {
     ) -> u32;
     pub fn nanobot_machine_start_empty(resolution: u32, light: bool, notes: u32, machine: *mut Handle) -> u32;
     pub fn nanobot_machine_step(machine: *mut Handle, commands: *const u8, commands_size: usize, step: *mut Step) -> u32;
+    pub fn nanobot_machine_play(machine: *mut Handle, trace: *const u8, trace_size: usize, most: u32, played: *mut Played) -> u32;
     pub fn nanobot_machine_judge(machine: *mut Handle, commands: *const u8, commands_size: usize, judged: *mut Judged) -> u32;
     pub fn nanobot_machine_undo(machine: *mut Handle) -> u32;
     pub fn nanobot_machine_copy(machine: *mut Handle, copy: *mut Handle) -> u32;

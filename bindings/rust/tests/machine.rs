@@ -26,6 +26,21 @@ fn a_step_costs_its_upkeep() {
 }
 
 #[test]
+fn a_trace_is_played_until_a_step_is_refused() {
+    let mut machine = Machine::empty(3, Profile::Full, 9).unwrap();
+    let trace = [0x75, 5, 0xfe, 0xfe, 0xfe, 0x14, 0x10, 0xfe, 0xff];
+    let played = machine.play(&trace, 2);
+    assert_eq!((played.made, played.used, played.active, played.refused), (2, 4, 2, None));
+    let played = machine.play(&trace[4..], u32::MAX);
+    let broken = Broken { rule: Rule::HaltAlone, step: 4, bid: 2, at: at(1, 0, 1) };
+    assert_eq!((played.made, played.used, played.steps, played.refused), (1, 3, 3, Some(StepError::Broken(broken))));
+    assert_eq!(machine.play(&[], 1).refused, None);
+    assert_eq!(machine.play(WAIT, 1).refused, Some(StepError::WrongCount { active: 2 }));
+    assert_eq!(machine.play(&[0xfe, 0xfe, 0xfe, 0x14], 2).refused, Some(StepError::BadCommands { offset: 3 }));
+    assert_eq!(machine.state().noted, 4);
+}
+
+#[test]
 fn a_fission_makes_two_bots() {
     let mut machine = Machine::empty(3, Profile::Full, 0).unwrap();
     assert_eq!(machine.step(SPLIT).unwrap().active, 2);

@@ -2,3 +2,5 @@ mod Answered
 mod AsBox
 mod Buffers
 mod Fields
+mod NextSteps
+mod Played

@@ -4,5 +4,6 @@ pub mod Comparing
 pub mod Counting
 pub mod Judging
 pub mod Owned
+pub mod Playing
 pub mod Told
 pub mod Tracing

@@ -8,6 +8,7 @@ mod counting;
 mod handle;
 mod judging;
 mod parts;
+mod playing;
 mod reading;
 mod starting;
 mod status;

@@ -41,7 +41,7 @@ pub extern "C" fn nanobot_machine_tell(
 }
 
 /// 1 under high harmonics.
-fn high(harmonics: Harmonics) -> u32
+pub(crate) fn high(harmonics: Harmonics) -> u32
     ensures { result ≡ high_of harmonics }
 {
     match harmonics {

@@ -5,6 +5,7 @@ use crate::comparing::nanobot_machine_compare;
 use crate::counting::nanobot_machine_differences;
 use crate::handle::Handle;
 use crate::judging::nanobot_machine_judge;
+use crate::playing::nanobot_machine_play;
 use crate::reading::{
     nanobot_machine_bots, nanobot_machine_count, nanobot_machine_full, nanobot_machine_level,
     nanobot_machine_model, nanobot_machine_tell,
@@ -13,7 +14,9 @@ use crate::starting::{
     nanobot_machine_copy, nanobot_machine_end, nanobot_machine_start, nanobot_machine_start_empty,
 };
 use crate::stepping::{nanobot_machine_step, nanobot_machine_undo};
-use crate::told::{BotTold, BrokenTold, JudgedTold, MachineTold, ModelTold, PlaceTold, StepTold};
+use crate::told::{
+    BotTold, BrokenTold, JudgedTold, MachineTold, ModelTold, PlaceTold, PlayedTold, StepTold,
+};
 use crate::tracing::{nanobot_machine_keep, nanobot_machine_trace};
 use std::alloc::Global;
 use std::process::Abort;
@@ -93,6 +96,33 @@ fn assert_judged(
     assert_eq!(rt; told.energy, energy);
     assert_eq!(rt; told.halts, halts);
     assert_eq!(rt; told.broken.rule, rule);
+}
+
+/// A trace is played so far: the status, the steps that are made, their bytes, and the first byte of a bad or cut command.
+fn assert_plays(
+    rt: &impl Abort,
+    alloc: Global,
+    handle: &mut Handle,
+    (trace, most): (&[u8], u32),
+    (status, made, used, offset): (u32, u32, u64, u64),
+) {
+    let mut told = PlayedTold {
+        energy: 7,
+        used: 7,
+        offset: 7,
+        made: 7,
+        steps: 7,
+        active: 7,
+        high: 7,
+        broken: BrokenTold::none(),
+    };
+    assert_eq!(rt;
+        nanobot_machine_play(alloc, handle, trace, most, &mut told),
+        status
+    );
+    assert_eq!(rt; told.made, made);
+    assert_eq!(rt; told.used, used);
+    assert_eq!(rt; told.offset, offset);
 }
 
 /// The trace of the machine has these bytes.
@@ -366,4 +396,50 @@ fn commands_are_counted(rt: HostRuntime) {
         4
     );
     assert_eq!(&rt; at, 1);
+}
+
+#[test]
+fn traces_are_played(rt: HostRuntime) {
+    let alloc = rt.alloc();
+    let mut handle = empty_of_three(&rt, alloc, 5);
+    let trace = [0x75, 0x05, 0xFE, 0xFE, 0xFE, 0x14, 0x10];
+    assert_plays(&rt, alloc, &mut handle, (&trace, 2), (0, 2, 4, 0));
+    assert_stands(&rt, alloc, &mut handle, 2, 2);
+    assert_plays(&rt, alloc, &mut handle, (&trace[4..], 9), (0, 1, 3, 0));
+    assert_plays(&rt, alloc, &mut handle, (&[], 9), (0, 0, 0, 0));
+    assert_undone(&rt, alloc, &mut handle, 0);
+    assert_plays(
+        &rt,
+        alloc,
+        &mut handle,
+        (&[0xFE, 0xFE, 0xFE], 9),
+        (13, 1, 2, 0),
+    );
+    assert_plays(
+        &rt,
+        alloc,
+        &mut handle,
+        (&[0xFE, 0xFE, 0xFE, 0x04], 9),
+        (4, 1, 2, 3),
+    );
+    assert_plays(
+        &rt,
+        alloc,
+        &mut handle,
+        (&[0xFE, 0xFF, 0x04], 9),
+        (1, 0, 0, 0),
+    );
+    assert_plays(&rt, alloc, &mut handle, (&[0xFE, 0x14], 9), (4, 0, 0, 1));
+}
+
+#[test]
+fn a_run_is_played_to_its_end(rt: HostRuntime) {
+    let alloc = rt.alloc();
+    let mut handle = empty_of_three(&rt, alloc, 0);
+    let trace = [0x14, 0x10, 0x73, 0x14, 0x0E, 0xFF];
+    assert_plays(&rt, alloc, &mut handle, (&trace, 4), (0, 4, 6, 0));
+    assert_plays(&rt, alloc, &mut handle, (&[], 4), (0, 0, 0, 0));
+    assert_plays(&rt, alloc, &mut handle, (&trace, 4), (12, 0, 0, 0));
+    nanobot_machine_end(alloc, &mut handle);
+    assert_plays(&rt, alloc, &mut handle, (&trace, 4), (11, 7, 7, 7));
 }

@@ -30,6 +30,21 @@ pub struct StepTold {
     pub broken: BrokenTold,
 }
 
+/// How far a trace was played: where the machine stands after the call, in its energy, steps, active bots and harmonics; how many
+/// steps were made, of how many bytes; the first byte of the command that is bad or cut; and the rule that is broken.
+#[repr(C)]
+#[derive(Clone, Copy)]
+pub struct PlayedTold {
+    pub energy: i64,
+    pub used: u64,
+    pub offset: u64,
+    pub made: u32,
+    pub steps: u32,
+    pub active: u32,
+    pub high: u32,
+    pub broken: BrokenTold,
+}
+
 /// What a step would come to: the energy that the machine would have, the first byte of the command that is bad or cut, 1 where no
 /// bot would be left, and the rule that would be broken.
 #[repr(C)]

@@ -96,33 +96,31 @@ func (m *machine) bot(index int) C.nanobot_bot {
 	return bots[index]
 }
 
-// step makes one step of the front of these bytes, and returns how many they are.
-func (m *machine) step(trace []byte) (int, error) {
-	state, end := m.state(), 0
-	for given := 0; given < int(state.active); given++ {
-		if end >= len(trace) {
-			b := m.bot(given)
-			return 0, broken(C.nanobot_broken{rule: 1, step: state.steps + 1, bid: b.bid, x: b.x, y: b.y, z: b.z})
-		}
-		size := int(C.nanobot_command_size(C.uint8_t(trace[end])))
-		if size == 0 {
-			size = 1 // no command begins so: the machine refuses it
-		}
-		end += size
-	}
-	if end > len(trace) {
-		end = len(trace)
-	}
-	var told C.nanobot_step
-	data, size := lend(trace[:end])
-	switch status := C.nanobot_machine_step(&m.handle, data, size, &told); status {
-	case C.NANOBOT_DONE:
-		return end, nil
-	case C.NANOBOT_BROKEN:
-		return 0, broken(told.broken)
+// play makes the steps of a trace as far as they go, and returns how many bytes are left.
+func (m *machine) play(trace []byte) (int, error) {
+	var told C.nanobot_played
+	data, size := lend(trace)
+	status := C.nanobot_machine_play(&m.handle, data, size, ^C.uint32_t(0), &told)
+	left := len(trace) - int(told.used)
+	switch {
+	case status == C.NANOBOT_BROKEN:
+		return left, broken(told.broken)
+	case told.active == 0:
+		return left, nil // what follows is judged by finish
+	case status == C.NANOBOT_DONE || status == C.NANOBOT_COUNT:
+		b := m.bot(commands(trace[told.used:]))
+		return left, broken(C.nanobot_broken{rule: 1, step: told.steps + 1, bid: b.bid, x: b.x, y: b.y, z: b.z})
 	default:
-		return 0, failed(status)
+		return left, failed(status)
 	}
+}
+
+// commands returns how many commands the bytes spell.
+func commands(trace []byte) int {
+	var count, offset C.uint64_t
+	data, size := lend(trace)
+	C.nanobot_commands(data, size, &count, &offset)
+	return int(count)
 }
 
 // finish judges the end of a run, after which so many bytes are left.
@@ -163,14 +161,11 @@ func run(source, target, trace []byte, light bool) (string, error) {
 		return "", err
 	}
 	defer m.end()
-	for m.state().active > 0 {
-		size, err := m.step(trace)
-		if err != nil {
-			return "", err
-		}
-		trace = trace[size:]
+	left, err := m.play(trace)
+	if err != nil {
+		return "", err
 	}
-	if err := m.finish(target, len(trace)); err != nil {
+	if err := m.finish(target, left); err != nil {
 		return "", err
 	}
 	state := m.state()
