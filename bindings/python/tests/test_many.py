@@ -16,6 +16,7 @@ from unittest.mock import patch
 
 from nanobot.__main__ import run
 from nanobot.tools.judge import Run, runs_of
+from nanobot.tools.program import program
 
 HERE = Path(__file__).resolve().parents[1]
 PROGRAM = """#!/bin/sh
@@ -98,6 +99,18 @@ class Tools(unittest.TestCase):
     def test_no_program(self):
         self.program.chmod(0o644)
         self.assertEqual(self.said("judge", stdin="- t a\n")[0], 12)
+
+    def test_the_program_of_an_installation(self):
+        real = self.folder / "lib/nanobot/nanobot"
+        real.parent.mkdir(parents=True)
+        (self.folder / "bin").mkdir()
+        for path in (real, self.folder / "bin/nanobot"):
+            path.write_text(PROGRAM)
+            path.chmod(0o755)
+        with patch.dict(os.environ, NANOBOT="", PATH=str(self.folder / "bin")):
+            self.assertEqual(program(), str(real.resolve()))
+            real.unlink()
+            self.assertEqual(program(), str(self.folder / "bin/nanobot"))
 
     def test_lines(self):
         self.assertEqual(runs_of("a\tb  c \n"), [Run("a", "b", "c")])
