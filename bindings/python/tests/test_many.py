@@ -77,9 +77,9 @@ class Tools(unittest.TestCase):
         )
 
     def test_a_run_that_takes_too_long_is_stopped(self):
-        status, out, _ = self.said("judge", "2", "--seconds", "1", stdin="- t slow\n- t a\n")
+        status, out, _ = self.said("judge", "2", "--seconds", "3", stdin="- t slow\n- t a\n")
         self.assertEqual(status, 1)
-        self.assertIn("  slow: stopped after 1 s\n", out)
+        self.assertIn("  slow: stopped after 3 s\n", out)
         self.assertIn("1 of 2 accepted", out)
 
     def test_wrong_arguments(self):
