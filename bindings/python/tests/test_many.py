@@ -16,6 +16,7 @@ from unittest.mock import patch
 
 from nanobot.__main__ import run
 from nanobot.tools.judge import Run, runs_of
+from nanobot.tools.program import program
 
 HERE = Path(__file__).resolve().parents[1]
 PROGRAM = """#!/bin/sh
@@ -76,9 +77,9 @@ class Tools(unittest.TestCase):
         )
 
     def test_a_run_that_takes_too_long_is_stopped(self):
-        status, out, _ = self.said("judge", "2", "--seconds", "1", stdin="- t slow\n- t a\n")
+        status, out, _ = self.said("judge", "2", "--seconds", "3", stdin="- t slow\n- t a\n")
         self.assertEqual(status, 1)
-        self.assertIn("  slow: stopped after 1 s\n", out)
+        self.assertIn("  slow: stopped after 3 s\n", out)
         self.assertIn("1 of 2 accepted", out)
 
     def test_wrong_arguments(self):
@@ -98,6 +99,18 @@ class Tools(unittest.TestCase):
     def test_no_program(self):
         self.program.chmod(0o644)
         self.assertEqual(self.said("judge", stdin="- t a\n")[0], 12)
+
+    def test_the_program_of_an_installation(self):
+        real = self.folder / "lib/nanobot/nanobot"
+        real.parent.mkdir(parents=True)
+        (self.folder / "bin").mkdir()
+        for path in (real, self.folder / "bin/nanobot"):
+            path.write_text(PROGRAM)
+            path.chmod(0o755)
+        with patch.dict(os.environ, NANOBOT="", PATH=str(self.folder / "bin")):
+            self.assertEqual(program(), str(real.resolve()))
+            real.unlink()
+            self.assertEqual(program(), str(self.folder / "bin/nanobot"))
 
     def test_lines(self):
         self.assertEqual(runs_of("a\tb  c \n"), [Run("a", "b", "c")])

@@ -22,12 +22,12 @@ class Unavailable(Exception):
 
 
 def program() -> str:
-    """Returns the path of the program: the one that NANOBOT names, that of the installation that Python runs from, or
-    the one on the PATH.
-
-    Raises Unavailable."""
-    beside = os.path.join(sys.prefix, "lib", "nanobot", "nanobot")
-    found = os.environ.get("NANOBOT") or (beside if os.path.exists(beside) else shutil.which("nanobot"))
+    """Returns the path of the program: the one that NANOBOT names, that of the installation that Python or the command
+    `nanobot` on the PATH belongs to, or that command. Raises Unavailable."""
+    command = shutil.which("nanobot")
+    prefixes = [sys.prefix, *([os.path.dirname(os.path.dirname(os.path.realpath(command)))] if command else [])]
+    installed = [os.path.join(prefix, "lib", "nanobot", "nanobot") for prefix in prefixes]
+    found = os.environ.get("NANOBOT") or next(filter(os.path.exists, installed), command)
     if not found or not os.access(found, os.X_OK):
         raise Unavailable("there is no program: ./prove builds it, or NANOBOT names one")
     return os.path.abspath(found)
