@@ -146,7 +146,7 @@ def steps(
     """Makes the steps of a trace on a machine of their own, and yields each from the `first` on with its commands, its cost and what it changed.
 
     The source is bytes, a `Model` or the name of a file, or None with the resolution of the empty model; the trace is bytes or the name of a
-    file. The steps before the first are made by one call, in a second or two for five million. The energies are the machine's; `filled` and `voided` follow from them.
+    file. The steps before the first are made by `Machine.play`. The energies are the machine's; `filled` and `voided` follow from them.
 
     Raises `BrokenRule` at a step that is refused, and at the end of a trace that ends too early; `BadCommands`; `RefusedModel`, TypeError,
     OSError or MemoryError. What follows a Halt is not looked at: `judge` does. 50,000 steps of one bot take about a second."""

@@ -67,8 +67,8 @@ fn add(commands: &mut Vec<Command>, command: Command) -> Result<(), Memory>
     }
 }
 
-/// Cuts the commands of a step of so many bots from the front of the bytes, and returns how many bytes they take. There are
-/// fewer commands where the bytes end before.
+/// Cuts the commands of a step of `active` bots from the front of the bytes, and returns their size in bytes. There are
+/// fewer commands if the bytes end before.
 fn cut_step(bytes: &[u8], active: usize, commands: &mut Vec<Command>) -> Result<usize, TraceFault>
     ensures within { IfOk result (λ size. size ≤ length bytes.now) }
     ensures next { IfOk result (λ size. IsNextStep bytes.now active (take size bytes.now) commands.new.items) }
@@ -122,7 +122,7 @@ fn play_step(
     }
 }
 
-/// Makes the steps of a trace one after another, at most so many, until one is refused or the bytes end.
+/// Makes at most `most` steps of a trace one after another, until one is refused or the bytes end.
 fn play(alloc: Global, machine: &mut KeptMachine, trace: &[u8], most: u32) -> Played
     ensures { IsPlayed machine.old trace.now most machine.new result }
 {
@@ -158,7 +158,7 @@ fn play(alloc: Global, machine: &mut KeptMachine, trace: &[u8], most: u32) -> Pl
     }
 }
 
-/// Makes the steps of a trace one after another, at most so many, until one is refused or the bytes end, and tells how far it came.
+/// Makes at most `most` steps of a trace one after another, until one is refused or the bytes end, and says how far it came.
 /// A step that is refused leaves the machine as the step before it left it.
 #[unsafe(no_mangle)]
 pub extern "C" fn nanobot_machine_play(
