@@ -120,13 +120,15 @@ typedef struct nanobot_broken {
     uint32_t rule, step, bid, x, y, z;
 } nanobot_broken;
 
-/* Where the machine stands after a step was made or refused: energy, steps made, active bots. `offset` is the first byte of a
- * command that is bad or cut (NANOBOT_TRACE), `broken` the rule that is broken (NANOBOT_BROKEN); else they are 0. */
+/* Where the machine stands after a step was made or refused: energy, steps made, active bots, `high` 1 under high harmonics. The step
+ * `changed` so many voxels, 0 if it was refused. `offset` is the first byte of a command that is bad or cut (NANOBOT_TRACE), `broken` the
+ * rule that is broken (NANOBOT_BROKEN); else they are 0. */
 typedef struct nanobot_step {
     int64_t energy;
     uint64_t offset;
     uint32_t steps, active;
     nanobot_broken broken;
+    uint32_t high, changed;
 } nanobot_step;
 
 /* How far a trace was played: the steps that were `made`, of the first `used` bytes, and where the machine stands after them, as
@@ -139,13 +141,14 @@ typedef struct nanobot_played {
     nanobot_broken broken;
 } nanobot_played;
 
-/* What a step would come to: the energy that the machine would have (its own where the step would be refused), and `halts` 1 where
- * no bot would be left. `offset` and `broken` are as in nanobot_step. */
+/* What a step would come to: the energy, the active bots and the harmonics that the machine would have (its own where the step would be
+ * refused), how many voxels would be `changed`, and `halts` 1 where no bot would be left. `offset` and `broken` are as in nanobot_step. */
 typedef struct nanobot_judged {
     int64_t energy;
     uint64_t offset;
     uint32_t halts;
     nanobot_broken broken;
+    uint32_t active, high, changed;
 } nanobot_judged;
 
 /* Where a machine stands: `high` is 1 under high harmonics, and so many steps are `noted` that can be taken back. */

@@ -33,7 +33,7 @@ class Broken(ctypes.Structure):
 
 
 class StepTold(ctypes.Structure):
-    _fields_ = [("energy", c_int64), ("offset", c_uint64), ("steps", c_uint32), ("active", c_uint32), ("broken", Broken)]
+    _fields_ = [("energy", c_int64), ("offset", c_uint64), ("steps", c_uint32), ("active", c_uint32), ("broken", Broken), ("high", c_uint32), ("changed", c_uint32)]
 
 
 class PlayedTold(ctypes.Structure):
@@ -45,7 +45,9 @@ class PlayedTold(ctypes.Structure):
 
 
 class JudgedTold(ctypes.Structure):
-    _fields_ = [("energy", c_int64), ("offset", c_uint64), ("halts", c_uint32), ("broken", Broken)]
+    _fields_ = [("energy", c_int64), ("offset", c_uint64), ("halts", c_uint32), ("broken", Broken)] + [
+        (name, c_uint32) for name in ("active", "high", "changed")
+    ]
 
 
 class StateTold(ctypes.Structure):

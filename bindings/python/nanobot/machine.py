@@ -50,11 +50,14 @@ class Bot(NamedTuple):
 
 
 class Step(NamedTuple):
-    """A machine after a step: `energy` so far, `steps` made, and how many bots are `active`."""
+    """A machine after a step: `energy` so far, `steps` made, how many bots are `active`, whether harmonics are `high`, and how many voxels the
+    step `changed`."""
 
     energy: int
     steps: int
     active: int
+    high: bool
+    changed: int
 
 
 class Played(NamedTuple):
@@ -72,10 +75,14 @@ class Played(NamedTuple):
 
 
 class Judged(NamedTuple):
-    """The result that a step would have: the machine's `energy` after it, and whether it `halts`, so that no bot is left."""
+    """The result that a step would have: the machine's `energy` after it, whether it `halts`, so that no bot is left, how many bots are
+    `active` then, whether harmonics are `high`, and how many voxels it has `changed`."""
 
     energy: int
     halts: bool
+    active: int
+    high: bool
+    changed: int
 
 
 class State(NamedTuple):
@@ -277,7 +284,7 @@ class Machine:
         return spelled(commands)
 
     def step(self, commands: Commands) -> Step:
-        """Makes one step, and returns the energy, the steps made and how many bots are active.
+        """Makes one step, and returns the energy, the steps made, the active bots, the harmonics and how many voxels changed.
 
         The commands are one for each active bot, in rising order of their bids: the bytes of a trace, a `Command` for the only bot, or
         several in a list. A dict from bids to commands, as `{1: SMove(0, 0, 2)}`, lets the other bots wait.
@@ -289,7 +296,7 @@ class Machine:
         status = library.machine_step(byref(self._handle), data, len(data), byref(told))
         if status:
             self._refuse(status, told.broken, told.offset, data)
-        return Step(told.energy, told.steps, told.active)
+        return Step(told.energy, told.steps, told.active, told.high == 1, told.changed)
 
     def play(self, trace: Source, most: Optional[int] = None, offset: int = 0) -> Played:
         """Makes the steps of a trace one after another, from a byte on, at most so many or all, and returns how far it came.
@@ -308,7 +315,7 @@ class Machine:
         return Played(told.made, used, told.energy, told.steps, told.active, told.high == 1, refused)
 
     def judge(self, commands: Commands) -> Judged:
-        """Returns the energy that the machine would have after such a step, and whether it would halt; makes no step.
+        """Returns what `step` would, and whether no bot would be left; makes no step.
 
         Takes the same commands as `step`, and raises the same errors. The machine stays as it is. It takes as long as a step and an undo;
         after one that breaks rule 12 the next step, judgement or level takes as long as a start."""
@@ -316,7 +323,7 @@ class Machine:
         status = library.machine_judge(byref(self._handle), data, len(data), byref(told))
         if status:
             self._refuse(status, told.broken, told.offset, data)
-        return Judged(told.energy, told.halts == 1)
+        return Judged(told.energy, told.halts == 1, told.active, told.high == 1, told.changed)
 
     def why(self, commands: Commands) -> List[str]:
         """Returns the lines that say why a step of these commands is refused, and none if it is not; makes no step.

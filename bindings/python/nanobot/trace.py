@@ -4,7 +4,7 @@ from __future__ import annotations
 
 from typing import Iterator, List, NamedTuple, Optional, Sequence, Tuple
 
-from .commands import SIZES, Command, Fill, Flip, GFill, GVoid, Void, command_at
+from .commands import SIZES, Command, Fill, GFill, GVoid, Void, command_at
 from .errors import BrokenRule, Ended, NanobotError, WrongCount
 from .geometry import region, volume
 from .machine import Bot, Machine, Source, bytes_of
@@ -119,17 +119,12 @@ def _work(order: Order) -> int:
     return COSTS[order.command.word] + 2 * moved
 
 
-def _changes(machine: Machine, orders: Sequence[Order], work: int, full: int) -> Tuple[int, int]:
-    """How many voxels a step filled and voided that was made, by its cost beside upkeep and moves: of a voxel that is filled 12 or, if it
-    was full, 6, and of one that is voided -12 or, if it was void, 3. `full` voxels were full before."""
+def _changes(orders: Sequence[Order], work: int, changed: int) -> Tuple[int, int]:
+    """How many voxels a step filled and voided that changed so many, by its cost beside upkeep and moves: of a voxel that is filled 12 or, if
+    it was full, 6, and of one that is voided -12 or, if it was void, 3."""
     to_fill, to_void = _regions(orders)
-    if not to_void:
-        return (work - 6 * to_fill) // 6, 0
-    if not to_fill:
-        return 0, (3 * to_void - work) // 15
-    more = machine.count() - full
-    voided = (6 * to_fill + 3 * to_void + 6 * more - work) // 9
-    return more + voided, voided
+    filled = (work - 6 * to_fill - 3 * to_void + 15 * changed) // 21
+    return filled, changed - filled
 
 
 def _raise_why(machine: Machine, refused: Optional[NanobotError]) -> None:
@@ -154,7 +149,7 @@ def steps(
     with Machine(source, resolution=resolution, light=light) as machine:
         player = Player(machine, data)
         _raise_why(machine, player.play(max(0, first - 1)))
-        before, offset, full = machine.state, player.offset, machine.count()
+        before, offset = machine.state, player.offset
         active, energy, high = before.active, before.energy, before.high
         while active:
             orders, end = orders_at(data, offset, machine.bots())
@@ -163,7 +158,6 @@ def steps(
             made = machine.step(data[offset:end])
             upkeep = (30 if high else 3) * before.resolution**3 + 20 * active
             cost = made.energy - energy
-            filled, voided = _changes(machine, orders, cost - upkeep - sum(map(_work, orders)), full)
+            filled, voided = _changes(orders, cost - upkeep - sum(map(_work, orders)), made.changed)
             yield TracedStep(made.steps, offset, tuple(orders), cost, made.energy, high, made.active, filled, voided)
-            offset, active, energy, full = end, made.active, made.energy, full + filled - voided
-            high ^= sum(isinstance(it.command, Flip) for it in orders) % 2 == 1
+            offset, active, energy, high = end, made.active, made.energy, made.high

@@ -24,8 +24,8 @@ MOVE, FILL_BESIDE, FILL_ABOVE, SPLIT = b"\x34\x10", b"\x73", b"\x83", b"\x75\x05
 class Steps(unittest.TestCase):
     def test_a_step_costs_its_upkeep(self):
         with Machine(resolution=20) as machine:
-            self.assertEqual(machine.step(WAIT), (3 * 8000 + 20, 1, 1))
-            self.assertEqual(machine.step(FLIP), (2 * (3 * 8000 + 20), 2, 1))
+            self.assertEqual(machine.step(WAIT), (3 * 8000 + 20, 1, 1, False, 0))
+            self.assertEqual(machine.step(FLIP), (2 * (3 * 8000 + 20), 2, 1, True, 0))
             self.assertEqual(machine.step(WAIT).energy, 2 * (3 * 8000 + 20) + 30 * 8000 + 20)
             self.assertTrue(machine.state.high)
 
@@ -74,6 +74,14 @@ class Steps(unittest.TestCase):
             with self.assertRaises(nanobot.BrokenRule) as caught:
                 machine.step(b"\x72")
             self.assertEqual(caught.exception.rule, 15)
+
+
+class Telling(unittest.TestCase):
+    def test_harmonics_and_how_many_voxels_changed(self):
+        for notes in (0, 5):
+            with Machine(resolution=4, notes=notes) as machine:
+                told = [machine.step(it)[3:] for it in (FILL_BESIDE, FILL_BESIDE, FLIP, bytes(nanobot.Void(0, 0, 1)))]
+                self.assertEqual(told, [(False, 1), (False, 0), (True, 0), (True, 1)])
 
 
 class Playing(unittest.TestCase):
@@ -127,8 +135,8 @@ class Playing(unittest.TestCase):
 class Judging(unittest.TestCase):
     def test_a_step_that_is_judged_is_not_made(self):
         with Machine(resolution=4, notes=1) as machine:
-            self.assertEqual(machine.judge(FILL_BESIDE), (3 * 64 + 20 + 12, False))
-            self.assertEqual(machine.judge(HALT), (3 * 64 + 20, True))
+            self.assertEqual(machine.judge(FILL_BESIDE), (3 * 64 + 20 + 12, False, 1, False, 1))
+            self.assertEqual(machine.judge(HALT), (3 * 64 + 20, True, 0, False, 0))
             with self.assertRaises(nanobot.BrokenRule) as caught:
                 machine.judge(FILL_ABOVE)
             self.assertEqual((caught.exception.rule, caught.exception.at), (12, (0, 1, 0)))

@@ -47,12 +47,15 @@ pub enum Profile {
     Light,
 }
 
-/// Where a machine stands after a step: the energy so far, the steps made, and how many bots are active.
+/// Where a machine stands after a step: the energy so far, the steps made, how many bots are active, whether harmonics are high; and how
+/// many voxels the step changed.
 #[derive(Clone, Copy, PartialEq, Eq, Debug)]
 pub struct Step {
     pub energy: i64,
     pub steps: u32,
     pub active: u32,
+    pub high: bool,
+    pub changed: u32,
 }
 
 /// How far a trace was played: the steps that were made, of the first `used` bytes, and where the machine stands after them. `refused`
@@ -68,11 +71,15 @@ pub struct Played {
     pub refused: Option<StepError>,
 }
 
-/// What a step would come to: the energy that the machine would have, and whether no bot would be left.
+/// What a step would come to: the energy that the machine would have, whether no bot would be left, how many bots would be active, whether
+/// harmonics would be high, and how many voxels would change.
 #[derive(Clone, Copy, PartialEq, Eq, Debug)]
 pub struct Judged {
     pub energy: i64,
     pub halts: bool,
+    pub active: u32,
+    pub high: bool,
+    pub changed: u32,
 }
 
 /// Where a machine stands. So many of its last steps can be taken back.
@@ -156,6 +163,8 @@ impl Machine {
             energy: told.energy,
             steps: told.steps,
             active: told.active,
+            high: told.high == 1,
+            changed: told.changed,
         })
     }
 
@@ -187,17 +196,19 @@ impl Machine {
         let mut told = sys::Judged::default();
         // SAFETY: each pointer is that of a slice or a reference.
         let status = unsafe { sys::nanobot_machine_judge(&mut self.handle, commands.as_ptr(), commands.len(), &mut told) };
-        let active = if status == sys::COUNT { self.state().active } else { 0 };
         let refused = sys::Step {
             offset: told.offset,
             broken: told.broken,
-            active,
+            active: told.active,
             ..sys::Step::default()
         };
         errors::stepped(status, &refused)?;
         Ok(Judged {
             energy: told.energy,
             halts: told.halts == 1,
+            active: told.active,
+            high: told.high == 1,
+            changed: told.changed,
         })
     }
 

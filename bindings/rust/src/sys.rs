@@ -61,6 +61,8 @@ pub struct Step {
     pub steps: u32,
     pub active: u32,
     pub broken: Broken,
+    pub high: u32,
+    pub changed: u32,
 }
 
 #[repr(C)]
@@ -83,6 +85,9 @@ pub struct Judged {
     pub offset: u64,
     pub halts: u32,
     pub broken: Broken,
+    pub active: u32,
+    pub high: u32,
+    pub changed: u32,
 }
 
 #[repr(C)]

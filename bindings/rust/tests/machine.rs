@@ -90,15 +90,27 @@ fn a_machine_moves_to_another_thread() {
 #[test]
 fn a_step_that_is_judged_is_not_made() {
     let mut machine = Machine::empty(4, Profile::Full, 1).unwrap();
-    let judged = |energy, halts| Ok(Judged { energy, halts });
-    assert_eq!(machine.judge(FILL_BESIDE), judged(3 * 64 + 20 + 12, false));
-    assert_eq!(machine.judge(HALT), judged(3 * 64 + 20, true));
+    let judged = |energy, active, changed| Ok(Judged { energy, halts: active == 0, active, high: false, changed });
+    assert_eq!(machine.judge(FILL_BESIDE), judged(3 * 64 + 20 + 12, 1, 1));
+    assert_eq!(machine.judge(HALT), judged(3 * 64 + 20, 0, 0));
     assert!(matches!(machine.judge(FILL_ABOVE), Err(StepError::Broken(Broken { rule: Rule::Ungrounded, .. }))));
     assert_eq!(machine.judge(&[]), Err(StepError::WrongCount { active: 1 }));
     assert_eq!(machine.judge(&[4]), Err(StepError::BadCommands { offset: 0 }));
     assert_eq!((machine.state().steps, machine.state().noted, machine.count()), (0, 0, 0));
     machine.step(FILL_BESIDE).unwrap();
-    assert_eq!(machine.judge(WAIT), judged(2 * (3 * 64 + 20) + 12, false));
+    assert_eq!(machine.judge(WAIT), judged(2 * (3 * 64 + 20) + 12, 1, 0));
+}
+
+#[test]
+fn a_step_tells_harmonics_and_how_many_voxels_changed() {
+    for notes in [0, 5] {
+        let mut machine = Machine::empty(4, Profile::Full, notes).unwrap();
+        let mut told = |commands: &[u8]| machine.step(commands).map(|it| (it.high, it.changed)).unwrap();
+        assert_eq!(told(FILL_BESIDE), (false, 1));
+        assert_eq!(told(FILL_BESIDE), (false, 0));
+        assert_eq!(told(&[0xfd]), (true, 0));
+        assert_eq!(told(VOID_BESIDE), (true, 1));
+    }
 }
 
 #[test]

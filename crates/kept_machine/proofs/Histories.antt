@@ -9,7 +9,7 @@ use Rattle.nano_spec.specs.Matrix.{Matrix}
 use Rattle.nano_spec.specs.Next.{Goes, Next}
 use Rattle.nano_spec.specs.State.{State, opening}
 use Rattle.nano_spec.specs.Verdict.{Run, VerdictOf, goes}
-use Rattle.step_machine.specs.declared.machine.StepOk.{StepOk}
+use Rattle.kept_machine.specs.declared.done.StepDone.{StepDone}
 use Rattle.kept_machine.specs.Calls.{BeginsTrace, IsMade, IsTakenBack}
 use Rattle.kept_machine.specs.History.{IsLedTo, RunsThrough, by_copy, by_keep, by_start, by_step, by_undo}
 use Rattle.kept_machine.specs.Kept.{Instant, Kept, kept_opening, present, trace_with, trace_without}
@@ -117,7 +117,7 @@ module _ (source : Matrix) (profile : Profile) where
       begun : (t : List Command) (o : Option (List Command)) → o ≡ Some t → o ≡ Some [] → t ≡ []
       begun t o e f = cc
 
-  stepped : (old k : Kept) (commands : List Command) (ok : StepOk) → Story from old → IsMade old commands k ok
+  stepped : (old k : Kept) (commands : List Command) (ok : StepDone) → Story from old → IsMade old commands k ok
       → Story from k
   stepped old k commands ok s made =
       let all : List Instant = old.past ++ present old ∷ [] in

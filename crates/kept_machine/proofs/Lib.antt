@@ -1,6 +1,8 @@
+mod Changing
 mod Differences
 mod Histories
 pub mod Notes
+mod OneVoxel
 pub mod Standing
 pub mod Steps
 mod Traces

@@ -1,6 +1,7 @@
 -- Notes one after another, and the instants that they tell.
-use Rattle.std.proofs.Common.{◌≡◌, ℕ, zero, suc, ◌-◌, refl, sym, ◌∙◌, ap, subst, arith, List, [], ◌∷◌, ◌++◌, length, take, drop}
+use Rattle.std.proofs.Common.{◌≡◌, ℕ, zero, suc, ◌-◌, ◌≤◌, refl, sym, ◌∙◌, ap, subst, arith, List, [], ◌∷◌, ◌++◌, length, take, drop}
 use Rattle.std.specs.Prelude.{None, Some, slice_get}
+use Rattle.std.proofs.lemmas.List.{drop_all}
 use Rattle.circular_buffer.specs.Buffer.{keep_last}
 use Rattle.step_machine.specs.Undoing.{MayUndo}
 use Rattle.step_machine.specs.declared.undo.Undo.{Undo}
@@ -72,3 +73,15 @@ none_last {X} (y ∷ z ∷ xs) h =
   where
     more : z ∷ xs ≡ [] → ⊥
     more e = cc
+
+-- ---- where none is kept
+
+empty_of : {X : Type 0} (xs : List X) → length xs ≤ 0 → xs ≡ []
+empty_of [] few = refl
+empty_of (x ∷ xs) few = absurd (omega arith)
+
+pub none_noted : (p : Instant) (notes : List Undo) (past : List Instant) (room : ℕ) → room ≡ 0 → length notes ≤ room
+    → instants_of p notes ≡ keep_last room past
+none_noted p notes past room none few =
+    ap (instants_of p) (empty_of notes (omega (arith, none, few)))
+    ∙ sym (ap (λ n. keep_last n past) none ∙ drop_all (length past - 0) past (omega arith))

@@ -13,9 +13,10 @@ use Rattle.step_machine.specs.declared.machine.StepOk.{StepOk}
 use Rattle.step_machine.specs.declared.machine.StepFault.{StepFault}
 use Rattle.step_machine.specs.declared.machine.StepFault.TheVariants as fault
 use Rattle.step_machine.specs.declared.undo.Undo.{Undo}
+use Rattle.kept_machine.specs.declared.done.StepDone.{StepDone}
 use Rattle.kept_machine.specs.declared.fault.NoStep.{NoStep}
 use Rattle.kept_machine.specs.declared.fault.NoStep.TheVariants as no_step
-use Rattle.kept_machine.specs.Calls.{IsMade, IsTakenBack, Tries, WouldAnswer, no_step_of}
+use Rattle.kept_machine.specs.Calls.{IsMade, IsTakenBack, Tells, Tries, WouldAnswer, no_step_of}
 use Rattle.kept_machine.specs.Kept.{CanBeTakenBack, CanStep, CannotStep, Instant, IsNoted, Kept, instant_before, instant_of, instants_of, kept_of, trace_with, present, trace_without}
 use Rattle.kept_machine.proofs.Notes.{back_last, back_less, back_more, instants_last, instants_more, last_split}
 use Rattle.kept_machine.proofs.Standing.{looks_the_same}
@@ -32,8 +33,8 @@ opened_is_kept source profile room m notes is none formed = record {
 
 -- ---- a step that was made and noted
 
-module _ (v w : Situation) (notes rest : Buffer Undo) (commands : List Command) (undo : Undo) (ok : StepOk) (began ended : ℕ)
-    (kept : IsNoted v notes) (stepped : Stepped v w commands (Ok ok) began ended) (before : state_before w.state undo ≡ v.state) (counted : undo.steps ≡ v.steps)
+module _ (v w : Situation) (notes rest : Buffer Undo) (commands : List Command) (undo : Undo) (ok : StepOk) (made : StepDone) (began ended : ℕ)
+    (kept : IsNoted v notes) (tells : Tells v.state w.state made) (stepped : Stepped v w commands (Ok ok) began ended) (before : state_before w.state undo ≡ v.state) (counted : undo.steps ≡ v.steps)
     (may : IsWellFormed v.state → MayUndo w.state undo) (pushed : rest ≡ buffer (keep_last notes.capacity (notes.items ++ undo ∷ [])) notes.capacity) where
   before_is : instant_before (instant_of w) undo ≡ instant_of v
   before_is = λ i. record { state = before i; steps = counted i }
@@ -58,7 +59,7 @@ module _ (v w : Situation) (notes rest : Buffer Undo) (commands : List Command) 
       ∙ ap (keep_last notes.capacity) (instants_more (instant_of w) notes.items undo ∙ (λ i. instants_of (before_is i) notes.items ++ before_is i ∷ [])))
 
   pub made_noted : CanStep v commands → (trace : Option (List Command))
-      → IsMade (kept_of v notes trace) commands (kept_of w rest (trace_with trace commands)) ok
+      → IsMade (kept_of v notes trace) commands (kept_of w rest (trace_with trace commands)) made
   made_noted can trace = record {
     some = can.some;
     each = can.each;
@@ -67,8 +68,7 @@ module _ (v w : Situation) (notes rest : Buffer Undo) (commands : List Command) 
     past = past_is;
     room = ap (λ (b : Buffer Undo). b.capacity) pushed;
     trace = refl;
-    energy = stepped.energy;
-    halted = stepped.halted;
+    tells = tells;
   }
 
 -- ---- a step that was not made
@@ -82,12 +82,13 @@ module _ (v w : Situation) (notes : Buffer Undo) (commands : List Command) where
   refused_so trace fault.Spent began ended can stepped = looks_the_same v w notes stepped.stays.0 stepped.stays.1 trace
 
   -- what is answered to a step that is made and then taken back
-  pub would_make : (trace : Option (List Command)) (ok : StepOk) (began ended : ℕ) → CanStep v commands
-      → Stepped v w commands (Ok ok) began ended → WouldAnswer (kept_of v notes trace) commands (Ok ok)
-  would_make trace ok began ended can stepped =
+  pub would_make : (trace : Option (List Command)) (ok : StepOk) (made : StepDone) (began ended : ℕ)
+      → CanStep v commands → Tells v.state w.state made → Stepped v w commands (Ok ok) began ended
+      → WouldAnswer (kept_of v notes trace) commands (Ok made)
+  would_make trace ok made began ended can tells stepped =
       let kept : Kept = kept_of v notes trace in (
         record { state = w.state; steps = w.steps; past = keep_last kept.room (kept.past ++ present kept ∷ []); room = kept.room; trace = trace_with trace commands },
-        record { some = can.some; each = can.each; goes = stepped.goes; counted = stepped.counted; past = refl; room = refl; trace = refl; energy = stepped.energy; halted = stepped.halted },
+        record { some = can.some; each = can.each; goes = stepped.goes; counted = stepped.counted; past = refl; room = refl; trace = refl; tells = tells },
       )
 
 -- the commands cannot be judged, and nothing was done

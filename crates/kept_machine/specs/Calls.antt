@@ -1,5 +1,5 @@
 -- What the calls of a kept machine answer and do.
-use Rattle.std.specs.Prelude.{◌≡◌, ◌≢◌, ℕ, ◌+◌, ◌≤◌, ◌↔◌, ◌⊎◌, Bool, true, false, List, [], ◌∷◌, ◌++◌, length, count_by, Option, Some, Result, Ok, Err, ⊤}
+use Rattle.std.specs.Prelude.{◌≡◌, ◌≢◌, ℕ, ◌+◌, ◌≤◌, ◌⊎◌, Bool, true, false, List, [], ◌∷◌, ◌++◌, length, count_by, Option, Some, Result, Ok, Err, ⊤}
 use Rattle.circular_buffer.specs.Buffer.{keep_last}
 use Rattle.vox_geom.specs.declared.coordinate.Coord.{Coord}
 use Rattle.vox_geom.specs.Space.{IsInSpace}
@@ -10,11 +10,12 @@ use Rattle.nano_spec.specs.Level.{Level}
 use Rattle.nano_spec.specs.Matrix.{Matrix, all_of, differ_at}
 use Rattle.nano_spec.specs.Model.{model}
 use Rattle.nano_spec.specs.Next.{Breaks, Goes, Next}
+use Rattle.nano_spec.specs.State.{State}
 use Rattle.model_file.specs.declared.fault.ModelFault.{ModelFault}
 use Rattle.model_file.specs.Fault.{Judges, ReadsModel}
-use Rattle.step_machine.specs.declared.machine.StepOk.{StepOk}
 use Rattle.step_machine.specs.declared.machine.StepFault.{StepFault}
 use Rattle.step_machine.specs.declared.machine.StepFault.TheVariants as fault
+use Rattle.kept_machine.specs.declared.done.StepDone.{StepDone}
 use Rattle.kept_machine.specs.declared.fault.NoLevel.{NoLevel}
 use Rattle.kept_machine.specs.declared.fault.NoLevel.TheVariants as no_level
 use Rattle.kept_machine.specs.declared.fault.NoStep.{NoStep}
@@ -32,9 +33,21 @@ OpensFile bytes profile room answer =
     ((m : Matrix) × (model bytes ≡ Ok m) × Opens m profile room answer)
     ⊎ ((fault : ModelFault) × (answer ≡ Err fault) × ReadsModel (model bytes) (Err fault))
 
+-- at how many coordinates two matrices of one resolution differ
+abbrev pub difference_count : Matrix → Matrix → ℕ
+difference_count m target = count_by (differ_at m target) (all_of m)
+
+-- what is told of a step from one state to another: the energy so far, the harmonics after it, how many bots are left, and
+-- how many voxels became full or void
+pub record Tells (old new : State) (made : StepDone) : Type 0 where
+  pub energy : made.energy ≡ new.energy
+  pub harmonics : made.harmonics ≡ new.harmonics
+  pub active : made.active ≡ length new.bots
+  pub changed : made.changed ≡ difference_count old.matrix new.matrix
+
 -- a step was made of one command for each bot: it leads to the definition's state, and can be taken back as long as it
 -- is among the last that are kept
-pub record IsMade (old : Kept) (commands : List Command) (new : Kept) (ok : StepOk) : Type 0 where
+pub record IsMade (old : Kept) (commands : List Command) (new : Kept) (made : StepDone) : Type 0 where
   pub some : 1 ≤ length old.state.bots
   pub each : length commands ≡ length old.state.bots
   pub goes : Next old.state commands (old.steps + 1) (Goes new.state)
@@ -43,13 +56,11 @@ pub record IsMade (old : Kept) (commands : List Command) (new : Kept) (ok : Step
   pub room : new.room ≡ old.room
   -- its commands go to the end of the trace
   pub trace : new.trace ≡ trace_with old.trace commands
-  -- the answer tells the energy so far, and whether no bot is left
-  pub energy : ok.energy ≡ new.state.energy
-  pub halted : ok.halted ≡ true ↔ new.state.bots ≡ []
+  pub tells : Tells old.state new.state made
 
 -- what a step answers and does: one that is not made leaves all as it was
-abbrev pub Tries : Kept → List Command → Kept → Result StepOk NoStep → Type 0
-Tries old commands new (Ok ok) = IsMade old commands new ok
+abbrev pub Tries : Kept → List Command → Kept → Result StepDone NoStep → Type 0
+Tries old commands new (Ok made) = IsMade old commands new made
 Tries old commands new (Err (no_step.Broken b)) =
     (new ≡ old) × (length commands ≡ length old.state.bots) × Next old.state commands (old.steps + 1) (Breaks b)
 Tries old commands new (Err no_step.Ended) = (new ≡ old) × (old.state.bots ≡ [])
@@ -60,7 +71,7 @@ Tries old commands new (Err no_step.Long) =
 Tries old commands new (Err no_step.Memory) = new ≡ old
 
 -- what a step would answer: the same as one that is made, whichever machine that would leave
-abbrev pub WouldAnswer : Kept → List Command → Result StepOk NoStep → Type 0
+abbrev pub WouldAnswer : Kept → List Command → Result StepDone NoStep → Type 0
 WouldAnswer k commands answer = (next : Kept) × Tries k commands next answer
 
 -- what is answered where the machine of the system does not make a step
@@ -85,10 +96,6 @@ Undoes old new false = (new ≡ old) × (old.past ≡ [])
 abbrev pub BeginsTrace : Kept → Kept → Bool → Type 0
 BeginsTrace old new true = (old.steps ≡ 0) × (new ≡ record old { trace = Some [] })
 BeginsTrace old new false = (1 ≤ old.steps) × (new ≡ old)
-
--- at how many coordinates two matrices of one resolution differ
-abbrev pub difference_count : Matrix → Matrix → ℕ
-difference_count m target = count_by (differ_at m target) (all_of m)
 
 -- the level that the definition gives, or that the coordinate is out of space
 abbrev pub TellsLevel : Matrix → Coord → Result (Option ℕ) NoLevel → Type 0

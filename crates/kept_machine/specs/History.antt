@@ -5,7 +5,7 @@ use Rattle.nano_spec.specs.declared.outcomes.Verdict.{Verdict}
 use Rattle.nano_spec.specs.declared.system.Profile.{Profile}
 use Rattle.nano_spec.specs.Matrix.{Matrix}
 use Rattle.nano_spec.specs.Verdict.{Run, VerdictOf}
-use Rattle.step_machine.specs.declared.machine.StepOk.{StepOk}
+use Rattle.kept_machine.specs.declared.done.StepDone.{StepDone}
 use Rattle.kept_machine.specs.Calls.{BeginsTrace, IsMade, IsTakenBack}
 use Rattle.kept_machine.specs.Kept.{Kept, kept_opening}
 
@@ -14,7 +14,7 @@ use Rattle.kept_machine.specs.Kept.{Kept, kept_opening}
 pub data IsLedTo (source : Matrix) (profile : Profile) : Kept → Type 0 where
   by_start : {k : Kept} (room : ℕ) → k ≡ kept_opening source profile room → IsLedTo source profile k
   by_keep : {k : Kept} (old : Kept) → IsLedTo source profile old → BeginsTrace old k true → IsLedTo source profile k
-  by_step : {k : Kept} (old : Kept) (commands : List Command) (ok : StepOk) → IsLedTo source profile old
+  by_step : {k : Kept} (old : Kept) (commands : List Command) (ok : StepDone) → IsLedTo source profile old
       → IsMade old commands k ok → IsLedTo source profile k
   by_undo : {k : Kept} (old : Kept) → IsLedTo source profile old → IsTakenBack old k → IsLedTo source profile k
   by_copy : {k : Kept} (old : Kept) → IsLedTo source profile old → k ≡ record old { past = [] }

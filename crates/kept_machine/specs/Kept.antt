@@ -7,8 +7,8 @@ use Rattle.nano_spec.specs.State.{IsWellFormed, State, opening}
 use Rattle.nano_spec.specs.declared.system.Profile.{Profile}
 use Rattle.step_machine.specs.Situation.{Situation}
 use Rattle.step_machine.specs.Undoing.{MayUndo, state_before}
-use Rattle.step_machine.specs.declared.machine.StepOk.{StepOk}
 use Rattle.step_machine.specs.declared.undo.Undo.{Undo}
+use Rattle.kept_machine.specs.declared.done.StepDone.{StepDone}
 use Rattle.kept_machine.specs.declared.fault.NoStep.{NoStep}
 use Rattle.kept_machine.specs.declared.fault.NoStep.TheVariants as no_step
 use Rattle.kept_machine.specs.declared.trace.Trace.{Trace}
@@ -51,7 +51,7 @@ abbrev pub trace_of : Trace → Option (List Command)
 trace_of t = cond t.is_kept (Some t.commands.items) None
 
 -- a trace after a step that was tried
-abbrev pub tried : Option (List Command) → List Command → Result StepOk NoStep → Option (List Command)
+abbrev pub tried : Option (List Command) → List Command → Result StepDone NoStep → Option (List Command)
 tried trace commands (Ok ok) = trace_with trace commands
 tried trace commands (Err fault) = trace
 

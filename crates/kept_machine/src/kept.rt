@@ -5,6 +5,7 @@ ghost use Rattle.nano_spec.specs.Verdict.{first_difference};
 ghost use Rattle.kept_machine.specs.Calls.{BeginsTrace, Opens, OpensFile, TellsLevel, Tries, Undoes, WouldAnswer, difference_count};
 
 use crate::counting::count_differences;
+use crate::done::StepDone;
 use crate::fault::{NoLevel, NoStep};
 use crate::reading::{count_full, find_level, is_full_at, least_difference};
 use crate::stepping::{copy_of, judge_step, start_over, step_and_keep, undo_and_shorten};
@@ -15,7 +16,7 @@ use nano_spec::{Bot, Command, Harmonics, Profile, opening_is_well_formed};
 use std::alloc::Global;
 use std::marker::{Brand, Model};
 use std::sync::ledger::Blank;
-use step_machine::{Machine, StepOk, Undo};
+use step_machine::{Machine, Undo};
 use vox_geom::{Coord, Memory};
 use vox_planes::Planes;
 
@@ -105,7 +106,7 @@ impl KeptMachine {
     }
 
     /// Makes a step: the i-th command is for the i-th active bot.
-    pub fn step(&mut self, commands: &[Command]) -> Result<StepOk, NoStep>
+    pub fn step(&mut self, commands: &[Command]) -> Result<StepDone, NoStep>
         ensures { Tries self.old commands.now self.new result }
     {
         step_and_keep::<Brand>(
@@ -119,7 +120,7 @@ impl KeptMachine {
     }
 
     /// What the step would come to. The machine stays as it is.
-    pub fn judge(&mut self, commands: &[Command]) -> Result<StepOk, NoStep>
+    pub fn judge(&mut self, commands: &[Command]) -> Result<StepDone, NoStep>
         ensures stays { self.new ≡ self.old }
         ensures answer { WouldAnswer self.old commands.now result }
     {

@@ -3,13 +3,16 @@
 #![tactic(auto)]
 
 mod counting;
+mod done;
 mod fault;
 mod kept;
 mod laws;
+mod one_voxel;
 mod reading;
 mod stepping;
 mod trace;
 
+pub use done::StepDone;
 pub use fault::{NoLevel, NoStep};
 pub use kept::KeptMachine;
 pub use laws::a_trace_leads_to_its_machine;

@@ -17,7 +17,7 @@ use vox_geom::{Coord, Steps};
 use vox_planes::Planes;
 
 /// Whether a coordinate is in space.
-fn is_in_space(c: Coord, r: u16) -> bool
+pub(crate) fn is_in_space(c: Coord, r: u16) -> bool
     ensures { MatchBool result (IsInSpace r c) (IsInSpace r c → ⊥) }
 {
     c.x < r && c.y < r && c.z < r

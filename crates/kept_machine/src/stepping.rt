@@ -1,4 +1,5 @@
 //! Machines that are started, that make steps, and that take steps back, by a counter of touches that nobody reads.
+ghost use Rattle.std.specs.List.{list_any};
 ghost use Rattle.std.specs.Prelude.{◌≡◌, ◌≤◌, [], List, Option, false, length, IfOk, IfErr, Err};
 ghost use Rattle.vox_geom.specs.Counting.{IsBlankOf};
 ghost use Rattle.circular_buffer.specs.Buffer.{Buffer, buffer};
@@ -6,11 +7,15 @@ ghost use Rattle.nano_spec.specs.declared.commands.Command.{Command as Spoken};
 ghost use Rattle.nano_spec.specs.Legal.{IsLegal};
 ghost use Rattle.nano_spec.specs.State.{IsWellFormed, opening};
 ghost use Rattle.model_file.specs.Fault.{Judges};
+ghost use Rattle.step_machine.specs.Edits.{is_edit};
 ghost use Rattle.step_machine.specs.declared.undo.Undo.{Undo as Note};
 ghost use Rattle.kept_machine.specs.Calls.{Tries, Undoes, WouldAnswer};
+ghost use Rattle.kept_machine.specs.OneVoxel.{IsOnlyVoxel};
 ghost use Rattle.kept_machine.specs.Kept.{CanStep, CannotStep, IsNoted, kept_of, trace_of, tried, undone};
 
+use crate::done::{StepDone, count_changed, done, some_edit};
 use crate::fault::NoStep;
+use crate::one_voxel::{changed_voxels, only_voxel};
 use crate::trace::Trace;
 use circular_buffer::HeapCircularBuffer;
 use counter_permit::CounterPermit;
@@ -18,8 +23,8 @@ use model_file::{ModelFault, legal};
 use nano_spec::{Command, Profile, opening_is_well_formed};
 use std::alloc::Global;
 use std::sync::ledger::{Blank, Ledger};
-use step_machine::{Machine, StepOk, Undo};
-use vox_geom::{Memory, Steps};
+use step_machine::{Machine, Undo};
+use vox_geom::{Coord, Memory, Steps};
 use vox_planes::Planes;
 
 /// How many steps a machine makes.
@@ -107,23 +112,51 @@ fn ready(machine: &Machine, commands: &[Command]) -> Result<(), NoStep>
     Ok(())
 }
 
-/// Makes a step of which no note is kept.
+/// Makes a step that changes no voxel, and of which no note is kept.
 fn step_once<L: Ledger>(
     machine: &mut Machine,
     notes: &HeapCircularBuffer<Undo>,
     commands: &[Command],
     steps: &mut Steps<L>,
-) -> Result<StepOk, NoStep>
+) -> Result<StepDone, NoStep>
     requires kept { IsNoted machine.old notes.now }
     requires can { CanStep machine.old commands.now }
     requires none { notes.now.capacity ≡ 0 }
+    requires still { list_any is_edit commands.now ≡ false }
     ensures kept { IsNoted machine.new notes.now }
     ensures tries { (trace : Option (List Spoken)) → Tries (kept_of machine.old notes.now trace) commands.now
         (kept_of machine.new notes.now (tried trace commands.now result)) result }
 {
     let _room = notes.capacity();
     match machine.step(commands, steps) {
-        Ok(ok) => Ok(ok),
+        Ok(_) => Ok(done(machine, 0)),
+        Err(fault) => Err(NoStep::of(fault)),
+    }
+}
+
+/// Makes the step of the only bot that fills or voids this voxel, and of which no note is kept.
+fn step_one_voxel<L: Ledger>(
+    machine: &mut Machine,
+    notes: &HeapCircularBuffer<Undo>,
+    commands: &[Command],
+    c: Coord,
+    steps: &mut Steps<L>,
+) -> Result<StepDone, NoStep>
+    requires kept { IsNoted machine.old notes.now }
+    requires can { CanStep machine.old commands.now }
+    requires none { notes.now.capacity ≡ 0 }
+    requires one { IsOnlyVoxel machine.old.state commands.now c }
+    ensures kept { IsNoted machine.new notes.now }
+    ensures tries { (trace : Option (List Spoken)) → Tries (kept_of machine.old notes.now trace) commands.now
+        (kept_of machine.new notes.now (tried trace commands.now result)) result }
+{
+    let _room = notes.capacity();
+    let before = machine.matrix().full_at(c, steps);
+    match machine.step(commands, steps) {
+        Ok(_) => {
+            let after = machine.matrix().full_at(c, steps);
+            Ok(done(machine, changed_voxels(before, after)))
+        }
         Err(fault) => Err(NoStep::of(fault)),
     }
 }
@@ -134,7 +167,7 @@ fn step_and_note<L: Ledger>(
     notes: &mut HeapCircularBuffer<Undo>,
     commands: &[Command],
     steps: &mut Steps<L>,
-) -> Result<StepOk, NoStep>
+) -> Result<StepDone, NoStep>
     requires kept { IsNoted machine.old notes.old }
     requires can { CanStep machine.old commands.now }
     ensures kept { IsNoted machine.new notes.new }
@@ -144,22 +177,46 @@ fn step_and_note<L: Ledger>(
     machine.recall();
     let order = machine.leaders(commands);
     match machine.step_noted(commands, order.as_slice(), steps) {
-        Ok((ok, undo)) => {
+        Ok((_, undo)) => {
+            let changed = count_changed(machine.matrix(), &undo);
             notes.push_back(undo);
-            Ok(ok)
+            Ok(done(machine, changed))
         }
         Err(fault) => Err(NoStep::of(fault)),
     }
 }
 
-/// Makes a step, and notes it where notes are kept.
+/// Makes a step of which no note is kept: one is made, and dropped, only to count the voxels of a step that changes several.
+fn step_unnoted<L: Ledger>(
+    machine: &mut Machine,
+    notes: &mut HeapCircularBuffer<Undo>,
+    commands: &[Command],
+    steps: &mut Steps<L>,
+) -> Result<StepDone, NoStep>
+    requires kept { IsNoted machine.old notes.old }
+    requires can { CanStep machine.old commands.now }
+    requires none { notes.old.capacity ≡ 0 }
+    ensures kept { IsNoted machine.new notes.new }
+    ensures tries { (trace : Option (List Spoken)) → Tries (kept_of machine.old notes.old trace) commands.now
+        (kept_of machine.new notes.new (tried trace commands.now result)) result }
+{
+    if let Some(c) = only_voxel(machine, commands) {
+        return step_one_voxel(machine, notes, commands, c, steps);
+    }
+    if some_edit(commands) {
+        return step_and_note(machine, notes, commands, steps);
+    }
+    step_once(machine, notes, commands, steps)
+}
+
+/// Makes a step, and notes it if notes are kept.
 fn try_step<L: Ledger>(
     alloc: Global,
     machine: &mut Machine,
     notes: &mut HeapCircularBuffer<Undo>,
     commands: &[Command],
     blank: Blank,
-) -> Result<StepOk, NoStep>
+) -> Result<StepDone, NoStep>
     requires kept { IsNoted machine.old notes.old }
     requires blank { IsBlankOf blank L.name L.parts }
     ensures kept { IsNoted machine.new notes.new }
@@ -169,10 +226,10 @@ fn try_step<L: Ledger>(
     ready(machine, commands)?;
     let mut steps = Steps::<L>::new(blank, CounterPermit);
     stand_again(alloc, machine, &mut steps)?;
-    if notes.capacity() == 0 {
-        return step_once(machine, notes, commands, &mut steps);
+    if notes.capacity() > 0 {
+        return step_and_note(machine, notes, commands, &mut steps);
     }
-    step_and_note(machine, notes, commands, &mut steps)
+    step_unnoted(machine, notes, commands, &mut steps)
 }
 
 /// Makes a step, notes it where notes are kept, and adds its commands to the trace, if they are kept.
@@ -183,7 +240,7 @@ pub(crate) fn step_and_keep<L: Ledger>(
     trace: &mut Trace,
     commands: &[Command],
     blank: Blank,
-) -> Result<StepOk, NoStep>
+) -> Result<StepDone, NoStep>
     requires kept { IsNoted machine.old notes.old }
     requires blank { IsBlankOf blank L.name L.parts }
     ensures kept { IsNoted machine.new notes.new }
@@ -192,7 +249,7 @@ pub(crate) fn step_and_keep<L: Ledger>(
 {
     trace.lengthen(commands)?;
     match try_step::<L>(alloc, machine, notes, commands, blank) {
-        Ok(ok) => Ok(ok),
+        Ok(made) => Ok(made),
         Err(fault) => {
             trace.shorten(commands.len());
             Err(fault)
@@ -205,7 +262,7 @@ fn step_and_restore<L: Ledger>(
     machine: &mut Machine,
     commands: &[Command],
     steps: &mut Steps<L>,
-) -> Result<StepOk, NoStep>
+) -> Result<StepDone, NoStep>
     requires well_formed { IsWellFormed machine.old.state }
     requires can { CanStep machine.old commands.now }
     ensures state { machine.new.state ≡ machine.old.state }
@@ -216,10 +273,12 @@ fn step_and_restore<L: Ledger>(
     machine.recall();
     let order = machine.leaders(commands);
     match machine.step_noted(commands, order.as_slice(), steps) {
-        Ok((ok, undo)) => {
+        Ok((_, undo)) => {
+            let changed = count_changed(machine.matrix(), &undo);
+            let made = done(machine, changed);
             // The step is back whatever this answers: a machine that is spent is made anew by its next call.
             let _ = machine.restore(&undo, steps);
-            Ok(ok)
+            Ok(made)
         }
         Err(fault) => Err(NoStep::of(fault)),
     }
@@ -231,7 +290,7 @@ pub(crate) fn judge_step<L: Ledger>(
     machine: &mut Machine,
     commands: &[Command],
     blank: Blank,
-) -> Result<StepOk, NoStep>
+) -> Result<StepDone, NoStep>
     requires well_formed { IsWellFormed machine.old.state }
     requires blank { IsBlankOf blank L.name L.parts }
     ensures state { machine.new.state ≡ machine.old.state }

@@ -77,20 +77,21 @@ IsCopied (Some k) before after status =
 
 -- commands make a step or none
 abbrev pub StepComesTo : Kept → List Command → Kept → StepAnswer → Type 0
-StepComesTo old commands new (Made ok) = Tries old commands new (Ok ok)
+StepComesTo old commands new (Made made) = Tries old commands new (Ok made)
 StepComesTo old commands new (Refused fault) = Tries old commands new (Err fault)
 StepComesTo old commands new (Unread fault) = ⊥
 
 -- the bytes spell commands that make a step, or commands that make none, or they are no commands
 abbrev pub ComesTo : Kept → List ℕ → Kept → StepAnswer → Type 0
-ComesTo old bytes new (Made ok) = (commands : List Command) × Cutting bytes commands × Tries old commands new (Ok ok)
+ComesTo old bytes new (Made made) =
+    (commands : List Command) × Cutting bytes commands × Tries old commands new (Ok made)
 ComesTo old bytes new (Refused fault) =
     (commands : List Command) × Cutting bytes commands × Tries old commands new (Err fault)
 ComesTo old bytes new (Unread fault) = (new ≡ old) × Decodes bytes (Err fault)
 
 -- the status of a step
 abbrev pub status_of_step : StepAnswer → ℕ
-status_of_step (Made ok) = DONE
+status_of_step (Made made) = DONE
 status_of_step (Refused (no_step.Broken b)) = BROKEN
 status_of_step (Refused no_step.Ended) = ENDED
 status_of_step (Refused no_step.Count) = COUNT
@@ -110,6 +111,16 @@ offset_by (Unread (trace_fault.Refused (Bad offset))) = offset
 offset_by (Unread (trace_fault.Refused (Cut offset))) = offset
 offset_by _ = 0
 
+-- how many voxels a step changes
+abbrev pub changed_by : StepAnswer → ℕ
+changed_by (Made made) = made.changed
+changed_by _ = 0
+
+-- the number of the harmonics
+abbrev pub high_of : Harmonics → ℕ
+high_of Low = 0
+high_of High = 1
+
 -- where the machine stands after a step, and why the step was refused
 abbrev pub step_told : Kept → StepAnswer → StepTold
 step_told k answer =
@@ -119,6 +130,8 @@ step_told k answer =
       steps = k.steps;
       active = length k.state.bots;
       broken = rule_told answer;
+      high = high_of k.state.harmonics;
+      changed = changed_by answer;
     }
 
 -- a step is made of the bytes
@@ -140,11 +153,6 @@ IsUndone (Some old) new status =
     (k : Kept) × (new ≡ Some k) × (answer : Bool) × Undoes old k answer × (status ≡ status_of_undo answer)
 
 -- ---- what is told
-
--- the number of the harmonics
-abbrev pub high_of : Harmonics → ℕ
-high_of Low = 0
-high_of High = 1
 
 -- where a machine stands
 abbrev pub machine_told : Kept → MachineTold

@@ -1,12 +1,13 @@
 -- Steps that are judged and not made.
-use Rattle.std.specs.Prelude.{◌≡◌, ℕ, ℤ, List, Option, Some, None}
+use Rattle.std.specs.Prelude.{◌≡◌, ◌==◌, ℕ, ℤ, List, length, Option, Some, None}
 use Rattle.nano_spec.specs.declared.commands.Command.{Command}
+use Rattle.nano_spec.specs.declared.system.Harmonics.{Harmonics}
 use Rattle.kept_machine.specs.Kept.{Kept}
 use Rattle.machine_c.specs.declared.status.TheConstants.{NO_MACHINE}
 use Rattle.machine_c.specs.declared.stepping.StepAnswer.{StepAnswer}
 use Rattle.machine_c.specs.declared.stepping.StepAnswer.TheVariants.{Made}
 use Rattle.machine_c.specs.declared.told.JudgedTold.{JudgedTold}
-use Rattle.machine_c.specs.Calls.{ComesTo, StepComesTo, bit_of, offset_by, rule_told, status_of_step}
+use Rattle.machine_c.specs.Calls.{ComesTo, StepComesTo, bit_of, changed_by, high_of, offset_by, rule_told, status_of_step}
 
 -- what a step of commands, or of the bytes of commands, would come to: the same as one that is made, whichever machine
 -- that would leave
@@ -16,14 +17,23 @@ WouldStep k commands answer = (next : Kept) × StepComesTo k commands next answe
 abbrev pub WouldComeTo : Kept → List ℕ → StepAnswer → Type 0
 WouldComeTo k bytes answer = (next : Kept) × ComesTo k bytes next answer
 
--- the energy that the machine would have, which a step that would be refused leaves as it is
+-- the energy, the active bots and the harmonics that the machine would have, which a step that would be refused leaves as
+-- they are
 abbrev pub energy_by : ℤ → StepAnswer → ℤ
-energy_by energy (Made ok) = ok.energy
+energy_by energy (Made made) = made.energy
 energy_by energy _ = energy
+
+abbrev pub active_by : ℕ → StepAnswer → ℕ
+active_by active (Made made) = made.active
+active_by active _ = active
+
+abbrev pub harmonics_by : Harmonics → StepAnswer → Harmonics
+harmonics_by harmonics (Made made) = made.harmonics
+harmonics_by harmonics _ = harmonics
 
 -- 1 where the step would leave no bot
 abbrev pub halts_by : StepAnswer → ℕ
-halts_by (Made ok) = bit_of ok.halted
+halts_by (Made made) = bit_of (made.active == 0)
 halts_by _ = 0
 
 -- what is told of a step that is judged
@@ -34,6 +44,9 @@ judged_told k answer =
       offset = offset_by answer;
       halts = halts_by answer;
       broken = rule_told answer;
+      active = active_by (length k.state.bots) answer;
+      high = high_of (harmonics_by k.state.harmonics answer);
+      changed = changed_by answer;
     }
 
 -- a step of the bytes is judged

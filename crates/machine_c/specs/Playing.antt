@@ -2,7 +2,6 @@
 use Rattle.std.specs.Prelude.{◌≡◌, ◌≢◌, ℕ, ◌+◌, ◌-◌, ◌≤◌, ◌<◌, ◌⊎◌, List, [], ◌++◌, length, take, drop, Option, Some, None, Err, ⊤}
 use Rattle.nano_spec.specs.declared.commands.Command.{Command}
 use Rattle.nano_spec.specs.Cutting.{Cutting, Decoding}
-use Rattle.step_machine.specs.declared.machine.StepOk.{StepOk}
 use Rattle.trace_codec.specs.declared.fault.TraceFault.{TraceFault}
 use Rattle.trace_codec.specs.declared.fault.TraceFault.TheVariants as trace_fault
 use Rattle.trace_codec.specs.declared.fault.TraceRefusal.{TraceRefusal}
@@ -10,6 +9,7 @@ use Rattle.trace_codec.specs.declared.fault.TraceRefusal.TheVariants.{Bad, Cut}
 use Rattle.trace_codec.specs.Whole.{why_no_trace}
 use Rattle.kept_machine.specs.Calls.{Tries}
 use Rattle.kept_machine.specs.Kept.{Kept}
+use Rattle.kept_machine.specs.declared.done.StepDone.{StepDone}
 use Rattle.machine_c.specs.declared.playing.Played.{Played}
 use Rattle.machine_c.specs.declared.status.TheConstants.{DONE, NO_MACHINE}
 use Rattle.machine_c.specs.declared.stepping.StepAnswer.{StepAnswer}
@@ -26,13 +26,13 @@ use Rattle.machine_c.specs.Told.{none_broken}
 pub data ArePlayed (old : Kept) : List ℕ → ℕ → Kept → Type 0 where
   none : {bytes : List ℕ} {count : ℕ} {new : Kept} → bytes ≡ [] → count ≡ 0 → new ≡ old → ArePlayed old bytes count new
   one_more : {bytes : List ℕ} {count : ℕ} {new : Kept} (before here : List ℕ) (others : ℕ) (between : Kept)
-      (ok : StepOk) → ArePlayed old before others between → ComesTo between here new (Made ok) → bytes ≡ before ++ here
-      → count ≡ others + 1 → ArePlayed old bytes count new
+      (made : StepDone) → ArePlayed old before others between → ComesTo between here new (Made made)
+      → bytes ≡ before ++ here → count ≡ others + 1 → ArePlayed old bytes count new
 
 -- a step is made of the first bytes, so many
 abbrev pub IsFrontMade : Kept → List ℕ → ℕ → Kept → Type 0
 IsFrontMade old bytes size new =
-    (size ≤ length bytes) × (ok : StepOk) × ComesTo old (take size bytes) new (Made ok)
+    (size ≤ length bytes) × (made : StepDone) × ComesTo old (take size bytes) new (Made made)
 
 -- ---- the step that is not made
 
@@ -58,7 +58,7 @@ IsUnread bytes active trace_fault.Memory = ⊤
 
 -- why the step that begins the bytes is not made: a step of its commands is refused, or its bytes are no commands
 abbrev pub StopsAt : Kept → List ℕ → StepAnswer → Type 0
-StopsAt k bytes (Made ok) = ⊥
+StopsAt k bytes (Made made) = ⊥
 StopsAt k bytes (Refused fault) =
     (here : List ℕ) × (commands : List Command) × IsNextStep bytes (length k.state.bots) here commands
     × Tries k commands k (Err fault)

@@ -1,13 +1,14 @@
 //! Steps that are judged and not made.
 ghost use Rattle.std.specs.Prelude.{◌≡◌};
-ghost use Rattle.machine_c.specs.Judging.{IsJudged, WouldComeTo, WouldStep, energy_by, halts_by};
+ghost use Rattle.machine_c.specs.Judging.{IsJudged, WouldComeTo, WouldStep, active_by, energy_by, halts_by, harmonics_by, judged_told};
 
 use crate::handle::Handle;
+use crate::reading::high;
 use crate::status::NO_MACHINE;
 use crate::stepping::{StepAnswer, only_command};
 use crate::told::JudgedTold;
 use kept_machine::KeptMachine;
-use nano_spec::Command;
+use nano_spec::{Command, Harmonics};
 use std::alloc::Global;
 use trace_codec::decode_all;
 
@@ -17,7 +18,7 @@ fn judge_of(machine: &mut KeptMachine, commands: &[Command]) -> StepAnswer
     ensures answer { WouldStep machine.old commands.now result }
 {
     match machine.judge(commands) {
-        Ok(ok) => StepAnswer::Made(ok),
+        Ok(made) => StepAnswer::Made(made),
         Err(fault) => StepAnswer::Refused(fault),
     }
 }
@@ -36,23 +37,58 @@ fn judge_by(alloc: Global, machine: &mut KeptMachine, bytes: &[u8]) -> StepAnswe
     }
 }
 
-/// The energy that the machine would have: that of the step, or its own where the step would be refused.
-fn energy_after(energy: i64, answer: StepAnswer) -> i64
-    ensures { result ≡ energy_by energy answer }
-{
-    match answer {
-        StepAnswer::Made(ok) => ok.energy,
-        StepAnswer::Refused(_) | StepAnswer::Unread(_) => energy,
-    }
-}
-
 /// 1 where the step would leave no bot.
 fn halts(answer: StepAnswer) -> u32
     ensures { result ≡ halts_by answer }
 {
     match answer {
-        StepAnswer::Made(ok) => u32::from(ok.halted),
+        StepAnswer::Made(made) => u32::from(made.active == 0),
         StepAnswer::Refused(_) | StepAnswer::Unread(_) => 0,
+    }
+}
+
+/// The energy that the machine would have: that of the step, or its own where the step would be refused.
+fn energy_after(energy: i64, answer: StepAnswer) -> i64
+    ensures { result ≡ energy_by energy answer }
+{
+    match answer {
+        StepAnswer::Made(made) => made.energy,
+        StepAnswer::Refused(_) | StepAnswer::Unread(_) => energy,
+    }
+}
+
+/// How many bots would be active.
+fn active_after(active: u8, answer: StepAnswer) -> u8
+    ensures { result ≡ active_by active answer }
+{
+    match answer {
+        StepAnswer::Made(made) => made.active,
+        StepAnswer::Refused(_) | StepAnswer::Unread(_) => active,
+    }
+}
+
+/// The harmonics that the machine would have.
+fn harmonics_after(harmonics: Harmonics, answer: StepAnswer) -> Harmonics
+    ensures { result ≡ harmonics_by harmonics answer }
+{
+    match answer {
+        StepAnswer::Made(made) => made.harmonics,
+        StepAnswer::Refused(_) | StepAnswer::Unread(_) => harmonics,
+    }
+}
+
+/// What is told of a step that would come to this answer.
+fn told_of(machine: &KeptMachine, answer: StepAnswer) -> JudgedTold
+    ensures { result ≡ judged_told machine.now answer }
+{
+    JudgedTold {
+        energy: energy_after(machine.energy(), answer),
+        offset: answer.offset(),
+        halts: halts(answer),
+        broken: answer.broken_rule(),
+        active: u32::from(active_after(machine.active(), answer)),
+        high: high(harmonics_after(machine.harmonics(), answer)),
+        changed: answer.changed(),
     }
 }
 
@@ -70,14 +106,8 @@ pub extern "C" fn nanobot_machine_judge(
     let Some(mut machine) = handle.take(alloc) else {
         return NO_MACHINE;
     };
-    let energy = machine.energy();
     let answer = judge_by(alloc, &mut machine, commands);
-    *told = JudgedTold {
-        energy: energy_after(energy, answer),
-        offset: answer.offset(),
-        halts: halts(answer),
-        broken: answer.broken_rule(),
-    };
+    *told = told_of(&machine, answer);
     handle.put(machine);
     answer.status()
 }

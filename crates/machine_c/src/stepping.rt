@@ -1,22 +1,22 @@
 //! Steps that are made and taken back.
 ghost use Rattle.std.specs.Prelude.{◌≡◌, [], ◌∷◌, IfSome};
 ghost use Rattle.nano_spec.specs.Cutting.{Cutting};
-ghost use Rattle.machine_c.specs.Calls.{StepComesTo, ComesTo, IsStepped, IsUndone, rule_told, offset_by, status_of_step, status_of_undo};
+ghost use Rattle.machine_c.specs.Calls.{StepComesTo, ComesTo, IsStepped, IsUndone, changed_by, rule_told, offset_by, status_of_step, status_of_undo};
 
 use crate::handle::Handle;
+use crate::reading::high;
 use crate::status::{BROKEN, COMMANDS, COUNT, DONE, ENDED, LONG, MEMORY, NO_MACHINE, NO_NOTE};
 use crate::told::{BrokenTold, StepTold};
-use kept_machine::{KeptMachine, NoStep};
+use kept_machine::{KeptMachine, NoStep, StepDone};
 use nano_spec::Command;
 use std::alloc::Global;
-use step_machine::StepOk;
 use trace_codec::{One, TraceFault, TraceRefusal, decode_all, decode_one};
 
 /// What the bytes of a step come to.
 #[derive(Clone, Copy)]
 pub enum StepAnswer {
     /// The step was made.
-    Made(StepOk),
+    Made(StepDone),
     /// The commands of the bytes make no step.
     Refused(NoStep),
     /// The bytes are no commands.
@@ -60,6 +60,16 @@ impl StepAnswer {
             _ => 0,
         }
     }
+
+    /// How many voxels the step changes.
+    pub fn changed(self) -> u32
+        ensures { result ≡ changed_by self }
+    {
+        match self {
+            StepAnswer::Made(made) => made.changed,
+            StepAnswer::Refused(_) | StepAnswer::Unread(_) => 0,
+        }
+    }
 }
 
 /// The command that the bytes spell, where they spell one alone.
@@ -82,7 +92,7 @@ fn step_of(machine: &mut KeptMachine, commands: &[Command]) -> StepAnswer
     ensures { StepComesTo machine.old commands.now machine.new result }
 {
     match machine.step(commands) {
-        Ok(ok) => StepAnswer::Made(ok),
+        Ok(made) => StepAnswer::Made(made),
         Err(fault) => StepAnswer::Refused(fault),
     }
 }
@@ -121,6 +131,8 @@ pub extern "C" fn nanobot_machine_step(
         steps: machine.steps_done(),
         active: u32::from(machine.active()),
         broken: answer.broken_rule(),
+        high: high(machine.harmonics()),
+        changed: answer.changed(),
     };
     handle.put(machine);
     answer.status()

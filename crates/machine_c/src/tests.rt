@@ -65,6 +65,8 @@ fn assert_steps(
         steps: 7,
         active: 7,
         broken: BrokenTold::none(),
+        high: 7,
+        changed: 7,
     };
     assert_eq!(rt;
         nanobot_machine_step(alloc, handle, commands, &mut told),
@@ -88,6 +90,9 @@ fn assert_judged(
         offset: 7,
         halts: 7,
         broken: BrokenTold::none(),
+        active: 7,
+        high: 7,
+        changed: 7,
     };
     assert_eq!(rt;
         nanobot_machine_judge(alloc, handle, commands, &mut told),

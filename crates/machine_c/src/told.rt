@@ -19,7 +19,7 @@ pub struct BrokenTold {
 }
 
 /// What a step came to: where the machine stands after the call, in its energy, steps and active bots; the first byte of the
-/// command that is bad or cut; and the rule that is broken.
+/// command that is bad or cut; the rule that is broken; 1 under high harmonics; and how many voxels the step changed.
 #[repr(C)]
 #[derive(Clone, Copy)]
 pub struct StepTold {
@@ -28,6 +28,8 @@ pub struct StepTold {
     pub steps: u32,
     pub active: u32,
     pub broken: BrokenTold,
+    pub high: u32,
+    pub changed: u32,
 }
 
 /// How far a trace was played: where the machine stands after the call, in its energy, steps, active bots and harmonics; how many
@@ -46,7 +48,8 @@ pub struct PlayedTold {
 }
 
 /// What a step would come to: the energy that the machine would have, the first byte of the command that is bad or cut, 1 where no
-/// bot would be left, and the rule that would be broken.
+/// bot would be left, the rule that would be broken, how many bots would be active, 1 under the harmonics of High then, and how
+/// many voxels would change.
 #[repr(C)]
 #[derive(Clone, Copy)]
 pub struct JudgedTold {
@@ -54,6 +57,9 @@ pub struct JudgedTold {
     pub offset: u64,
     pub halts: u32,
     pub broken: BrokenTold,
+    pub active: u32,
+    pub high: u32,
+    pub changed: u32,
 }
 
 /// Where a machine stands. `high` is 1 under high harmonics, and `noted` steps can be taken back.

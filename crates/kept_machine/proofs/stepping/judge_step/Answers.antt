@@ -1,6 +1,6 @@
 use Rattle.std.proofs.Common.{◌≡◌, refl, sym, subst, rules}
 use Rattle.std.specs.Prelude.{Result, Err}
-use Rattle.step_machine.specs.declared.machine.StepOk.{StepOk}
+use Rattle.kept_machine.specs.declared.done.StepDone.{StepDone}
 use Rattle.kept_machine.specs.declared.fault.NoStep.{NoStep}
 use Rattle.kept_machine.specs.declared.fault.NoStep.TheVariants as no_step
 use Rattle.kept_machine.specs.Calls.{WouldAnswer}
@@ -12,13 +12,13 @@ use Rattle.kept_machine.proofs.stepping.judge_step.Goals as goal
 pub returns-in_err-ready-clause-answer : goal.returns-in_err-ready-clause-answer
 returns-in_err-ready-clause-answer g c = λ notes trace.
     let is : c.from_residual.result ≡ Err c.in_err-ready.field-0.0 = search rules in
-    subst (λ (r : Result StepOk NoStep). WouldAnswer (kept_of c.args.machine.now notes trace) c.args.commands.now r) (sym is)
+    subst (λ (r : Result StepDone NoStep). WouldAnswer (kept_of c.args.machine.now notes trace) c.args.commands.now r) (sym is)
     (kept_of c.args.machine.now notes trace, cannot_so (kept_of c.args.machine.now notes trace) c.args.machine.now notes trace c.args.commands.now c.in_err-ready.field-0.0 refl c.in_err-ready.ensures.cannot)
 
 pub returns-in_err-stand_again-clause-answer : goal.returns-in_err-stand_again-clause-answer
 returns-in_err-stand_again-clause-answer g c = λ notes trace.
     let is : c.from_residual-in_err-stand_again.result ≡ Err no_step.Memory = search rules in
-    subst (λ (r : Result StepOk NoStep). WouldAnswer (kept_of c.args.machine.now notes trace) c.args.commands.now r) (sym is)
+    subst (λ (r : Result StepDone NoStep). WouldAnswer (kept_of c.args.machine.now notes trace) c.args.commands.now r) (sym is)
     (kept_of c.args.machine.now notes trace, refl)
 
 pub returns-clause-answer : goal.returns-clause-answer
