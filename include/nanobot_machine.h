@@ -47,7 +47,8 @@ enum {
     NANOBOT_DIFFERS = 18,    /* the matrix is not the target */
     NANOBOT_RESOLUTION = 19, /* the target is of another resolution */
     NANOBOT_BEGUN = 20,      /* the machine has made steps, so its trace cannot begin here */
-    NANOBOT_NO_TRACE = 21    /* no trace is kept */
+    NANOBOT_NO_TRACE = 21,   /* no trace is kept */
+    NANOBOT_NO_TARGET = 22   /* the machine has no target */
 };
 
 /* Returns what a status of either header means; "" for a number that is none.
@@ -77,7 +78,8 @@ static inline const char *nanobot_status_text(uint32_t status)
                                         "the matrix is not the target",
                                         "the target is of another resolution",
                                         "steps were made before",
-                                        "no trace is kept"};
+                                        "no trace is kept",
+                                        "the machine has no target"};
     return status < sizeof texts / sizeof texts[0] ? texts[status] : "";
 }
 
@@ -220,7 +222,7 @@ uint32_t nanobot_machine_judge(nanobot_machine *machine, const uint8_t *commands
  */
 uint32_t nanobot_machine_undo(nanobot_machine *machine);
 
-/* Starts a second machine where the first one stands, with a trace of its own if one is kept. No step can be taken back in it until it
+/* Starts a second machine where the first one stands, with the same target, and with a trace of its own if one is kept. No step can be taken back in it until it
  * makes some. It takes as long as a start over such a model.
  *
  *     nanobot_machine other = {0};
@@ -292,6 +294,21 @@ uint32_t nanobot_machine_compare(nanobot_machine *machine, const uint8_t *target
  */
 uint32_t nanobot_machine_differences(nanobot_machine *machine, const uint8_t *target, size_t target_size, uint32_t *count,
                                      nanobot_refusal *refusal);
+
+/* Makes the model of these bytes the machine's target, in place of the one before, and tells at how many coordinates they differ, as
+ * nanobot_machine_differences does. From here on each step and each undo updates that number, at the cost of a comparison for each
+ * voxel that it changes. A copy has the same target. A refused call leaves the target as it was.
+ *
+ *     nanobot_machine_aim(&machine, model, model_size, &left, &refusal);
+ */
+uint32_t nanobot_machine_aim(nanobot_machine *machine, const uint8_t *target, size_t target_size, uint32_t *count,
+                             nanobot_refusal *refusal);
+
+/* Tells at how many coordinates the matrix differs from the machine's target; nothing is counted anew. NANOBOT_NO_TARGET: it has none.
+ *
+ *     if (nanobot_machine_remaining(&machine, &left) == NANOBOT_DONE) printf("%u voxels to go\n", (unsigned)left);
+ */
+uint32_t nanobot_machine_remaining(nanobot_machine *machine, uint32_t *count);
 
 /* Keeps the trace of the machine from here on: the commands of all steps that are made and not taken back. NANOBOT_BEGUN where steps
  * were made before. A start keeps none.

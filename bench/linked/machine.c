@@ -65,8 +65,20 @@ static double differences(nanobot_machine *machine, uint32_t resolution)
     began = now();
     for (int i = 0; i < 10; i++)
         must(nanobot_machine_differences(machine, target, size, &count, &refusal));
+    began = now() - began;
+    must(nanobot_machine_aim(machine, target, size, &count, &refusal));
     free(target);
-    return 1e2 * (now() - began);
+    return 1e2 * began;
+}
+
+/* Nanoseconds to ask how many voxels differ from a target that was set, of a million times. */
+static double remaining(nanobot_machine *machine)
+{
+    uint32_t count;
+    double began = now();
+    for (int i = 0; i < 1000000; i++)
+        must(nanobot_machine_remaining(machine, &count));
+    return 1e3 * (now() - began);
 }
 
 /* A machine over a model whose lower half is full but for its border. */
@@ -125,6 +137,7 @@ int main(int count, char **words)
     printf(", judge a move %.0f ns, a fill %.0f ns", judgements(&machine, there, 2), judgements(&machine, fill, 1));
     start_half(&half, resolution);
     printf(", count differences %.3f ms", differences(&half, resolution));
+    printf(", those kept %.0f ns", remaining(&half));
     printf(", copy %.2f ms, half full %.2f ms", copies(&machine), copies(&half));
     if (resolution >= BOTS) {
         split(&machine);

@@ -66,23 +66,22 @@ static size_t list_moves(struct move *moves)
 
 static bool better(struct score a, struct score b) { return a.wrong != b.wrong ? a.wrong < b.wrong : a.energy < b.energy; }
 
-static struct score score_of(nanobot_machine *machine, struct bytes target)
+static struct score score_of(nanobot_machine *machine)
 {
-    nanobot_refusal refusal;
     nanobot_state state;
     struct score score;
-    must(nanobot_machine_differences(machine, target.at, target.size, &score.wrong, &refusal));
+    must(nanobot_machine_remaining(machine, &score.wrong));
     must(nanobot_machine_tell(machine, &state));
     score.energy = state.energy;
     return score;
 }
 
 /* The best score that so many moves lead to; the first of them is told. */
-static struct score search(nanobot_machine *machine, struct bytes target, const struct move *moves, size_t count, int depth, size_t *first)
+static struct score search(nanobot_machine *machine, const struct move *moves, size_t count, int depth, size_t *first)
 {
     struct score best = {UINT32_MAX, 0};
     if (depth == 0)
-        return score_of(machine, target);
+        return score_of(machine);
     for (size_t i = 0; i < count; i++) {
         nanobot_judged judged;
         nanobot_step step;
@@ -93,7 +92,7 @@ static struct score search(nanobot_machine *machine, struct bytes target, const 
         must(nanobot_machine_step(machine, moves[i].bytes, moves[i].size, &step));
         if (step.energy != judged.energy)
             abort();
-        score = search(machine, target, moves, count, depth - 1, &next);
+        score = search(machine, moves, count, depth - 1, &next);
         must(nanobot_machine_undo(machine));
         if (better(score, best)) {
             best = score;
@@ -161,23 +160,25 @@ int main(int count, char **words)
     nanobot_machine made = {0}, scout = {0};
     nanobot_judged judged;
     nanobot_step step;
+    nanobot_refusal refusal;
     uint8_t buffer[MOST_BYTES];
     struct bytes target, trace = {buffer, 0};
     size_t kinds = list_moves(moves), first = 0;
-    uint32_t resolution, status;
+    uint32_t resolution, wrong, status;
     if (count != 3)
         return NANOBOT_WORDS;
     target = bytes_of(words[1]);
     resolution = target.size > 2 && target.at[0] == 0xff ? target.at[1] * 256u + target.at[2] : target.at[0];
     must(nanobot_machine_start_empty(resolution, false, NOTES, &made));
     must(nanobot_machine_keep(&made));
+    must(nanobot_machine_aim(&made, target.at, target.size, &wrong, &refusal));
     must(nanobot_machine_copy(&made, &scout));
-    for (int i = 0; i < STEPS && score_of(&made, target).wrong > 0; i++) {
-        search(&scout, target, moves, kinds, 2, &first);
+    for (int i = 0; i < STEPS && score_of(&made).wrong > 0; i++) {
+        search(&scout, moves, kinds, 2, &first);
         must(nanobot_machine_step(&made, moves[first].bytes, moves[first].size, &step));
         must(nanobot_machine_step(&scout, moves[first].bytes, moves[first].size, &step));
     }
-    if (score_of(&made, target).wrong == 0 && nanobot_machine_judge(&made, halt.bytes, halt.size, &judged) == NANOBOT_DONE) {
+    if (score_of(&made).wrong == 0 && nanobot_machine_judge(&made, halt.bytes, halt.size, &judged) == NANOBOT_DONE) {
         must(nanobot_machine_step(&made, halt.bytes, halt.size, &step));
         must(nanobot_machine_step(&scout, halt.bytes, halt.size, &step));
     }

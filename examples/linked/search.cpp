@@ -58,11 +58,16 @@ public:
         return told;
     }
     void undo() { must(nanobot_machine_undo(&handle)); }
-    Score score(const Bytes &target)
+    void aim(const Bytes &target)
     {
         nanobot_refusal refusal;
         std::uint32_t wrong;
-        must(nanobot_machine_differences(&handle, target.data(), target.size(), &wrong, &refusal));
+        must(nanobot_machine_aim(&handle, target.data(), target.size(), &wrong, &refusal));
+    }
+    Score score()
+    {
+        std::uint32_t wrong;
+        must(nanobot_machine_remaining(&handle, &wrong));
         return {wrong, state().energy};
     }
     Bytes trace()
@@ -118,17 +123,17 @@ static std::vector<Bytes> list_moves()
 }
 
 // The best score that so many moves lead to, and the first of them.
-static std::pair<Score, const Bytes *> search(Machine &machine, const Bytes &target, const std::vector<Bytes> &moves, int depth)
+static std::pair<Score, const Bytes *> search(Machine &machine, const std::vector<Bytes> &moves, int depth)
 {
     std::pair<Score, const Bytes *> best = {{std::numeric_limits<std::uint32_t>::max(), 0}, nullptr};
     if (depth == 0)
-        return {machine.score(target), nullptr};
+        return {machine.score(), nullptr};
     for (const Bytes &move : moves) {
         nanobot_judged judged;
         if (!machine.judge(move, judged))
             continue;
         require(machine.step(move).energy == judged.energy);
-        Score score = search(machine, target, moves, depth - 1).first;
+        Score score = search(machine, moves, depth - 1).first;
         machine.undo();
         if (score < best.first)
             best = {score, &move};
@@ -211,14 +216,16 @@ int main(int count, char **words)
     const Bytes target((std::istreambuf_iterator<char>(file)), {}), halt = {0xff};
     std::uint32_t resolution = target.size() > 2 && target[0] == 0xff ? target[1] * 256u + target[2] : target[0];
     const std::vector<Bytes> moves = list_moves();
-    Machine made(resolution), scout(made);
+    Machine made(resolution);
+    made.aim(target);
+    Machine scout(made);
     nanobot_judged judged;
-    for (int i = 0; i < steps && made.score(target).first > 0; i++) {
-        const Bytes &best = *search(scout, target, moves, 2).second;
+    for (int i = 0; i < steps && made.score().first > 0; i++) {
+        const Bytes &best = *search(scout, moves, 2).second;
         made.step(best);
         scout.step(best);
     }
-    if (made.score(target).first == 0 && made.judge(halt, judged)) {
+    if (made.score().first == 0 && made.judge(halt, judged)) {
         made.step(halt);
         scout.step(halt);
     }

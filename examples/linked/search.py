@@ -25,9 +25,9 @@ def moves():
 MOVES = list(moves())
 
 
-def score(machine, target):
+def score(machine):
     """How good a state is: first how many voxels are wrong, then the energy."""
-    return machine.differences(target), machine.energy
+    return machine.remaining, machine.energy
 
 
 def accepts(machine, commands):
@@ -38,17 +38,17 @@ def accepts(machine, commands):
         return None
 
 
-def search(machine, target, depth):
+def search(machine, depth):
     """The best score that so many moves lead to, and the first of them."""
     if depth == 0:
-        return score(machine, target), None
+        return score(machine), None
     best = (2**32, 0), None
     for move in MOVES:
         judged = accepts(machine, move)
         if not judged:
             continue
         assert machine.step(move).energy == judged.energy
-        found = search(machine, target, depth - 1)[0]
+        found = search(machine, depth - 1)[0]
         machine.undo()
         if found < best[0]:
             best = found, move
@@ -67,13 +67,15 @@ def main():
         sys.exit(__doc__)
     target = Model.read(sys.argv[1])
     with Machine(resolution=target.resolution, notes=2, trace=True) as made, made.copy() as scout:
+        made.aim(target)
+        scout.aim(target)
         for _ in range(STEPS):
-            if not made.differences(target):
+            if not made.remaining:
                 break
-            move = search(scout, target, 2)[1]
+            move = search(scout, 2)[1]
             made.step(move)
             scout.step(move)
-        if not made.differences(target) and accepts(made, HALT):
+        if not made.remaining and accepts(made, HALT):
             made.step(HALT)
             scout.step(HALT)
         trace = made.trace()

@@ -139,6 +139,8 @@ static void count(void) { nanobot_machine_count(&machine, &number); }
 static void matrix(void) { nanobot_machine_model(&machine, room, ROOM, &size); }
 static void compare(void) { nanobot_machine_compare(&machine, model, model_size, &place, &refusal); }
 static void differences(void) { nanobot_machine_differences(&machine, model, model_size, &number, &refusal); }
+static void aim(void) { nanobot_machine_aim(&machine, model, model_size, &number, &refusal); }
+static void remaining(void) { nanobot_machine_remaining(&machine, &number); }
 static void keep(void) { nanobot_machine_keep(&machine); }
 static void kept(void) { nanobot_machine_trace(&machine, room, ROOM, &size); }
 static void end(void) { nanobot_machine_end(&machine); }
@@ -164,6 +166,7 @@ static const struct {
     {"nanobot_machine_level", level, OTHER}, {"nanobot_machine_tell", tell, OTHER}, {"nanobot_machine_bots", bots, OTHER},
     {"nanobot_machine_full", full, OTHER}, {"nanobot_machine_count", count, OTHER}, {"nanobot_machine_model", matrix, OTHER},
     {"nanobot_machine_compare", compare, OTHER}, {"nanobot_machine_differences", differences, OTHER},
+    {"nanobot_machine_aim", aim, OTHER}, {"nanobot_machine_remaining", remaining, OTHER},
     {"nanobot_machine_keep", keep, OTHER}, {"nanobot_machine_trace", kept, OTHER}, {"nanobot_machine_end", end, OTHER},
     {"nanobot_commands", commands, OTHER}, {"nanobot_version", version, OTHER},
 };

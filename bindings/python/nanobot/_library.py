@@ -11,7 +11,7 @@ from typing import Any, Callable, Dict, List, Tuple
 NAME = "libnanobot.so"
 
 DONE, BROKEN, WORDS, MODEL, TRACE, MEMORY, TEXT, UNSUPPORTED, TOO_SMALL = 0, 1, 2, 3, 4, 7, 8, 9, 10
-NO_MACHINE, ENDED, COUNT, LONG, NO_NOTE, OUTSIDE, NO_LEVEL, DIFFERS, RESOLUTION, BEGUN, NO_TRACE = range(11, 22)
+NO_MACHINE, ENDED, COUNT, LONG, NO_NOTE, OUTSIDE, NO_LEVEL, DIFFERS, RESOLUTION, BEGUN, NO_TRACE, NO_TARGET = range(11, 23)
 
 
 class Handle(ctypes.Structure):
@@ -91,6 +91,8 @@ CALLS: Dict[str, List[Any]] = {
     "nanobot_machine_model": [MACHINE] + GIVEN,
     "nanobot_machine_compare": [MACHINE] + BYTES + [POINTER(Place), POINTER(Refusal)],
     "nanobot_machine_differences": [MACHINE] + BYTES + [POINTER(c_uint32), POINTER(Refusal)],
+    "nanobot_machine_aim": [MACHINE] + BYTES + [POINTER(c_uint32), POINTER(Refusal)],
+    "nanobot_machine_remaining": [MACHINE, POINTER(c_uint32)],
     "nanobot_machine_keep": [MACHINE],
     "nanobot_machine_trace": [MACHINE] + GIVEN,
     "nanobot_machine_end": [MACHINE],

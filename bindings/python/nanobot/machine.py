@@ -451,10 +451,31 @@ class Machine:
     def differences(self, target: Source) -> int:
         """Returns at how many coordinates the matrix and a target differ.
 
-        Takes and raises what `difference` does. It visits the whole matrix: 40 to 80 ms at resolution 250."""
+        Takes and raises what `difference` does. It visits the whole matrix: 40 to 80 ms at resolution 250. `aim` and `remaining` keep the
+        number up to date instead."""
         data, count, told = bytes_of(target, "the target"), c_uint32(), lib.Refusal()
         status = library.machine_differences(byref(self._handle), data, len(data), byref(count), byref(told))
         self._refuse_target(status, told, data)
+        return count.value
+
+    def aim(self, target: Source) -> int:
+        """Makes a model the target, in place of the one before, and returns at how many coordinates the matrix differs from it.
+
+        Takes and raises what `difference` does; if it raises, the target stays. Each step and each undo then updates `remaining`, at the
+        cost of a comparison for each voxel that it changes. A copy has the same target."""
+        data, count, told = bytes_of(target, "the target"), c_uint32(), lib.Refusal()
+        status = library.machine_aim(byref(self._handle), data, len(data), byref(count), byref(told))
+        self._refuse_target(status, told, data)
+        return count.value
+
+    @property
+    def remaining(self) -> Optional[int]:
+        """At how many coordinates the matrix differs from the target; None if `aim` set none. Nothing is counted anew."""
+        count = c_uint32()
+        status = library.machine_remaining(byref(self._handle), byref(count))
+        if status == lib.NO_TARGET:
+            return None
+        self._check(status)
         return count.value
 
     def keep(self) -> None:

@@ -290,6 +290,23 @@ class Models(unittest.TestCase):
             self.assertRaises(nanobot.OtherResolution, empty.difference, b"\x01\x00")
             self.assertRaises(nanobot.RefusedModel, empty.difference, b"\x03\x00")
 
+    def test_what_remains_of_a_target_is_kept(self):
+        target = b"\x03\x00\x04\x00\x00"
+        with Machine(resolution=3, notes=2) as machine:
+            self.assertIsNone(machine.remaining)
+            self.assertRaises(nanobot.OtherResolution, machine.aim, b"\x01\x00")
+            self.assertIsNone(machine.remaining)
+            self.assertEqual((machine.aim(target), machine.remaining), (1, 1))
+            machine.step(nanobot.Fill(1, 0, 1))
+            self.assertEqual(machine.remaining, 0)
+            machine.step(FILL_BESIDE)
+            with machine.copy() as other:
+                machine.undo()
+                machine.undo()
+                self.assertEqual((machine.remaining, other.remaining), (1, 1))
+                other.step(bytes(nanobot.Void(0, 0, 1)))
+                self.assertEqual((machine.remaining, other.remaining), (1, 0))
+
     def test_numbers_that_are_refused(self):
         for wrong in ({"resolution": 0}, {"resolution": 401}, {"resolution": 2, "notes": 4097}, {"resolution": 2, "notes": -1}):
             with self.assertRaises(ValueError):
@@ -308,6 +325,7 @@ class Descriptors(unittest.TestCase):
         "a judgement": lambda it: Machine(resolution=2).judge(it),
         "a comparison": lambda it: Machine(resolution=2).difference(it),
         "a count of differences": lambda it: Machine(resolution=2).differences(it),
+        "a target": lambda it: Machine(resolution=2).aim(it),
         "check": nanobot.check,
         "asm": nanobot.asm,
         "dis": nanobot.dis,

@@ -26,20 +26,20 @@ fn moves() -> Vec<Vec<u8>> {
     fills.chain(straight).collect()
 }
 
-fn score(machine: &mut Machine, target: &[u8]) -> Told<Score> {
-    Ok((machine.differences(target)?, machine.state().energy))
+fn score(machine: &mut Machine) -> Score {
+    (machine.remaining().unwrap_or(0), machine.state().energy)
 }
 
 /// The best score that so many moves lead to, and which of them is the first.
-fn search(machine: &mut Machine, target: &[u8], moves: &[Vec<u8>], depth: usize) -> Told<(Score, usize)> {
+fn search(machine: &mut Machine, moves: &[Vec<u8>], depth: usize) -> Told<(Score, usize)> {
     if depth == 0 {
-        return Ok((score(machine, target)?, 0));
+        return Ok((score(machine), 0));
     }
     let mut best = ((u32::MAX, 0), 0);
     for (number, commands) in moves.iter().enumerate() {
         let Ok(judged) = machine.judge(commands) else { continue };
         assert_eq!(machine.step(commands)?.energy, judged.energy);
-        let (found, _) = search(machine, target, moves, depth - 1)?;
+        let (found, _) = search(machine, moves, depth - 1)?;
         machine.undo()?;
         if found < best.0 {
             best = (found, number);
@@ -72,16 +72,17 @@ fn main() -> Told<ExitCode> {
     let moves = moves();
     let mut made = Machine::empty(resolution, Profile::Full, 2)?;
     made.keep_trace()?;
+    made.aim(&target)?;
     let mut scout = made.try_clone()?;
     for _ in 0..STEPS {
-        if made.differences(&target)? == 0 {
+        if made.remaining() == Some(0) {
             break;
         }
-        let (_, first) = search(&mut scout, &target, &moves, 2)?;
+        let (_, first) = search(&mut scout, &moves, 2)?;
         made.step(&moves[first])?;
         scout.step(&moves[first])?;
     }
-    if made.differences(&target)? == 0 && made.judge(HALT).is_ok() {
+    if made.remaining() == Some(0) && made.judge(HALT).is_ok() {
         made.step(HALT)?;
         scout.step(HALT)?;
     }

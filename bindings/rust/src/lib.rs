@@ -288,6 +288,24 @@ impl Machine {
         Ok(count)
     }
 
+    /// Makes the model of these bytes the target, and returns at how many coordinates the matrix differs from it. Each step and each
+    /// undo updates that number, which `remaining` returns.
+    pub fn aim(&mut self, target: &[u8]) -> Result<u32, TargetError> {
+        let (mut count, mut refusal) = (0, sys::Refusal::default());
+        // SAFETY: each pointer is that of a slice or a reference.
+        let status = unsafe { sys::nanobot_machine_aim(&mut self.handle, target.as_ptr(), target.len(), &mut count, &mut refusal) };
+        errors::differs(status, &refusal)?;
+        Ok(count)
+    }
+
+    /// At how many coordinates the matrix differs from the target; None without one. Nothing is counted anew.
+    pub fn remaining(&mut self) -> Option<u32> {
+        let mut count = 0;
+        // SAFETY: the pointers are those of two references.
+        let status = unsafe { sys::nanobot_machine_remaining(&mut self.handle, &mut count) };
+        (status == sys::DONE).then_some(count)
+    }
+
     /// Keeps the trace from here on, unless steps were made before.
     pub fn keep_trace(&mut self) -> Result<(), KeepError> {
         // SAFETY: the pointer is that of a reference.

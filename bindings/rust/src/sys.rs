@@ -139,6 +139,14 @@ extern "C" {
         place: *mut Place,
         refusal: *mut Refusal,
     ) -> u32;
+    pub fn nanobot_machine_aim(
+        machine: *mut Handle,
+        target: *const u8,
+        target_size: usize,
+        count: *mut u32,
+        refusal: *mut Refusal,
+    ) -> u32;
+    pub fn nanobot_machine_remaining(machine: *mut Handle, count: *mut u32) -> u32;
     pub fn nanobot_machine_differences(
         machine: *mut Handle,
         target: *const u8,

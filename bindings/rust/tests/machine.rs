@@ -167,6 +167,18 @@ fn a_model_is_given_back() {
 }
 
 #[test]
+fn what_remains_of_a_target_is_kept() {
+    let mut machine = Machine::empty(3, Profile::Full, 1).unwrap();
+    assert_eq!(machine.remaining(), None);
+    assert_eq!(machine.aim(&[1, 0]), Err(TargetError::Resolution));
+    assert_eq!((machine.aim(&[3, 0, 4, 0, 0]), machine.remaining()), (Ok(1), Some(1)));
+    machine.step(&[0x73]).unwrap();
+    let mut other = machine.try_clone().unwrap();
+    machine.undo().unwrap();
+    assert_eq!((machine.remaining(), other.remaining()), (Some(1), Some(2)));
+}
+
+#[test]
 fn the_library_is_that_of_the_crate() {
     assert_eq!((nanobot::version(), env!("CARGO_PKG_VERSION")), (900, "0.9.0"));
 }

@@ -33,7 +33,7 @@ use Rattle.kept_machine.proofs.Differences.{all_below, few_below}
 
 -- ---- by the note of the step
 
-apart_of : (cells : List Coord) → AllPairs ◌≢◌ cells → Apart cells
+pub apart_of : (cells : List Coord) → AllPairs ◌≢◌ cells → Apart cells
 apart_of [] h = tt
 apart_of (x ∷ xs) h =
     ((λ i. let place = in_place x x xs i in h zero (suc place.0) x (omega arith) (let below : place.0 < length xs = place.1 in omega arith) (sym place.2)), apart_of xs (λ i j d l k e. h (suc i) (suc j) d (omega arith) (omega arith) e))
@@ -58,23 +58,23 @@ module _ (m : Matrix) (undo : Undo) (h : HaveChanged m undo) where
   abbrev cells : List Coord
   cells = undo.voided.items ++ undo.filled.items
 
-  filled_is : (c : Coord) → In c undo.filled.items → IsInSpace m.resolution c × (is_full m c ≡ true)
+  pub filled_is : (c : Coord) → In c undo.filled.items → IsInSpace m.resolution c × (is_full m c ≡ true)
   filled_is c i =
       (of_each (λ (d : Coord). IsInSpace m.resolution d) undo.filled.items c h.filled_within (holds c undo.filled.items i), of_each (λ (d : Coord). IsTrue (is_full m d)) undo.filled.items c h.filled (holds c undo.filled.items i))
 
-  voided_is : (c : Coord) → In c undo.voided.items → IsInSpace m.resolution c × (is_full m c ≡ false)
+  pub voided_is : (c : Coord) → In c undo.voided.items → IsInSpace m.resolution c × (is_full m c ≡ false)
   voided_is c i =
       (of_each (λ (d : Coord). IsInSpace m.resolution d) undo.voided.items c h.voided_within (holds c undo.voided.items i), of_each (λ (d : Coord). IsFalse (is_full m d)) undo.voided.items c h.voided (holds c undo.voided.items i))
 
-  at : (d : Coord) → IsInSpace m.resolution d → is_full before d
+  pub full_before : (d : Coord) → IsInSpace m.resolution d → is_full before d
       ≡ cond (is_cell undo.voided.items d) true (cond (is_cell undo.filled.items d) false (is_full m d))
-  at d w =
+  full_before d w =
       full_with (without_filled m undo.filled.items) undo.voided.items true d w
       ∙ ap (λ b. cond (is_cell undo.voided.items d) true b) (full_with m undo.filled.items false d w)
 
   differs_is : (d : Coord) → In d (all_of m) → differ_at before m d ≡ is_changed d
   differs_is d i =
-      ap (λ b. (b && not (is_full m d)) || (is_full m d && not b)) (at d (coordinates_within m.resolution d i))
+      ap (λ b. (b && not (is_full m d)) || (is_full m d && not b)) (full_before d (coordinates_within m.resolution d i))
       ∙ differs_there (is_cell undo.voided.items d) (is_cell undo.filled.items d) (is_full m d)
       (λ e. (voided_is d (of_among undo.voided.items d e)).1) (λ e. (filled_is d (of_among undo.filled.items d e)).1)
 
@@ -116,7 +116,7 @@ few_changed m undo h n k small filled voided =
     let cube : m.resolution * m.resolution * m.resolution ≤ 400 * 400 * 400 = mul-le-mul (mul-le-mul small small) small in
     omega (arith, filled, voided, changed, below, all, cube)
 
--- what is told of a step with a note
+-- the outcome of a step with a note
 pub told_noted : (v w : State) (undo : Undo) (m : Matrix) (changed : ℕ) (made : StepDone) → made.energy ≡ w.energy
     → made.harmonics ≡ w.harmonics → made.active ≡ length w.bots → made.changed ≡ changed
     → changed ≡ difference_count (matrix_before m undo.filled.items undo.voided.items) m → m ≡ w.matrix
@@ -164,7 +164,7 @@ none_voided (b ∷ bots) (k ∷ commands) c none =
     λ i. list_any (λ s. is_within s (point c)) (named.1 i) || none_voided bots commands c parts.1 i
 
 module _ (m : Matrix) (bots : List Bot) (commands : List Command) (none : list_any is_edit commands ≡ false) where
-  stays : (c : Coord) → IsInSpace m.resolution c → is_full (matrix_after m (acts bots commands)) c ≡ is_full m c
+  pub stays : (c : Coord) → IsInSpace m.resolution c → is_full (matrix_after m (acts bots commands)) c ≡ is_full m c
   stays c w =
       full_where m.resolution (λ d. is_filled (acts bots commands) d || (is_full m d && not (is_voided (acts bots commands) d))) c w
       ∙ ((λ i. none_filled bots commands c none i || (is_full m c && not (none_voided bots commands c none i))) ∙ and_true (is_full m c))
@@ -180,7 +180,7 @@ module _ (m : Matrix) (bots : List Bot) (commands : List Command) (none : list_a
       let zero_is = count_none (all_of m) in
       omega (arith, counted, none_counted, same_length, zero_is)
 
--- what is told of a step that changes no voxel
+-- the outcome of a step that changes no voxel
 pub told_still : (v w : State) (commands : List Command) (step : ℕ) (made : StepDone)
     → list_any is_edit commands ≡ false → Next v commands step (Goes w) → made.energy ≡ w.energy
     → made.harmonics ≡ w.harmonics → made.active ≡ length w.bots → made.changed ≡ 0 → Tells v w made

@@ -11,7 +11,7 @@ use Rattle.nano_spec.specs.State.{State, opening}
 use Rattle.nano_spec.specs.Verdict.{Run, VerdictOf, goes}
 use Rattle.kept_machine.specs.declared.done.StepDone.{StepDone}
 use Rattle.kept_machine.specs.Calls.{BeginsTrace, IsMade, IsTakenBack}
-use Rattle.kept_machine.specs.History.{IsLedTo, RunsThrough, by_copy, by_keep, by_start, by_step, by_undo}
+use Rattle.kept_machine.specs.History.{IsLedTo, RunsThrough, by_aim, by_copy, by_keep, by_start, by_step, by_undo}
 use Rattle.kept_machine.specs.Kept.{Instant, Kept, kept_opening, present, trace_with, trace_without}
 
 -- commands lead from a state to an instant, by way of others
@@ -156,6 +156,16 @@ module _ (source : Matrix) (profile : Profile) where
             trace = λ t e. left_by old.trace (length k.state.bots) t before commands (λ u f. s.trace u f ∙ (sym same_made ∙ m)) (each ∙ ap (λ (p : Instant). length p.state.bots) lasts_same.1) (sym back.trace ∙ e);
           }
 
+  aimed : (old k : Kept) (target : Matrix) → Story from old → k ≡ record old { target = Some target } → Story from k
+  aimed old k target s is = subst (Story from) (sym is) (record {
+    made = s.made;
+    passed = s.passed;
+    earlier = s.earlier;
+    walked = s.walked;
+    past = s.past;
+    trace = s.trace;
+  })
+
   copied : (old k : Kept) → Story from old → k ≡ record old { past = [] } → Story from k
   copied old k s is = subst (Story from) (sym is) (record {
     made = s.made;
@@ -173,6 +183,7 @@ module _ (source : Matrix) (profile : Profile) where
   pub story : (k : Kept) → IsLedTo source profile k → Story from k
   story k (by_start room is) = started k room is
   story k (by_keep old led begins) = kept old k (story old led) begins
+  story k (by_aim old target led is) = aimed old k target (story old led) is
   story k (by_step old commands ok led made) = stepped old k commands ok (story old led) made
   story k (by_undo old led back) = undone old k (story old led) back
   story k (by_copy old led is) = copied old k (story old led) is

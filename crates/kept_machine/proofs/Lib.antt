@@ -1,3 +1,4 @@
+mod Aimed
 mod Changing
 mod Differences
 mod Histories
@@ -5,4 +6,5 @@ pub mod Notes
 mod OneVoxel
 pub mod Standing
 pub mod Steps
+mod Targets
 mod Traces

@@ -109,7 +109,7 @@ one_step s t commands step c one goes =
       counted = subst (λ (m : Matrix). difference_count s.matrix m ≡ one_if_apart (is_full s.matrix c) (is_full m c)) (sym is) (one_changed s.matrix c set.full set.within);
     }
 
--- what is told of the step
+-- the outcome of the step
 pub told_one : (v w : State) (commands : List Command) (step : ℕ) (c : Coord) (m n : Matrix) (before after : Bool)
     (count : ℕ) (made : StepDone) → IsOnlyVoxel v commands c → Next v commands step (Goes w) → made.energy ≡ w.energy
     → made.harmonics ≡ w.harmonics → made.active ≡ length w.bots → made.changed ≡ count

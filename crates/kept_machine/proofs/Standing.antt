@@ -1,5 +1,5 @@
 -- A machine that is made anew in its state, and what is seen of it.
-use Rattle.std.proofs.Common.{◌≡◌, ap, List, Option, false}
+use Rattle.std.proofs.Common.{◌≡◌, ap, List, Option, None, false}
 use Rattle.circular_buffer.specs.Buffer.{Buffer}
 use Rattle.nano_spec.specs.declared.commands.Command.{Command}
 use Rattle.step_machine.specs.Situation.{Situation}
@@ -13,7 +13,7 @@ module _ (v w : Situation) (notes : Buffer Undo) (state : w.state ≡ v.state) (
   same_instant = λ i. record { state = state i; steps = steps i }
 
   pub looks_the_same : (trace : Option (List Command)) → kept_of w notes trace ≡ kept_of v notes trace
-  looks_the_same trace = λ i. record { state = state i; steps = steps i; past = instants_of (same_instant i) notes.items; room = notes.capacity; trace = trace }
+  looks_the_same trace = λ i. record { state = state i; steps = steps i; past = instants_of (same_instant i) notes.items; room = notes.capacity; trace = trace; target = None }
 
 -- a machine that is made anew looks the same, and keeps the same
 module _ (v w : Situation) (notes : Buffer Undo) (anew : w ≡ record v { spent = false }) where

@@ -68,6 +68,7 @@ module _ (v w : Situation) (notes rest : Buffer Undo) (commands : List Command) 
     past = past_is;
     room = ap (λ (b : Buffer Undo). b.capacity) pushed;
     trace = refl;
+    target = refl;
     tells = tells;
   }
 
@@ -87,8 +88,8 @@ module _ (v w : Situation) (notes : Buffer Undo) (commands : List Command) where
       → WouldAnswer (kept_of v notes trace) commands (Ok made)
   would_make trace ok made began ended can tells stepped =
       let kept : Kept = kept_of v notes trace in (
-        record { state = w.state; steps = w.steps; past = keep_last kept.room (kept.past ++ present kept ∷ []); room = kept.room; trace = trace_with trace commands },
-        record { some = can.some; each = can.each; goes = stepped.goes; counted = stepped.counted; past = refl; room = refl; trace = refl; tells = tells },
+        record { state = w.state; steps = w.steps; past = keep_last kept.room (kept.past ++ present kept ∷ []); room = kept.room; trace = trace_with trace commands; target = kept.target },
+        record { some = can.some; each = can.each; goes = stepped.goes; counted = stepped.counted; past = refl; room = refl; trace = refl; target = refl; tells = tells },
       )
 
 -- the commands cannot be judged, and nothing was done
@@ -139,4 +140,5 @@ module _ (v w : Situation) (notes rest : Buffer Undo) (undo : Undo) (kept : IsNo
           ∙ ap (λ (us : List Undo). instants_of (instant_of w) us ++ instant_of w ∷ []) (sym items_left)));
       room = ap (λ (b : Buffer Undo). b.capacity) popped;
       trace = refl;
+      target = refl;
     }

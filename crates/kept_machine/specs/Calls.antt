@@ -27,7 +27,7 @@ abbrev pub Opens : Matrix → Profile → ℕ → Result Kept ModelFault → Typ
 Opens source profile room (Ok k) = IsLegal source × (k ≡ kept_opening source profile room)
 Opens source profile room (Err fault) = Judges source (Err fault)
 
--- the same over the model that bytes say, where they say one
+-- the same over the model that bytes hold, if they hold one
 abbrev pub OpensFile : List ℕ → Profile → ℕ → Result Kept ModelFault → Type 0
 OpensFile bytes profile room answer =
     ((m : Matrix) × (model bytes ≡ Ok m) × Opens m profile room answer)
@@ -37,8 +37,8 @@ OpensFile bytes profile room answer =
 abbrev pub difference_count : Matrix → Matrix → ℕ
 difference_count m target = count_by (differ_at m target) (all_of m)
 
--- what is told of a step from one state to another: the energy so far, the harmonics after it, how many bots are left, and
--- how many voxels became full or void
+-- the outcome of a step from one state to another: the energy so far, the harmonics after it, the number of active bots,
+-- and how many voxels became full or void
 pub record Tells (old new : State) (made : StepDone) : Type 0 where
   pub energy : made.energy ≡ new.energy
   pub harmonics : made.harmonics ≡ new.harmonics
@@ -56,6 +56,7 @@ pub record IsMade (old : Kept) (commands : List Command) (new : Kept) (made : St
   pub room : new.room ≡ old.room
   -- its commands go to the end of the trace
   pub trace : new.trace ≡ trace_with old.trace commands
+  pub target : new.target ≡ old.target
   pub tells : Tells old.state new.state made
 
 -- what a step answers and does: one that is not made leaves all as it was
@@ -74,20 +75,21 @@ Tries old commands new (Err no_step.Memory) = new ≡ old
 abbrev pub WouldAnswer : Kept → List Command → Result StepDone NoStep → Type 0
 WouldAnswer k commands answer = (next : Kept) × Tries k commands next answer
 
--- what is answered where the machine of the system does not make a step
+-- the error if the machine of the system does not make a step
 abbrev pub no_step_of : StepFault → NoStep
 no_step_of (fault.Broken b) = no_step.Broken b
 no_step_of fault.Memory = no_step.Memory
 no_step_of fault.Spent = no_step.Memory
 
--- the last step is taken back: where the machine stood before it, it stands again, the steps before can be taken back
--- next, and the commands of the bots that are active again are no more in the trace
+-- the last step is taken back: the machine is as it was before it, the steps before can be taken back next, and the
+-- commands of the bots that are active again are no longer in the trace
 pub record IsTakenBack (old new : Kept) : Type 0 where
   pub past : old.past ≡ new.past ++ present new ∷ []
   pub room : new.room ≡ old.room
   pub trace : new.trace ≡ trace_without old.trace (length new.state.bots)
+  pub target : new.target ≡ old.target
 
--- what an undo answers and does: it is made wherever a step can be taken back
+-- what an undo answers and does: it is made whenever a step can be taken back
 abbrev pub Undoes : Kept → Kept → Bool → Type 0
 Undoes old new true = IsTakenBack old new
 Undoes old new false = (new ≡ old) × (old.past ≡ [])

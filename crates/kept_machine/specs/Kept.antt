@@ -18,29 +18,30 @@ pub record Instant : Type 0 where
   pub state : State
   pub steps : ℕ
 
--- the state, how many steps were made, where the machine stood before each of the last steps, the last one last, how
--- many of these are kept, and the commands of the steps that were made and not taken back, if they are kept
+-- the state, the number of steps made, the instants before each of the last steps, the last one last, how many of these
+-- are kept, the commands of the steps that were made and not taken back, if they are kept, and the target, if there is one
 pub record Kept : Type 0 where
   pub state : State
   pub steps : ℕ
   pub past : List Instant
   pub room : ℕ
   pub trace : Option (List Command)
+  pub target : Option Matrix
 
--- where the machine stands
+-- the present state and number of steps
 abbrev pub present : Kept → Instant
 present k = record { state = k.state; steps = k.steps }
 
 -- a machine before its first step
 abbrev pub kept_opening : Matrix → Profile → ℕ → Kept
 kept_opening source profile room =
-    record { state = opening source profile; steps = 0; past = []; room = room; trace = None }
+    record { state = opening source profile; steps = 0; past = []; room = room; trace = None; target = None }
 
 -- a trace, if it is kept, with more commands at its end
 abbrev pub trace_with : Option (List Command) → List Command → Option (List Command)
 trace_with trace commands = option_map (λ made. made ++ commands) trace
 
--- and without so many at its end
+-- a trace, if it is kept, without its last `count` commands
 abbrev pub trace_without : Option (List Command) → ℕ → Option (List Command)
 trace_without trace count = option_map (λ made. take (length made - count) made) trace
 
@@ -55,29 +56,29 @@ abbrev pub tried : Option (List Command) → List Command → Result StepDone No
 tried trace commands (Ok ok) = trace_with trace commands
 tried trace commands (Err fault) = trace
 
--- and after a step that was taken back or not, where so many bots are active then
+-- and after an undo, which took a step back or did not; `active` bots are active then
 abbrev pub undone : Option (List Command) → ℕ → Bool → Option (List Command)
 undone trace active is_undone = cond is_undone (trace_without trace active) trace
 
--- where a machine of the system stands, spent or not
+-- the present instant of a machine of the system, spent or not
 abbrev pub instant_of : Situation → Instant
 instant_of m = record { state = m.state; steps = m.steps }
 
--- where it stood before the step of a note
+-- the instant before the step of a note
 abbrev pub instant_before : Instant → Undo → Instant
 instant_before p undo = record { state = state_before p.state undo; steps = undo.steps }
 
--- where it stood before the steps of all notes, of which the last is that of the last step
+-- the instant before the steps of all notes, the last of which is that of the last step
 abbrev pub first_instant : Instant → List Undo → Instant
 first_instant p [] = p
 first_instant p (undo ∷ notes) = instant_before (first_instant p notes) undo
 
--- where it stood before each of them
+-- the instants before each of them
 abbrev pub instants_of : Instant → List Undo → List Instant
 instants_of p [] = []
 instants_of p (undo ∷ notes) = first_instant p (undo ∷ notes) ∷ instants_of p notes
 
--- what is seen of a machine, its notes and its trace
+-- what is seen of a machine, its notes and its trace, without a target
 abbrev pub kept_of : Situation → Buffer Undo → Option (List Command) → Kept
 kept_of m notes trace =
     record {
@@ -86,6 +87,7 @@ kept_of m notes trace =
       past = instants_of (instant_of m) notes.items;
       room = notes.capacity;
       trace = trace;
+      target = None;
     }
 
 -- the steps of the notes can be taken back, one after another

@@ -1,3 +1,4 @@
+pub mod Aiming
 pub mod Calls
 pub mod History
 pub mod Kept

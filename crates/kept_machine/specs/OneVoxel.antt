@@ -18,6 +18,6 @@ pub record IsOnlyVoxel (s : State) (commands : List Command) (c : Coord) : Type 
   pub within : IsTrue (in_space s.matrix.resolution (plus (point bot.pos) towards))
   pub there : point c ≡ plus (point bot.pos) towards
 
--- 1 where two states of a voxel differ
+-- 1 if two states of a voxel differ
 abbrev pub one_if_apart : Bool → Bool → ℕ
 one_if_apart before after = cond ((before && not after) || (after && not before)) 1 0

@@ -1,4 +1,4 @@
-//! How many voxels of two matrices differ, by a counter of touches that nobody reads.
+//! How many voxels of two matrices differ. Touches are not reported.
 ghost use Rattle.std.specs.Prelude.{◌≡◌, ◌≤◌};
 ghost use Rattle.vox_geom.specs.Counting.{IsBlankOf};
 ghost use Rattle.nano_spec.specs.Model.{volume as volume_of};
@@ -19,7 +19,7 @@ fn volume(matrix: &Planes) -> u32
     side * side * side
 }
 
-/// At how many coordinates two matrices differ: up to 64 voxels are looked at together.
+/// Counts the coordinates at which two matrices differ, 64 at a time.
 pub(crate) fn count_differences<L: Ledger>(matrix: &Planes, target: &Planes, blank: Blank) -> u32
     requires same { matrix.now.resolution ≡ target.now.resolution }
     requires blank { IsBlankOf blank L.name L.parts }

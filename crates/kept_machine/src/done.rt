@@ -1,4 +1,4 @@
-//! What a machine tells of a step that it made.
+//! The outcome of a step that was made.
 ghost use Rattle.std.specs.Prelude.{◌≡◌, length};
 ghost use Rattle.std.specs.List.{list_any};
 ghost use Rattle.kept_machine.specs.Calls.{difference_count};
@@ -9,8 +9,8 @@ use nano_spec::{Command, Harmonics};
 use step_machine::{Machine, Undo};
 use vox_planes::Planes;
 
-/// What a step came to that was made: the energy so far, the harmonics after it, how many bots are left, and how many voxels
-/// became full or void.
+/// The outcome of a step that was made: the energy so far, the harmonics after it, the number of active bots, and how many
+/// voxels became full or void.
 #[derive(Clone, Copy, PartialEq, Eq, Debug)]
 pub struct StepDone {
     pub energy: i64,
@@ -19,7 +19,7 @@ pub struct StepDone {
     pub changed: u32,
 }
 
-/// What is told of a machine after a step that changed so many voxels.
+/// The outcome of a step that changed `changed` voxels, after which the machine is this one.
 pub(crate) fn done(machine: &Machine, changed: u32) -> StepDone
     ensures energy { result.energy ≡ machine.now.state.energy }
     ensures harmonics { result.harmonics ≡ machine.now.state.harmonics }
@@ -44,14 +44,14 @@ fn edits(command: &Command) -> bool
     }
 }
 
-/// Whether some command fills or voids: a step without one changes no voxel.
+/// Whether some command fills or voids. A step without such a command changes no voxel.
 pub(crate) fn some_edit(commands: &[Command]) -> bool
     ensures { result ≡ list_any is_edit commands.now }
 {
     commands.iter().any(|command| edits(command))
 }
 
-/// How many voxels the step of a note changed, after which the matrix is this one.
+/// Counts the voxels that the step of a note changed. The matrix is the one after it.
 pub(crate) fn count_changed(matrix: &Planes, undo: &Undo) -> u32
     requires { HaveChanged matrix.now undo.now }
     ensures { result

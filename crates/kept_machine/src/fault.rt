@@ -1,4 +1,4 @@
-//! Why a call of a kept machine did not do its work.
+//! Errors of a kept machine.
 ghost use Rattle.std.specs.Prelude.{◌≡◌};
 ghost use Rattle.kept_machine.specs.Calls.{no_step_of};
 ghost use Rattle.kept_machine.specs.declared.fault.NoLevel.TheVariants as no_level;
@@ -15,16 +15,16 @@ pub enum NoStep {
     Broken(Broken),
     /// No bot is active.
     Ended,
-    /// The commands are not as many as the active bots.
+    /// There are more or fewer commands than active bots.
     Count,
-    /// As many steps were made as a machine makes, 2 to the power of 30.
+    /// The machine has made its 2^30 steps.
     Long,
-    /// There was no memory.
+    /// Out of memory.
     Memory,
 }
 
 impl NoStep {
-    /// The answer to a step that the machine did not make.
+    /// The error for a step that the machine did not make.
     pub(crate) fn of(fault: StepFault) -> NoStep
         ensures { result ≡ no_step_of fault }
     {
@@ -44,12 +44,12 @@ impl From<Memory> for NoStep {
     }
 }
 
-/// Why no level was told.
+/// Why a level was not returned.
 #[derive(Clone, Copy, PartialEq, Eq, Debug)]
 pub enum NoLevel {
     /// The coordinate is out of space.
     Outside,
-    /// There was no memory.
+    /// Out of memory.
     Memory,
 }
 

@@ -1,9 +1,10 @@
 //! The machine that is kept.
-ghost use Rattle.std.specs.Prelude.{◌≡◌, ◌≤◌, [], length, count_by, option_map, IfOk};
+ghost use Rattle.std.specs.Prelude.{◌≡◌, ◌≤◌, [], length, count_by, option_map, IfOk, Some};
 ghost use Rattle.nano_spec.specs.Matrix.{all_of, empty as empty_of, is_full};
 ghost use Rattle.nano_spec.specs.Verdict.{first_difference};
 ghost use Rattle.kept_machine.specs.Calls.{BeginsTrace, Opens, OpensFile, TellsLevel, Tries, Undoes, WouldAnswer, difference_count};
 
+use crate::aim::{KeptTarget, copy_aim};
 use crate::counting::count_differences;
 use crate::done::StepDone;
 use crate::fault::{NoLevel, NoStep};
@@ -20,28 +21,30 @@ use step_machine::{Machine, Undo};
 use vox_geom::{Coord, Memory};
 use vox_planes::Planes;
 
-/// A machine between two steps, with notes of its last steps. Contracts see its state, how many steps were made, where it stood
-/// before the steps that can be taken back, and the commands of all its steps, if they are kept.
+/// A machine between two steps, with notes of its last steps. Contracts see its state, the number of steps made, the states
+/// before the steps that can be taken back, the commands of all its steps, if they are kept, and its target, if it has one.
 #[derive(Drop)]
 pub struct KeptMachine {
     alloc: Global,
     machine: Machine,
     notes: HeapCircularBuffer<Undo>,
     trace: Trace,
+    aim: Option<KeptTarget>,
 }
 
 impl Model for KeptMachine {
+    ghost use Rattle.kept_machine.specs.Aiming.{IsTargetCounted, target_of};
     ghost use Rattle.kept_machine.specs.Kept.{IsNoted, Kept, kept_of, trace_of};
 
     ghost Value = { Kept };
 
-    ghost view = { λ k. kept_of k.machine k.notes (trace_of k.trace) };
+    ghost view = { λ k. record (kept_of k.machine k.notes (trace_of k.trace)) { target = target_of k.aim } };
 
-    ghost invariant = { λ k. IsNoted k.machine k.notes };
+    ghost invariant = { λ k. IsNoted k.machine k.notes × IsTargetCounted k.machine.state.matrix k.aim };
 }
 
 impl KeptMachine {
-    /// The machine before the first step, over a source that is legal. So many of its last steps can be taken back.
+    /// Starts a machine over a legal source. Its last `room` steps can be taken back.
     pub fn start(
         alloc: Global,
         source: Planes,
@@ -58,10 +61,11 @@ impl KeptMachine {
             machine,
             notes,
             trace: Trace::none(alloc),
+            aim: None,
         })
     }
 
-    /// The machine before the first step, over the legal model that the bytes of a file say.
+    /// Starts a machine over the legal model that the bytes of a file hold.
     pub fn of_file(
         alloc: Global,
         bytes: &[u8],
@@ -75,7 +79,7 @@ impl KeptMachine {
         KeptMachine::start(alloc, source, profile, room)
     }
 
-    /// Another machine in the same state, after as many steps, with the same trace. No step can be taken back in it.
+    /// Copies the machine: same state, number of steps, trace and target. No step can be taken back in the copy.
     pub fn copy(&self) -> Result<KeptMachine, Memory>
         ensures { IfOk result (λ k. k ≡ record self.now { past = [] }) }
     {
@@ -86,15 +90,17 @@ impl KeptMachine {
             Blank::new(1),
         )?;
         let trace = self.trace.copy(self.alloc)?;
+        let aim = copy_aim(&self.aim, self.alloc)?;
         Ok(KeptMachine {
             alloc: self.alloc,
             machine,
             notes,
             trace,
+            aim,
         })
     }
 
-    /// Keeps the commands of the steps from here on, unless steps were made before: whether it does.
+    /// Keeps the commands of all further steps and returns true, unless steps were already made.
     pub fn keep_trace(&mut self) -> bool
         ensures { BeginsTrace self.old self.new result }
     {
@@ -103,6 +109,21 @@ impl KeptMachine {
         }
         self.trace = Trace::begin(self.alloc);
         true
+    }
+
+    /// Sets the target and returns at how many coordinates the matrix differs from it. From here on each step and each undo
+    /// updates that number by the voxels that it changes.
+    pub fn aim(&mut self, target: Planes) -> u32
+        requires { self.old.state.matrix.resolution ≡ target.resolution }
+        ensures target { self.new ≡ record self.old { target = Some target } }
+        ensures differences { result ≡ difference_count self.old.state.matrix target }
+    {
+        let differences = count_differences::<Brand>(self.machine.matrix(), &target, Blank::new(1));
+        self.aim = Some(KeptTarget {
+            target,
+            differences,
+        });
+        differences
     }
 
     /// Makes a step: the i-th command is for the i-th active bot.
@@ -114,12 +135,13 @@ impl KeptMachine {
             &mut self.machine,
             &mut self.notes,
             &mut self.trace,
+            &mut self.aim,
             commands,
             Blank::new(1),
         )
     }
 
-    /// What the step would come to. The machine stays as it is.
+    /// Returns the outcome that the step would have. The machine does not change.
     pub fn judge(&mut self, commands: &[Command]) -> Result<StepDone, NoStep>
         ensures stays { self.new ≡ self.old }
         ensures answer { WouldAnswer self.old commands.now result }
@@ -136,11 +158,12 @@ impl KeptMachine {
             &mut self.machine,
             &mut self.notes,
             &mut self.trace,
+            &mut self.aim,
             Blank::new(1),
         )
     }
 
-    /// The level of a voxel, or `None` where it is void or not grounded.
+    /// The level of a voxel, or `None` if it is void or not grounded.
     pub fn level(&mut self, c: Coord) -> Result<Option<u32>, NoLevel>
         ensures stays { self.new ≡ self.old }
         ensures told { TellsLevel self.old.state.matrix c result }
@@ -148,7 +171,7 @@ impl KeptMachine {
         find_level::<Brand>(self.alloc, &mut self.machine, c, Blank::new(1))
     }
 
-    /// Whether the voxel at a coordinate is full; out of space none is.
+    /// Whether the voxel at a coordinate is full. No voxel outside the matrix is.
     pub fn full(&self, c: Coord) -> bool
         ensures { result ≡ is_full self.now.state.matrix c }
     {
@@ -162,7 +185,7 @@ impl KeptMachine {
         count_full::<Brand>(self.machine.matrix(), Blank::new(1))
     }
 
-    /// The least coordinate at which the matrix and a target of its resolution differ, or `None` where they are the same.
+    /// The least coordinate at which the matrix and a target of its resolution differ, or `None` if they are equal.
     pub fn difference(&self, target: &Planes) -> Option<Coord>
         requires { self.now.state.matrix.resolution ≡ target.now.resolution }
         ensures { result ≡ first_difference self.now.state.matrix target.now }
@@ -176,6 +199,16 @@ impl KeptMachine {
         ensures { result ≡ difference_count self.now.state.matrix target.now }
     {
         count_differences::<Brand>(self.machine.matrix(), target, Blank::new(1))
+    }
+
+    /// At how many coordinates the matrix differs from the target, or `None` without one. Nothing is counted anew.
+    pub fn remaining(&self) -> Option<u32>
+        ensures { result ≡ option_map (difference_count self.now.state.matrix) self.now.target }
+    {
+        match &self.aim {
+            Some(aim) => Some(aim.differences),
+            None => None,
+        }
     }
 
     /// The matrix.

@@ -6,7 +6,7 @@ ghost use Rattle.nano_spec.specs.Matrix.{Matrix};
 ghost use Rattle.kept_machine.specs.History.{IsLedTo, RunsThrough};
 ghost use Rattle.kept_machine.specs.Kept.{Kept};
 
-/// Whatever calls have led to a machine, the commands of its trace lead from the source to where it stands.
+/// Whatever calls have led to a machine, the commands of its trace lead from the source to its state.
 pub fn a_trace_leads_to_its_machine()
     ensures { (source : Matrix) (profile : Profile) (k : Kept) (made : List Command)
         → IsLedTo source profile k → k.trace ≡ Some made → RunsThrough source profile made k }

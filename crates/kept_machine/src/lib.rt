@@ -2,6 +2,7 @@
 //! taken back, and a call that is refused leaves the machine as it was.
 #![tactic(auto)]
 
+mod aim;
 mod counting;
 mod done;
 mod fault;

@@ -1,4 +1,4 @@
-//! Steps of the only bot that fill or void one voxel: whether it changes is read, so that no note is needed.
+//! Steps of the only bot that fill or void one voxel: the voxel is read before and after, so no note is needed.
 ghost use Rattle.std.specs.Prelude.{◌≡◌, IfSome};
 ghost use Rattle.kept_machine.specs.OneVoxel.{IsOnlyVoxel, one_if_apart};
 
@@ -28,7 +28,7 @@ pub(crate) fn only_voxel(machine: &Machine, commands: &[Command]) -> Option<Coor
     }
 }
 
-/// How many of a voxel's two states differ: 1 if it changed.
+/// 1 if the voxel changed, else 0.
 pub(crate) fn changed_voxels(before: bool, after: bool) -> u32
     ensures { result ≡ one_if_apart before after }
 {

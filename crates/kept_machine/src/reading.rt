@@ -1,4 +1,4 @@
-//! What a machine tells of its matrix, by a counter of touches that nobody reads.
+//! Queries of a machine's matrix. Their touches are not reported.
 ghost use Rattle.std.specs.Prelude.{◌≡◌, count_by, MatchBool};
 ghost use Rattle.nano_spec.specs.Matrix.{all_of, is_full};
 ghost use Rattle.nano_spec.specs.State.{IsWellFormed};

@@ -1,4 +1,4 @@
-//! Machines that are started, that make steps, and that take steps back, by a counter of touches that nobody reads.
+//! Starting a machine, making steps and taking them back. Touches are not reported.
 ghost use Rattle.std.specs.List.{list_any};
 ghost use Rattle.std.specs.Prelude.{◌≡◌, ◌≤◌, [], List, Option, false, length, IfOk, IfErr, Err};
 ghost use Rattle.vox_geom.specs.Counting.{IsBlankOf};
@@ -9,10 +9,13 @@ ghost use Rattle.nano_spec.specs.State.{IsWellFormed, opening};
 ghost use Rattle.model_file.specs.Fault.{Judges};
 ghost use Rattle.step_machine.specs.Edits.{is_edit};
 ghost use Rattle.step_machine.specs.declared.undo.Undo.{Undo as Note};
+ghost use Rattle.kept_machine.specs.declared.aim.KeptTarget.{KeptTarget as Target};
+ghost use Rattle.kept_machine.specs.Aiming.{IsTargetCounted, target_of};
 ghost use Rattle.kept_machine.specs.Calls.{Tries, Undoes, WouldAnswer};
 ghost use Rattle.kept_machine.specs.OneVoxel.{IsOnlyVoxel};
 ghost use Rattle.kept_machine.specs.Kept.{CanStep, CannotStep, IsNoted, kept_of, trace_of, tried, undone};
 
+use crate::aim::{KeptTarget, count_step, count_undo};
 use crate::done::{StepDone, count_changed, done, some_edit};
 use crate::fault::NoStep;
 use crate::one_voxel::{changed_voxels, only_voxel};
@@ -30,7 +33,7 @@ use vox_planes::Planes;
 /// How many steps a machine makes.
 const MOST_STEPS: u32 = 1_073_741_824;
 
-/// A machine over a source that is legal, before its first step, and room for the notes of so many steps.
+/// Starts a machine over a legal source, with room for the notes of `room` steps.
 pub(crate) fn start_over<L: Ledger>(
     alloc: Global,
     source: Planes,
@@ -56,7 +59,7 @@ pub(crate) fn start_over<L: Ledger>(
     }
 }
 
-/// Another machine in the state of the one that is given, and room for as many notes.
+/// Makes another machine in the same state, with room for the notes of `room` steps.
 pub(crate) fn copy_of<L: Ledger>(
     alloc: Global,
     machine: &Machine,
@@ -76,7 +79,7 @@ pub(crate) fn copy_of<L: Ledger>(
     }
 }
 
-/// A machine that is spent is made anew in its state. For want of memory it stays as it is.
+/// Rebuilds a spent machine in its state. If memory runs out, it does not change.
 pub(crate) fn stand_again<L: Ledger>(
     alloc: Global,
     machine: &mut Machine,
@@ -94,7 +97,7 @@ pub(crate) fn stand_again<L: Ledger>(
     Ok(())
 }
 
-/// Whether the step can be judged: some bot is active, each has one command, and a machine makes as many steps.
+/// Checks that the step can be judged: some bot is active, each has one command, and the limit of steps is not reached.
 fn ready(machine: &Machine, commands: &[Command]) -> Result<(), NoStep>
     ensures can { IfOk result (λ _. CanStep machine.now commands.now) }
     ensures cannot { IfErr result (λ fault. CannotStep machine.now commands.now fault) }
@@ -112,7 +115,7 @@ fn ready(machine: &Machine, commands: &[Command]) -> Result<(), NoStep>
     Ok(())
 }
 
-/// Makes a step that changes no voxel, and of which no note is kept.
+/// Makes a step that changes no voxel and keeps no note.
 fn step_once<L: Ledger>(
     machine: &mut Machine,
     notes: &HeapCircularBuffer<Undo>,
@@ -124,6 +127,7 @@ fn step_once<L: Ledger>(
     requires none { notes.now.capacity ≡ 0 }
     requires still { list_any is_edit commands.now ≡ false }
     ensures kept { IsNoted machine.new notes.now }
+    ensures aimed { (aim : Option Target) → IsTargetCounted machine.old.state.matrix aim → IsTargetCounted machine.new.state.matrix aim }
     ensures tries { (trace : Option (List Spoken)) → Tries (kept_of machine.old notes.now trace) commands.now
         (kept_of machine.new notes.now (tried trace commands.now result)) result }
 {
@@ -134,7 +138,7 @@ fn step_once<L: Ledger>(
     }
 }
 
-/// Makes the step of the only bot that fills or voids this voxel, and of which no note is kept.
+/// Makes the step of the only bot, which fills or voids this voxel, and keeps no note.
 fn step_one_voxel<L: Ledger>(
     machine: &mut Machine,
     notes: &HeapCircularBuffer<Undo>,
@@ -161,16 +165,20 @@ fn step_one_voxel<L: Ledger>(
     }
 }
 
-/// Makes a step and notes it.
+/// Makes a step, keeps its note, and updates the number of differences from the target.
 fn step_and_note<L: Ledger>(
     machine: &mut Machine,
     notes: &mut HeapCircularBuffer<Undo>,
+    aim: &mut Option<KeptTarget>,
     commands: &[Command],
     steps: &mut Steps<L>,
 ) -> Result<StepDone, NoStep>
     requires kept { IsNoted machine.old notes.old }
+    requires aimed { IsTargetCounted machine.old.state.matrix aim.old }
     requires can { CanStep machine.old commands.now }
     ensures kept { IsNoted machine.new notes.new }
+    ensures aimed { IsTargetCounted machine.new.state.matrix aim.new }
+    ensures target { target_of aim.new ≡ target_of aim.old }
     ensures tries { (trace : Option (List Spoken)) → Tries (kept_of machine.old notes.old trace) commands.now
         (kept_of machine.new notes.new (tried trace commands.now result)) result }
 {
@@ -179,6 +187,7 @@ fn step_and_note<L: Ledger>(
     match machine.step_noted(commands, order.as_slice(), steps) {
         Ok((_, undo)) => {
             let changed = count_changed(machine.matrix(), &undo);
+            count_step(aim, machine.matrix(), &undo, steps);
             notes.push_back(undo);
             Ok(done(machine, changed))
         }
@@ -186,40 +195,51 @@ fn step_and_note<L: Ledger>(
     }
 }
 
-/// Makes a step of which no note is kept: one is made, and dropped, only to count the voxels of a step that changes several.
+/// Makes a step without keeping its note. A note is made and dropped if the step may change several voxels, or if they have to
+/// be compared with a target.
 fn step_unnoted<L: Ledger>(
     machine: &mut Machine,
     notes: &mut HeapCircularBuffer<Undo>,
+    aim: &mut Option<KeptTarget>,
     commands: &[Command],
     steps: &mut Steps<L>,
 ) -> Result<StepDone, NoStep>
     requires kept { IsNoted machine.old notes.old }
+    requires aimed { IsTargetCounted machine.old.state.matrix aim.old }
     requires can { CanStep machine.old commands.now }
     requires none { notes.old.capacity ≡ 0 }
     ensures kept { IsNoted machine.new notes.new }
+    ensures aimed { IsTargetCounted machine.new.state.matrix aim.new }
+    ensures target { target_of aim.new ≡ target_of aim.old }
     ensures tries { (trace : Option (List Spoken)) → Tries (kept_of machine.old notes.old trace) commands.now
         (kept_of machine.new notes.new (tried trace commands.now result)) result }
 {
-    if let Some(c) = only_voxel(machine, commands) {
-        return step_one_voxel(machine, notes, commands, c, steps);
+    if aim.is_none() {
+        if let Some(c) = only_voxel(machine, commands) {
+            return step_one_voxel(machine, notes, commands, c, steps);
+        }
     }
     if some_edit(commands) {
-        return step_and_note(machine, notes, commands, steps);
+        return step_and_note(machine, notes, aim, commands, steps);
     }
     step_once(machine, notes, commands, steps)
 }
 
-/// Makes a step, and notes it if notes are kept.
+/// Makes a step, and keeps its note if the machine keeps notes.
 fn try_step<L: Ledger>(
     alloc: Global,
     machine: &mut Machine,
     notes: &mut HeapCircularBuffer<Undo>,
+    aim: &mut Option<KeptTarget>,
     commands: &[Command],
     blank: Blank,
 ) -> Result<StepDone, NoStep>
     requires kept { IsNoted machine.old notes.old }
+    requires aimed { IsTargetCounted machine.old.state.matrix aim.old }
     requires blank { IsBlankOf blank L.name L.parts }
     ensures kept { IsNoted machine.new notes.new }
+    ensures aimed { IsTargetCounted machine.new.state.matrix aim.new }
+    ensures target { target_of aim.new ≡ target_of aim.old }
     ensures tries { (trace : Option (List Spoken)) → Tries (kept_of machine.old notes.old trace) commands.now
         (kept_of machine.new notes.new (tried trace commands.now result)) result }
 {
@@ -227,28 +247,32 @@ fn try_step<L: Ledger>(
     let mut steps = Steps::<L>::new(blank, CounterPermit);
     stand_again(alloc, machine, &mut steps)?;
     if notes.capacity() > 0 {
-        return step_and_note(machine, notes, commands, &mut steps);
+        return step_and_note(machine, notes, aim, commands, &mut steps);
     }
-    step_unnoted(machine, notes, commands, &mut steps)
+    step_unnoted(machine, notes, aim, commands, &mut steps)
 }
 
-/// Makes a step, notes it where notes are kept, and adds its commands to the trace, if they are kept.
+/// Makes a step, keeps its note if the machine keeps notes, and appends its commands to the trace if they are kept.
 pub(crate) fn step_and_keep<L: Ledger>(
     alloc: Global,
     machine: &mut Machine,
     notes: &mut HeapCircularBuffer<Undo>,
     trace: &mut Trace,
+    aim: &mut Option<KeptTarget>,
     commands: &[Command],
     blank: Blank,
 ) -> Result<StepDone, NoStep>
     requires kept { IsNoted machine.old notes.old }
+    requires aimed { IsTargetCounted machine.old.state.matrix aim.old }
     requires blank { IsBlankOf blank L.name L.parts }
     ensures kept { IsNoted machine.new notes.new }
+    ensures aimed { IsTargetCounted machine.new.state.matrix aim.new }
+    ensures target { target_of aim.new ≡ target_of aim.old }
     ensures tries { Tries (kept_of machine.old notes.old (trace_of trace.old)) commands.now
         (kept_of machine.new notes.new (trace_of trace.new)) result }
 {
     trace.lengthen(commands)?;
-    match try_step::<L>(alloc, machine, notes, commands, blank) {
+    match try_step::<L>(alloc, machine, notes, aim, commands, blank) {
         Ok(made) => Ok(made),
         Err(fault) => {
             trace.shorten(commands.len());
@@ -257,7 +281,7 @@ pub(crate) fn step_and_keep<L: Ledger>(
     }
 }
 
-/// Makes a step that can be judged, and takes it back.
+/// Makes a step that can be judged and takes it back.
 fn step_and_restore<L: Ledger>(
     machine: &mut Machine,
     commands: &[Command],
@@ -276,7 +300,7 @@ fn step_and_restore<L: Ledger>(
         Ok((_, undo)) => {
             let changed = count_changed(machine.matrix(), &undo);
             let made = done(machine, changed);
-            // The step is back whatever this answers: a machine that is spent is made anew by its next call.
+            // The step is taken back whatever this returns: the next call rebuilds a spent machine.
             let _ = machine.restore(&undo, steps);
             Ok(made)
         }
@@ -284,7 +308,7 @@ fn step_and_restore<L: Ledger>(
     }
 }
 
-/// What a step would come to. The machine stays where it stands.
+/// Returns the outcome that a step would have. The state does not change.
 pub(crate) fn judge_step<L: Ledger>(
     alloc: Global,
     machine: &mut Machine,
@@ -304,15 +328,19 @@ pub(crate) fn judge_step<L: Ledger>(
     step_and_restore(machine, commands, &mut steps)
 }
 
-/// Takes the step of the last note back, if there is one: whether there is.
+/// Takes the step of the last note back and returns true, or returns false if there is no note.
 fn take_back<L: Ledger>(
     machine: &mut Machine,
     notes: &mut HeapCircularBuffer<Undo>,
+    aim: &mut Option<KeptTarget>,
     blank: Blank,
 ) -> bool
     requires kept { IsNoted machine.old notes.old }
+    requires aimed { IsTargetCounted machine.old.state.matrix aim.old }
     requires blank { IsBlankOf blank L.name L.parts }
     ensures kept { IsNoted machine.new notes.new }
+    ensures aimed { IsTargetCounted machine.new.state.matrix aim.new }
+    ensures target { target_of aim.new ≡ target_of aim.old }
     ensures back { (trace : Option (List Spoken)) → Undoes (kept_of machine.old notes.old trace)
         (kept_of machine.new notes.new (undone trace (length machine.new.state.bots) result)) result }
 {
@@ -320,25 +348,31 @@ fn take_back<L: Ledger>(
         return false;
     };
     let mut steps = Steps::<L>::new(blank, CounterPermit);
+    count_undo(aim, machine.matrix(), undo, &mut steps);
     let _ = machine.restore(undo, &mut steps);
     notes.pop_back();
     true
 }
 
-/// Takes the step of the last note back, if there is one, and its commands away: whether there is.
+/// Takes the step of the last note back, removes its commands from the trace and returns true, or returns false if there is no
+/// note.
 pub(crate) fn undo_and_shorten<L: Ledger>(
     machine: &mut Machine,
     notes: &mut HeapCircularBuffer<Undo>,
     trace: &mut Trace,
+    aim: &mut Option<KeptTarget>,
     blank: Blank,
 ) -> bool
     requires kept { IsNoted machine.old notes.old }
+    requires aimed { IsTargetCounted machine.old.state.matrix aim.old }
     requires blank { IsBlankOf blank L.name L.parts }
     ensures kept { IsNoted machine.new notes.new }
+    ensures aimed { IsTargetCounted machine.new.state.matrix aim.new }
+    ensures target { target_of aim.new ≡ target_of aim.old }
     ensures back { Undoes (kept_of machine.old notes.old (trace_of trace.old))
         (kept_of machine.new notes.new (trace_of trace.new)) result }
 {
-    if !take_back::<L>(machine, notes, blank) {
+    if !take_back::<L>(machine, notes, aim, blank) {
         return false;
     }
     trace.shorten(usize::from(machine.active()));

@@ -34,7 +34,7 @@ impl Trace {
         }
     }
 
-    /// Adds the commands of a step, if they are kept. Where there is no memory, the trace stays as it was.
+    /// Appends the commands of a step, if they are kept. If memory runs out, the trace does not change.
     pub fn lengthen(&mut self, commands: &[Command]) -> Result<(), Memory>
         ensures ok { OnOk result (trace_of self.new ≡ trace_with (trace_of self.old) commands.now) }
         ensures err { OnErr result (trace_of self.new ≡ trace_of self.old) }
@@ -48,7 +48,7 @@ impl Trace {
         }
     }
 
-    /// Takes so many commands away, the last ones.
+    /// Removes the last `count` commands.
     pub fn shorten(&mut self, count: usize)
         ensures { trace_of self.new ≡ trace_without (trace_of self.old) count }
     {
@@ -56,7 +56,7 @@ impl Trace {
         self.commands.truncate(left);
     }
 
-    /// The same commands once more, if they are kept.
+    /// Copies the trace.
     pub fn copy(&self, alloc: Global) -> Result<Trace, Memory>
         ensures { IfOk result (λ copy. trace_of copy ≡ trace_of self.now) }
     {

@@ -1,4 +1,4 @@
--- What the calls do to a handle, and what they tell.
+-- What the calls do to a handle, and what they return.
 use Rattle.std.specs.Prelude.{◌≡◌, ℕ, ◌≤◌, ◌<◌, ◌⊎◌, Bool, true, false, List, [], ◌++◌, length, map, drop, Option, Some, None, Result, Ok, Err}
 use Rattle.vox_geom.specs.declared.coordinate.Coord.{Coord}
 use Rattle.vox_geom.specs.Space.{IsInSpace}
@@ -52,7 +52,7 @@ abbrev pub refusal_by : Result Kept ModelFault → ModelTold
 refusal_by (Ok k) = number_refusal 0 0 0
 refusal_by (Err fault) = fault_told fault
 
--- a machine is started over the model that the bytes say, unless more notes are asked for than are kept
+-- a machine is started over the model that the bytes say, unless `notes` is more than are kept
 abbrev pub IsStarted : List ℕ → Bool → ℕ → Option Kept → Option Kept → ModelTold → ℕ → Type 0
 IsStarted bytes light notes old new told status =
     ((4096 < notes) × (new ≡ old) × (told ≡ number_refusal 0 0 0) × (status ≡ ARGUMENT))
@@ -60,14 +60,14 @@ IsStarted bytes light notes old new told status =
     × (answer : Result Kept ModelFault) × OpensFile bytes (profile_by light) notes answer
     × Starts old new status answer × (told ≡ refusal_by answer))
 
--- a machine is started over the empty model, unless more notes are asked for than are kept, or there is no such model
+-- a machine is started over the empty model, unless `notes` is more than are kept, or there is no such model
 abbrev pub IsStartedEmpty : ℕ → Bool → ℕ → Option Kept → Option Kept → ℕ → Type 0
 IsStartedEmpty r light notes old new status =
     (((4096 < notes) ⊎ (r ≡ 0) ⊎ (400 < r)) × (new ≡ old) × (status ≡ ARGUMENT)) ⊎ ((notes ≤ 4096) × (1 ≤ r) × (r ≤ 400)
     × (answer : Result Kept ModelFault) × Opens (empty r) (profile_by light) notes answer
     × Starts old new status answer)
 
--- a copy stands where the machine stands, and no step can be taken back in it
+-- a copy is in the machine's state, and no step can be taken back in it
 abbrev pub IsCopied : Option Kept → Option Kept → Option Kept → ℕ → Type 0
 IsCopied None before after status = (after ≡ before) × (status ≡ NO_MACHINE)
 IsCopied (Some k) before after status =
@@ -105,7 +105,7 @@ abbrev pub rule_told : StepAnswer → BrokenTold
 rule_told (Refused (no_step.Broken b)) = broken_told b
 rule_told _ = none_broken
 
--- where the command begins that is bad or cut
+-- the first byte of the command that is bad or cut
 abbrev pub offset_by : StepAnswer → ℕ
 offset_by (Unread (trace_fault.Refused (Bad offset))) = offset
 offset_by (Unread (trace_fault.Refused (Cut offset))) = offset
@@ -121,7 +121,7 @@ abbrev pub high_of : Harmonics → ℕ
 high_of Low = 0
 high_of High = 1
 
--- where the machine stands after a step, and why the step was refused
+-- the machine after a step, and why the step was refused
 abbrev pub step_told : Kept → StepAnswer → StepTold
 step_told k answer =
     record {
@@ -152,9 +152,9 @@ IsUndone None new status = (new ≡ None) × (status ≡ NO_MACHINE)
 IsUndone (Some old) new status =
     (k : Kept) × (new ≡ Some k) × (answer : Bool) × Undoes old k answer × (status ≡ status_of_undo answer)
 
--- ---- what is told
+-- ---- what calls return
 
--- where a machine stands
+-- the machine's state in numbers
 abbrev pub machine_told : Kept → MachineTold
 machine_told k =
     record {
@@ -170,7 +170,7 @@ abbrev pub IsMachineTold : Option Kept → MachineTold → MachineTold → ℕ �
 IsMachineTold None before after status = (after ≡ before) × (status ≡ NO_MACHINE)
 IsMachineTold (Some k) before after status = (after ≡ machine_told k) × (status ≡ DONE)
 
--- what a call gives: all of it to the front of the buffer, or where the buffer is too small only how much it is
+-- what a call gives: all of it to the front of the buffer, or only its size if the buffer is too small
 abbrev pub GivesAll : {X : Type 0} → List X → List X → List X → ℕ → ℕ → Type 0
 GivesAll given before after count status =
     (count ≡ length given)
@@ -198,7 +198,7 @@ IsFullTold (Some k) c before after status =
     (IsInSpace k.state.matrix.resolution c × (after ≡ bit_of (is_full k.state.matrix c)) × (status ≡ DONE))
     ⊎ ((IsInSpace k.state.matrix.resolution c → ⊥) × (after ≡ before) × (status ≡ OUTSIDE))
 
--- the status of a level, and the level where there is one
+-- the status of a level, and the level if there is one
 abbrev pub status_of_level : Result (Option ℕ) NoLevel → ℕ
 status_of_level (Ok (Some n)) = DONE
 status_of_level (Ok None) = NO_LEVEL

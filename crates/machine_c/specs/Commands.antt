@@ -8,12 +8,12 @@ use Rattle.trace_codec.specs.declared.fault.TraceRefusal.TheVariants.{Bad, Cut}
 use Rattle.trace_codec.specs.Whole.{Decodes}
 use Rattle.machine_c.specs.declared.status.TheConstants.{COMMANDS, DONE, MEMORY}
 
--- the bytes spell so many commands, or they are none
+-- the bytes spell `count` commands, or they are none
 abbrev pub CountsCommands : List ℕ → Result ℕ TraceFault → Type 0
 CountsCommands bytes (Ok count) = (commands : List Command) × Cutting bytes commands × (count ≡ length commands)
 CountsCommands bytes (Err fault) = Decodes bytes (Err fault)
 
--- the status, the number, and where the command begins that is bad or cut
+-- the status, the number, and the first byte of the command that is bad or cut
 abbrev pub status_of_commands : Result ℕ TraceFault → ℕ
 status_of_commands (Ok count) = DONE
 status_of_commands (Err (trace_fault.Refused refusal)) = COMMANDS
@@ -28,7 +28,7 @@ offset_of (Err (trace_fault.Refused (Bad offset))) = offset
 offset_of (Err (trace_fault.Refused (Cut offset))) = offset
 offset_of _ = 0
 
--- it is told how many commands the bytes of a trace spell
+-- the call returns how many commands the bytes of a trace spell
 abbrev pub AreCommandsTold : List ℕ → ℕ → ℕ → ℕ → Type 0
 AreCommandsTold bytes count offset status =
     (answer : Result ℕ TraceFault) × CountsCommands bytes answer

@@ -1,5 +1,5 @@
--- How many voxels of a machine's matrix differ from a target.
-use Rattle.std.specs.Prelude.{◌≡◌, ◌≢◌, ℕ, List, Option, Some, None, Ok, Err}
+-- How many voxels of a machine's matrix differ from a target, counted at once or kept.
+use Rattle.std.specs.Prelude.{◌≡◌, ◌≢◌, ◌⊎◌, ℕ, List, Option, Some, None, Ok, Err}
 use Rattle.nano_spec.specs.Matrix.{Matrix}
 use Rattle.nano_spec.specs.Model.{model}
 use Rattle.model_file.specs.declared.fault.ModelFault.TheVariants as model_fault
@@ -8,7 +8,7 @@ use Rattle.kept_machine.specs.Calls.{difference_count}
 use Rattle.kept_machine.specs.Kept.{Kept}
 use Rattle.machine_c.specs.declared.counting.CountAnswer.{CountAnswer}
 use Rattle.machine_c.specs.declared.counting.CountAnswer.TheVariants.{Counted, Unlike, Refused}
-use Rattle.machine_c.specs.declared.status.TheConstants.{DONE, MEMORY, MODEL, NO_MACHINE, RESOLUTION}
+use Rattle.machine_c.specs.declared.status.TheConstants.{DONE, MEMORY, MODEL, NO_MACHINE, NO_TARGET, RESOLUTION}
 use Rattle.machine_c.specs.declared.told.ModelTold.{ModelTold}
 use Rattle.machine_c.specs.Told.{fault_told, number_refusal}
 
@@ -35,10 +35,31 @@ abbrev pub refusal_of_count : CountAnswer → ModelTold
 refusal_of_count (Refused fault) = fault_told fault
 refusal_of_count _ = number_refusal 0 0 0
 
--- it is told at how many coordinates the matrix of a machine and a target differ
+-- the call returns at how many coordinates the matrix of a machine and a target differ
 abbrev pub AreDifferencesTold : Option Kept → List ℕ → ℕ → ℕ → ModelTold → ModelTold → ℕ → Type 0
 AreDifferencesTold None bytes before after refusal_before refusal status =
     (after ≡ before) × (refusal ≡ refusal_before) × (status ≡ NO_MACHINE)
 AreDifferencesTold (Some k) bytes before after refusal_before refusal status =
     (answer : CountAnswer) × Counts k bytes answer
     × (after ≡ differences_by answer) × (refusal ≡ refusal_of_count answer) × (status ≡ status_of_count answer)
+
+-- the model that the bytes say is the machine's target, if its differences were counted; else the machine is as it was
+abbrev pub KeepsTarget : Kept → List ℕ → Kept → CountAnswer → Type 0
+KeepsTarget old bytes new (Counted count) =
+    (m : Matrix) × (model bytes ≡ Ok m) × (new ≡ record old { target = Some m })
+KeepsTarget old bytes new _ = new ≡ old
+
+-- a machine is given its target
+abbrev pub IsTargetSet : Option Kept → List ℕ → Option Kept → ℕ → ℕ → ModelTold → ModelTold → ℕ → Type 0
+IsTargetSet None bytes new before after refusal_before refusal status =
+    (new ≡ None) × (after ≡ before) × (refusal ≡ refusal_before) × (status ≡ NO_MACHINE)
+IsTargetSet (Some old) bytes new before after refusal_before refusal status =
+    (k : Kept) × (new ≡ Some k) × (answer : CountAnswer) × Counts old bytes answer × KeepsTarget old bytes k answer
+    × (after ≡ differences_by answer) × (refusal ≡ refusal_of_count answer) × (status ≡ status_of_count answer)
+
+-- the call returns at how many coordinates the matrix of a machine differs from its target, if it has one
+abbrev pub IsRemainingTold : Option Kept → ℕ → ℕ → ℕ → Type 0
+IsRemainingTold None before after status = (after ≡ before) × (status ≡ NO_MACHINE)
+IsRemainingTold (Some k) before after status =
+    ((k.target ≡ None) × (after ≡ before) × (status ≡ NO_TARGET))
+    ⊎ ((m : Matrix) × (k.target ≡ Some m) × (after ≡ difference_count k.state.matrix m) × (status ≡ DONE))

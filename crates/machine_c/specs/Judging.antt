@@ -31,12 +31,12 @@ abbrev pub harmonics_by : Harmonics → StepAnswer → Harmonics
 harmonics_by harmonics (Made made) = made.harmonics
 harmonics_by harmonics _ = harmonics
 
--- 1 where the step would leave no bot
+-- 1 if the step would leave no bot
 abbrev pub halts_by : StepAnswer → ℕ
 halts_by (Made made) = bit_of (made.active == 0)
 halts_by _ = 0
 
--- what is told of a step that is judged
+-- what a judgement of a step returns
 abbrev pub judged_told : Kept → StepAnswer → JudgedTold
 judged_told k answer =
     record {

@@ -44,7 +44,7 @@ pub record IsNextStep (bytes : List ℕ) (active : ℕ) (here : List ℕ) (comma
   pub follows : bytes ≡ here ++ rest
   pub whole : (length commands ≡ active) ⊎ (rest ≡ [])
 
--- where a command begins that is bad or cut
+-- the first byte of a command that is bad or cut
 abbrev pub refused_at : TraceRefusal → ℕ
 refused_at (Bad offset) = offset
 refused_at (Cut offset) = offset
@@ -92,7 +92,7 @@ abbrev pub bad_byte_of : ℕ → Option StepAnswer → ℕ
 bad_byte_of used (Some (Unread (trace_fault.Refused refusal))) = used + refused_at refusal
 bad_byte_of used _ = 0
 
--- where the machine stands after a trace, and why the next step was refused
+-- the machine after a trace, and why the next step was refused
 abbrev pub played_told : Kept → Played → PlayedTold
 played_told k played =
     record {

@@ -1,4 +1,4 @@
--- What calls tell in numbers.
+-- What calls return, in numbers.
 use Rattle.std.specs.Prelude.{ℕ}
 use Rattle.vox_geom.specs.declared.coordinate.Coord.{Coord}
 use Rattle.nano_spec.specs.declared.outcomes.Broken.{Broken}
@@ -46,7 +46,7 @@ model_told (WideRun index) = number_refusal 10 0 index
 model_told (WideShort have) = number_refusal 11 0 have
 model_told WideLong = number_refusal 12 0 0
 
--- the same where there may have been no memory, which is no refusal
+-- the same if memory may have run out, which is no refusal
 abbrev pub fault_told : ModelFault → ModelTold
 fault_told (fault.Refused refusal) = model_told refusal
 fault_told fault.Memory = number_refusal 0 0 0

@@ -27,7 +27,7 @@ fn count_status(answer: Result<u64, TraceFault>) -> u32
     }
 }
 
-/// How many commands there are, 0 where the bytes are none.
+/// The number of commands, 0 if the bytes are none.
 fn count_of(answer: Result<u64, TraceFault>) -> u64
     ensures { result ≡ commands_by answer }
 {
@@ -48,7 +48,7 @@ fn offset(answer: Result<u64, TraceFault>) -> u64
     }
 }
 
-/// Tells how many commands a trace has.
+/// Counts the commands of a trace.
 #[unsafe(no_mangle)]
 pub extern "C" fn nanobot_commands(
     alloc: Global,

@@ -75,7 +75,7 @@ fn compare(alloc: Global, machine: &KeptMachine, target: &[u8]) -> TargetAnswer
     }
 }
 
-/// Tells whether the matrix is the model that the bytes say, and else the least coordinate at which they differ.
+/// Compares the matrix with the model that the bytes hold; if they differ, `place` is the least coordinate at which they do.
 #[unsafe(no_mangle)]
 pub extern "C" fn nanobot_machine_compare(
     alloc: Global,

@@ -1,9 +1,9 @@
-//! How many voxels of a machine's matrix differ from a target.
+//! How many voxels of a machine's matrix differ from a target, counted at once or kept.
 ghost use Rattle.std.specs.Prelude.{◌≡◌};
-ghost use Rattle.machine_c.specs.Counting.{AreDifferencesTold, Counts, differences_by, refusal_of_count, status_of_count};
+ghost use Rattle.machine_c.specs.Counting.{AreDifferencesTold, Counts, IsTargetSet, IsRemainingTold, KeepsTarget, differences_by, refusal_of_count, status_of_count};
 
 use crate::handle::Handle;
-use crate::status::{DONE, MEMORY, MODEL, NO_MACHINE, RESOLUTION};
+use crate::status::{DONE, MEMORY, MODEL, NO_MACHINE, NO_TARGET, RESOLUTION};
 use crate::told::ModelTold;
 use kept_machine::KeptMachine;
 use model_file::{ModelFault, read_model};
@@ -12,7 +12,7 @@ use std::alloc::Global;
 /// What is counted of a target.
 #[derive(Clone, Copy)]
 pub enum CountAnswer {
-    /// The matrix and the target differ at so many coordinates.
+    /// The number of coordinates at which the matrix and the target differ.
     Counted(u32),
     /// The target is of another resolution.
     Unlike,
@@ -54,7 +54,7 @@ impl CountAnswer {
     }
 }
 
-/// Counts where the matrix and the model that the bytes say differ.
+/// Counts the coordinates at which the matrix and the model that the bytes hold differ.
 fn count_differences(alloc: Global, machine: &KeptMachine, target: &[u8]) -> CountAnswer
     ensures { Counts machine.now target.now result }
 {
@@ -68,7 +68,7 @@ fn count_differences(alloc: Global, machine: &KeptMachine, target: &[u8]) -> Cou
     CountAnswer::Counted(machine.differences(&planes))
 }
 
-/// Tells at how many coordinates the matrix and the model that the bytes say differ.
+/// Counts the coordinates at which the matrix and the model that the bytes hold differ.
 #[unsafe(no_mangle)]
 pub extern "C" fn nanobot_machine_differences(
     alloc: Global,
@@ -88,4 +88,65 @@ pub extern "C" fn nanobot_machine_differences(
     *count = answer.differences();
     *refusal = answer.refusal();
     answer.status()
+}
+
+/// Makes the model that the bytes hold the machine's target, and counts the differences.
+fn aim_at(alloc: Global, machine: &mut KeptMachine, target: &[u8]) -> CountAnswer
+    ensures counted { Counts machine.old target.now result }
+    ensures kept { KeepsTarget machine.old target.now machine.new result }
+{
+    let planes = match read_model(alloc, target) {
+        Ok(planes) => planes,
+        Err(fault) => return CountAnswer::Refused(fault),
+    };
+    if planes.resolution() != machine.matrix().resolution() {
+        return CountAnswer::Unlike;
+    }
+    CountAnswer::Counted(machine.aim(planes))
+}
+
+/// Makes the model that the bytes hold the machine's target, in place of the one before, and counts the coordinates at which the
+/// matrix differs from it.
+#[unsafe(no_mangle)]
+pub extern "C" fn nanobot_machine_aim(
+    alloc: Global,
+    handle: &mut Handle,
+    target: &[u8],
+    count: &mut u32,
+    refusal: &mut ModelTold,
+) -> u32
+    ensures { IsTargetSet handle.old.machine target.now handle.new.machine count.old count.new refusal.old refusal.new result }
+{
+    let Some(mut machine) = handle.take(alloc) else {
+        return NO_MACHINE;
+    };
+    let answer = aim_at(alloc, &mut machine, target);
+    handle.put(machine);
+    *count = answer.differences();
+    *refusal = answer.refusal();
+    answer.status()
+}
+
+/// Returns at how many coordinates the matrix differs from the machine's target. Nothing is counted anew.
+#[unsafe(no_mangle)]
+pub extern "C" fn nanobot_machine_remaining(
+    alloc: Global,
+    handle: &mut Handle,
+    count: &mut u32,
+) -> u32
+    ensures same { handle.new.machine ≡ handle.old.machine }
+    ensures told { IsRemainingTold handle.old.machine count.old count.new result }
+{
+    let Some(machine) = handle.take(alloc) else {
+        return NO_MACHINE;
+    };
+    let remaining = machine.remaining();
+    handle.put(machine);
+    match remaining {
+        Some(differences) => {
+            *count = differences;
+            DONE
+        }
+        None => NO_TARGET,
+    }
 }

@@ -13,7 +13,7 @@ use std::marker::Model;
 use std::mem;
 use std::ptr::null_mut;
 
-/// A machine on the heap, or none. C sees one pointer, and null where there is no machine.
+/// A machine on the heap, or none. C sees one pointer, which is null if there is no machine.
 #[repr(C)]
 pub struct Handle {
     at: *mut u8,

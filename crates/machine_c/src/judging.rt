@@ -37,7 +37,7 @@ fn judge_by(alloc: Global, machine: &mut KeptMachine, bytes: &[u8]) -> StepAnswe
     }
 }
 
-/// 1 where the step would leave no bot.
+/// 1 if the step would leave no bot, else 0.
 fn halts(answer: StepAnswer) -> u32
     ensures { result ≡ halts_by answer }
 {
@@ -47,7 +47,7 @@ fn halts(answer: StepAnswer) -> u32
     }
 }
 
-/// The energy that the machine would have: that of the step, or its own where the step would be refused.
+/// The energy that the machine would have: that of the step, or its own if the step would be refused.
 fn energy_after(energy: i64, answer: StepAnswer) -> i64
     ensures { result ≡ energy_by energy answer }
 {
@@ -77,7 +77,7 @@ fn harmonics_after(harmonics: Harmonics, answer: StepAnswer) -> Harmonics
     }
 }
 
-/// What is told of a step that would come to this answer.
+/// The numbers of a step that would have this outcome.
 fn told_of(machine: &KeptMachine, answer: StepAnswer) -> JudgedTold
     ensures { result ≡ judged_told machine.now answer }
 {

@@ -1,4 +1,4 @@
-//! What a machine tells.
+//! Queries of a machine.
 ghost use Rattle.std.specs.Prelude.{◌≡◌, map, MatchOption};
 ghost use Rattle.vox_geom.specs.Point.{coord};
 ghost use Rattle.vox_geom.specs.Space.{IsInSpace};
@@ -15,7 +15,7 @@ use nano_spec::{Bot, Harmonics};
 use std::alloc::Global;
 use vox_geom::Coord;
 
-/// Tells where the machine stands.
+/// Returns the machine's energy, steps, bots, resolution, harmonics and notes.
 #[unsafe(no_mangle)]
 pub extern "C" fn nanobot_machine_tell(
     alloc: Global,
@@ -50,7 +50,7 @@ pub(crate) fn high(harmonics: Harmonics) -> u32
     }
 }
 
-/// Writes the bots to the front of the buffer, if it takes them, and tells how many they are.
+/// Writes the bots to the front of the buffer if they fit, and their number to `count`.
 fn give_bots(bots: &[Bot], out: &mut [BotTold], count: &mut usize) -> u32
     ensures { GivesAll (map bot_told bots.now) out.old out.new count.new result }
 {
@@ -64,7 +64,7 @@ fn give_bots(bots: &[Bot], out: &mut [BotTold], count: &mut usize) -> u32
     DONE
 }
 
-/// Tells the active bots, in rising order of their bids, and how many they are.
+/// Writes the active bots, in rising order of their bids, and their number.
 #[unsafe(no_mangle)]
 pub extern "C" fn nanobot_machine_bots(
     alloc: Global,
@@ -84,7 +84,7 @@ pub extern "C" fn nanobot_machine_bots(
     status
 }
 
-/// The coordinate, where it is in space.
+/// The coordinate, if it is in space.
 fn place(r: u16, x: u32, y: u32, z: u32) -> Option<Coord>
     ensures { MatchOption result (IsInSpace r (coord x y z) → ⊥) (λ c. (c ≡ coord x y z) × IsInSpace r c) }
 {
@@ -99,7 +99,7 @@ fn place(r: u16, x: u32, y: u32, z: u32) -> Option<Coord>
     None
 }
 
-/// Tells whether the voxel at a coordinate is full, 1 or 0.
+/// Writes 1 if the voxel at a coordinate is full, else 0.
 #[unsafe(no_mangle)]
 pub extern "C" fn nanobot_machine_full(
     alloc: Global,
@@ -137,7 +137,7 @@ fn level_at(machine: &mut KeptMachine, x: u32, y: u32, z: u32) -> Result<Option<
     }
 }
 
-/// Writes the level, if there is one, and tells the status.
+/// Writes the level, if there is one, and returns the status.
 fn give_level(answer: Result<Option<u32>, NoLevel>, level: &mut u32) -> u32
     ensures level { level.new ≡ level_by level.old answer }
     ensures status { result ≡ status_of_level answer }
@@ -153,7 +153,7 @@ fn give_level(answer: Result<Option<u32>, NoLevel>, level: &mut u32) -> u32
     }
 }
 
-/// Tells the level of the voxel at a coordinate: how far it is from the floor along full voxels.
+/// Writes the level of the voxel at a coordinate: its distance from the floor along full voxels.
 #[unsafe(no_mangle)]
 pub extern "C" fn nanobot_machine_level(
     alloc: Global,
@@ -174,7 +174,7 @@ pub extern "C" fn nanobot_machine_level(
     give_level(answer, level)
 }
 
-/// Tells how many voxels are full.
+/// Counts the full voxels.
 #[unsafe(no_mangle)]
 pub extern "C" fn nanobot_machine_count(alloc: Global, handle: &mut Handle, count: &mut u32) -> u32
     ensures same { handle.new.machine ≡ handle.old.machine }
@@ -188,7 +188,7 @@ pub extern "C" fn nanobot_machine_count(alloc: Global, handle: &mut Handle, coun
     DONE
 }
 
-/// Writes bytes to the front of the buffer, if it takes them, and tells how many they are.
+/// Writes bytes to the front of the buffer if they fit, and their number to `size`.
 pub fn give_bytes(bytes: &[u8], out: &mut [u8], size: &mut usize) -> u32
     ensures { GivesAll bytes.now out.old out.new size.new result }
 {

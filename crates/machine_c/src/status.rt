@@ -53,3 +53,6 @@ pub const BEGUN: u32 = 20;
 
 /// No trace is kept.
 pub const NO_TRACE: u32 = 21;
+
+/// The machine has no target.
+pub const NO_TARGET: u32 = 22;

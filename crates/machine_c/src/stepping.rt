@@ -72,7 +72,7 @@ impl StepAnswer {
     }
 }
 
-/// The command that the bytes spell, where they spell one alone.
+/// The command that the bytes spell, if they spell exactly one.
 pub fn only_command(bytes: &[u8]) -> Option<Command>
     ensures { IfSome result (λ command. Cutting bytes.now (command ∷ [])) }
 {

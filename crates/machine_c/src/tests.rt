@@ -2,7 +2,9 @@
 //! low harmonics, a move 2 for each voxel, and a voxel that becomes full 12.
 use crate::commands::nanobot_commands;
 use crate::comparing::nanobot_machine_compare;
-use crate::counting::nanobot_machine_differences;
+use crate::counting::{
+    nanobot_machine_aim, nanobot_machine_differences, nanobot_machine_remaining,
+};
 use crate::handle::Handle;
 use crate::judging::nanobot_machine_judge;
 use crate::playing::nanobot_machine_play;
@@ -41,7 +43,7 @@ const WAIT: &[u8] = &[0xFE];
 
 const HALT: &[u8] = &[0xFF];
 
-/// A machine of resolution 3 over the empty model, with so many notes.
+/// A machine of resolution 3 over the empty model, with this many notes.
 fn empty_of_three(rt: &impl Abort, alloc: Global, notes: u32) -> Handle {
     let mut handle = Handle::empty(alloc);
     assert_eq!(rt;
@@ -142,7 +144,7 @@ fn assert_trace(rt: &impl Abort, alloc: Global, handle: &mut Handle, bytes: &[u8
     assert_eq!(rt; trace.get(..size), Some(bytes));
 }
 
-/// The matrix differs from the model at so many coordinates.
+/// The matrix differs from the model at `want` coordinates.
 fn assert_differs(rt: &impl Abort, alloc: Global, handle: &mut Handle, target: &[u8], want: u32) {
     let mut count = 7;
     let mut refusal = ModelTold::none();
@@ -158,7 +160,7 @@ fn assert_undone(rt: &impl Abort, alloc: Global, handle: &mut Handle, status: u3
     assert_eq!(rt; nanobot_machine_undo(alloc, handle), status);
 }
 
-/// The machine stands after so many steps, and so many of them can be taken back.
+/// The machine has made `steps` steps, of which `noted` can be taken back.
 fn assert_stands(rt: &impl Abort, alloc: Global, handle: &mut Handle, steps: u32, noted: u64) {
     let mut told = MachineTold {
         energy: 7,
@@ -174,7 +176,7 @@ fn assert_stands(rt: &impl Abort, alloc: Global, handle: &mut Handle, steps: u32
     assert_eq!(rt; told.resolution, 3);
 }
 
-/// So many voxels are full.
+/// The number of full voxels is `want`.
 fn assert_counts(rt: &impl Abort, alloc: Global, handle: &mut Handle, full: u32) {
     let mut count = 7;
     assert_eq!(rt; nanobot_machine_count(alloc, handle, &mut count), 0);
@@ -379,6 +381,44 @@ fn differences_are_counted(rt: HostRuntime) -> Result<(), Fail> {
         nanobot_machine_differences(alloc, &mut handle, P3, &mut count, &mut refusal),
         11
     );
+    Ok(())
+}
+
+/// The status and the number of voxels that still differ from the target are these.
+fn assert_remains(rt: &impl Abort, alloc: Global, handle: &mut Handle, want: (u32, u32)) {
+    let mut count = 7;
+    let status = nanobot_machine_remaining(alloc, handle, &mut count);
+    assert_eq!(rt; status, want.0);
+    assert_eq!(rt; count, want.1);
+}
+
+#[test]
+fn a_target_is_kept(rt: HostRuntime) -> Result<(), Fail> {
+    let alloc = rt.alloc();
+    let mut handle = empty_of_three(&rt, alloc, 2);
+    assert_remains(&rt, alloc, &mut handle, (22, 7));
+    let mut count = 7;
+    let mut refusal = ModelTold::none();
+    assert_eq!(&rt;
+        nanobot_machine_aim(alloc, &mut handle, &[0x02, 0x00], &mut count, &mut refusal),
+        19
+    );
+    assert_remains(&rt, alloc, &mut handle, (22, 7));
+    assert_eq!(&rt;
+        nanobot_machine_aim(alloc, &mut handle, P3, &mut count, &mut refusal),
+        0
+    );
+    assert_eq!(&rt; count, 1);
+    assert_steps(&rt, alloc, &mut handle, FILL, (0, 113, 1, 0));
+    assert_remains(&rt, alloc, &mut handle, (0, 2));
+    let mut other = Handle::empty(alloc);
+    assert_eq!(&rt; nanobot_machine_copy(alloc, &mut handle, &mut other), 0);
+    assert_undone(&rt, alloc, &mut handle, 0);
+    assert_remains(&rt, alloc, &mut handle, (0, 1));
+    assert_remains(&rt, alloc, &mut other, (0, 2));
+    nanobot_machine_end(alloc, &mut other);
+    assert_remains(&rt, alloc, &mut other, (11, 7));
+    nanobot_machine_end(alloc, &mut handle);
     Ok(())
 }
 

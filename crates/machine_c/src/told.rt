@@ -1,4 +1,4 @@
-//! What calls tell, as C sees it.
+//! What calls return, as C sees it.
 ghost use Rattle.std.specs.Prelude.{◌≡◌};
 ghost use Rattle.machine_c.specs.Told.{bot_told, broken_told, fault_told, model_told};
 
@@ -200,7 +200,7 @@ impl ModelTold {
         }
     }
 
-    /// The numbers of a refusal, or none for want of memory.
+    /// The numbers of a refusal; all 0 if memory ran out.
     pub fn of(fault: ModelFault) -> ModelTold
         ensures { result ≡ fault_told fault }
     {

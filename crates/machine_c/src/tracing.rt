@@ -32,7 +32,7 @@ pub extern "C" fn nanobot_machine_keep(alloc: Global, handle: &mut Handle) -> u3
     keep_status(is_begun)
 }
 
-/// Writes the bytes of the commands to the front of the buffer, if it takes them, and tells how many they are.
+/// Writes the bytes of the commands to the front of the buffer if they fit, and their number to `size`.
 fn give_commands(alloc: Global, commands: &[Command], out: &mut [u8], size: &mut usize) -> u32
     ensures { GivesTrace commands.now out.old out.new size.new result }
 {

@@ -1,11 +1,21 @@
-use Rattle.std.proofs.Common.{sym, subst}
+use Rattle.std.proofs.Common.{◌≡◌, ◌∙◌, ap, sym, subst}
 use Rattle.std.specs.Prelude.{Err}
+use Rattle.nano_spec.specs.Matrix.{Matrix}
+use Rattle.nano_spec.specs.State.{State}
+use Rattle.step_machine.specs.Undoing.{matrix_before}
+use Rattle.kept_machine.specs.Aiming.{IsTargetCounted}
 use Rattle.kept_machine.specs.declared.fault.NoStep.{NoStep}
 use Rattle.kept_machine.specs.Calls.{Tries}
 use Rattle.kept_machine.specs.Kept.{kept_of}
 use Rattle.kept_machine.proofs.Changing.{told_noted}
 use Rattle.kept_machine.proofs.Steps.{kept_noted, made_noted, refused_so}
 use Rattle.kept_machine.proofs.stepping.step_and_note.Goals as goal
+
+pub count_step-requires-clause-before : goal.count_step-requires-clause-before
+count_step-requires-clause-before g c =
+    let was : c.args.machine.now.state.matrix ≡ matrix_before c.matrix-in-Ok.result.now c.in-Ok.undo.filled.items c.in-Ok.undo.voided.items =
+    sym (ap (λ (s : State). s.matrix) c.in-Ok.ensures.before) ∙ ap (λ (m : Matrix). matrix_before m c.in-Ok.undo.filled.items c.in-Ok.undo.voided.items) (sym c.matrix-in-Ok.ensures.value) in
+    subst (λ (m : Matrix). IsTargetCounted m c.args.aim.now) was c.requires.aimed
 
 pub returns-in-Ok-clause-kept : goal.returns-in-Ok-clause-kept
 returns-in-Ok-clause-kept g c =

@@ -30,6 +30,7 @@ returns-in-Ok-clause-tries g c = λ trace. record {
       (subst (λ (n : ℕ). length c.args.notes.now.items ≤ n) c.capacity-room.ensures.capacity c.capacity-room.ensures.within.0);
   room = refl;
   trace = refl;
+  target = refl;
   tells =
       told_one c.args.machine.now.state c.step.new.self.state c.args.commands.now (c.args.machine.now.steps + 1) c.args.c c.matrix.result.now c.matrix-in-Ok.result.now
       c.full_at-before.result c.full_at-after.result c.changed_voxels.result c.done.result c.requires.one c.in-Ok.ensures.stepped.goes
