@@ -29,7 +29,7 @@
 extern "C" {
 #endif
 
-/* A machine, or none: `at` is null where there is none. */
+/* A machine, or none: `at` is null if there is none. */
 typedef struct nanobot_machine {
     void *at;
 } nanobot_machine;
@@ -37,7 +37,7 @@ typedef struct nanobot_machine {
 /* Statuses beside those of nanobot.h. NANOBOT_WORDS is that of a number which a call does not take, NANOBOT_TRACE that of bytes
  * which are no commands. */
 enum {
-    NANOBOT_NO_MACHINE = 11, /* the handle is empty; nothing is told */
+    NANOBOT_NO_MACHINE = 11, /* the handle is empty; nothing is written */
     NANOBOT_ENDED = 12,      /* no bot is active any more, whatever the commands are */
     NANOBOT_COUNT = 13,      /* some bot is active, and there are more or fewer commands than active bots */
     NANOBOT_LONG = 14,       /* there is one command for each bot, and the machine has made its 1,073,741,824 steps */
@@ -122,8 +122,8 @@ typedef struct nanobot_broken {
     uint32_t rule, step, bid, x, y, z;
 } nanobot_broken;
 
-/* Where the machine stands after a step was made or refused: energy, steps made, active bots, `high` 1 under high harmonics. The step
- * `changed` so many voxels, 0 if it was refused. `offset` is the first byte of a command that is bad or cut (NANOBOT_TRACE), `broken` the
+/* The machine after a step was made or refused: energy, steps made, active bots, `high` 1 under high harmonics, and the number of
+ * voxels that the step `changed`, 0 if it was refused. `offset` is the first byte of a command that is bad or cut (NANOBOT_TRACE), `broken` the
  * rule that is broken (NANOBOT_BROKEN); else they are 0. */
 typedef struct nanobot_step {
     int64_t energy;
@@ -143,8 +143,8 @@ typedef struct nanobot_played {
     nanobot_broken broken;
 } nanobot_played;
 
-/* What a step would come to: the energy, the active bots and the harmonics that the machine would have (its own where the step would be
- * refused), how many voxels would be `changed`, and `halts` 1 where no bot would be left. `offset` and `broken` are as in nanobot_step. */
+/* The outcome that a step would have: energy, active bots and harmonics after it (the machine's own if it would be refused), how many
+ * voxels it would change, and `halts` 1 if it would leave no bot. `offset` and `broken` are as in nanobot_step. */
 typedef struct nanobot_judged {
     int64_t energy;
     uint64_t offset;
@@ -153,7 +153,7 @@ typedef struct nanobot_judged {
     uint32_t active, high, changed;
 } nanobot_judged;
 
-/* Where a machine stands: `high` is 1 under high harmonics, and so many steps are `noted` that can be taken back. */
+/* The state of a machine: `high` is 1 under high harmonics, and `noted` steps can be taken back. */
 typedef struct nanobot_state {
     int64_t energy;
     uint32_t steps, active, resolution, high;
@@ -205,8 +205,8 @@ uint32_t nanobot_machine_step(nanobot_machine *machine, const uint8_t *commands,
  */
 uint32_t nanobot_machine_play(nanobot_machine *machine, const uint8_t *trace, size_t trace_size, uint32_t most, nanobot_played *played);
 
-/* Tells what a step of these bytes would come to, with the status of nanobot_machine_step, and leaves the machine as it was: whether it
- * would be accepted, and at what energy. It copies nothing: it takes as long as a step and an undo, and as a start after one that
+/* Judges a step of these bytes without making it, with the status of nanobot_machine_step: whether it would be accepted, and at what
+ * energy. The machine does not change. It copies nothing: it takes as long as a step and an undo, and as a start after one that
  * would break rule 12, as nanobot_machine_step does.
  *
  *     nanobot_judged judged;
@@ -222,15 +222,15 @@ uint32_t nanobot_machine_judge(nanobot_machine *machine, const uint8_t *commands
  */
 uint32_t nanobot_machine_undo(nanobot_machine *machine);
 
-/* Starts a second machine where the first one stands, with the same target, and with a trace of its own if one is kept. No step can be taken back in it until it
- * makes some. It takes as long as a start over such a model.
+/* Starts a second machine in the state of the first one, with the same target, and with a trace of its own if one is kept. In the new
+ * machine no earlier step can be taken back. It takes as long as a start over such a model.
  *
  *     nanobot_machine other = {0};
  *     nanobot_machine_copy(&machine, &other);
  */
 uint32_t nanobot_machine_copy(nanobot_machine *machine, nanobot_machine *copy);
 
-/* Tells where the machine stands.
+/* Writes the state of the machine.
  *
  *     nanobot_state state;
  *     if (nanobot_machine_tell(&machine, &state) == NANOBOT_DONE) printf("%lld\n", (long long)state.energy);
@@ -246,21 +246,21 @@ uint32_t nanobot_machine_tell(nanobot_machine *machine, nanobot_state *state);
  */
 uint32_t nanobot_machine_bots(nanobot_machine *machine, nanobot_bot *bots, size_t room, size_t *count);
 
-/* Tells whether the voxel at a coordinate is full, 1 or 0.
+/* Writes whether the voxel at a coordinate is full, 1 or 0.
  *
  *     uint32_t full;
  *     nanobot_machine_full(&machine, 1, 0, 1, &full);
  */
 uint32_t nanobot_machine_full(nanobot_machine *machine, uint32_t x, uint32_t y, uint32_t z, uint32_t *full);
 
-/* Tells the level of a full voxel: how far it is from the floor along full voxels.
+/* Writes the level of a full voxel: its distance from the floor along full voxels.
  *
  *     uint32_t level;
  *     if (nanobot_machine_level(&machine, 1, 0, 1, &level) == NANOBOT_NO_LEVEL) puts("void");
  */
 uint32_t nanobot_machine_level(nanobot_machine *machine, uint32_t x, uint32_t y, uint32_t z, uint32_t *level);
 
-/* Tells how many voxels are full.
+/* Counts the full voxels.
  *
  *     uint32_t count_full;
  *     nanobot_machine_count(&machine, &count_full);
@@ -285,7 +285,7 @@ uint32_t nanobot_machine_model(nanobot_machine *machine, uint8_t *model, size_t 
 uint32_t nanobot_machine_compare(nanobot_machine *machine, const uint8_t *target, size_t target_size, nanobot_place *place,
                                  nanobot_refusal *refusal);
 
-/* Tells at how many coordinates the matrix and the model of these bytes differ, 0 where they are the same. The statuses are those of
+/* Counts the coordinates at which the matrix and the model of these bytes differ, 0 if they are the same. The statuses are those of
  * nanobot_machine_compare without NANOBOT_DIFFERS.
  *
  *     uint32_t left;
@@ -295,7 +295,7 @@ uint32_t nanobot_machine_compare(nanobot_machine *machine, const uint8_t *target
 uint32_t nanobot_machine_differences(nanobot_machine *machine, const uint8_t *target, size_t target_size, uint32_t *count,
                                      nanobot_refusal *refusal);
 
-/* Makes the model of these bytes the machine's target, in place of the one before, and tells at how many coordinates they differ, as
+/* Makes the model of these bytes the machine's target, in place of the one before, and counts the differences as
  * nanobot_machine_differences does. From here on each step and each undo updates that number, at the cost of a comparison for each
  * voxel that it changes. A copy has the same target. A refused call leaves the target as it was.
  *
@@ -304,13 +304,13 @@ uint32_t nanobot_machine_differences(nanobot_machine *machine, const uint8_t *ta
 uint32_t nanobot_machine_aim(nanobot_machine *machine, const uint8_t *target, size_t target_size, uint32_t *count,
                              nanobot_refusal *refusal);
 
-/* Tells at how many coordinates the matrix differs from the machine's target; nothing is counted anew. NANOBOT_NO_TARGET: it has none.
+/* Writes at how many coordinates the matrix differs from the machine's target; nothing is counted anew. NANOBOT_NO_TARGET: it has none.
  *
  *     if (nanobot_machine_remaining(&machine, &left) == NANOBOT_DONE) printf("%u voxels to go\n", (unsigned)left);
  */
 uint32_t nanobot_machine_remaining(nanobot_machine *machine, uint32_t *count);
 
-/* Keeps the trace of the machine from here on: the commands of all steps that are made and not taken back. NANOBOT_BEGUN where steps
+/* Keeps the trace of the machine from here on: the commands of all steps that are made and not taken back. NANOBOT_BEGUN if steps
  * were made before. A start keeps none.
  *
  *     nanobot_machine_keep(&other);
@@ -331,7 +331,7 @@ uint32_t nanobot_machine_trace(nanobot_machine *machine, uint8_t *trace, size_t 
  */
 void nanobot_machine_end(nanobot_machine *machine);
 
-/* Tells how many commands the bytes of a trace spell; nanobot_cost tells its energy and steps. NANOBOT_TRACE: *offset is the first byte
+/* Counts the commands of a trace; nanobot_cost tells its energy and steps. NANOBOT_TRACE: *offset is the first byte
  * of a command that is bad or cut. What does not belong to the status is 0.
  *
  *     uint64_t commands, offset;

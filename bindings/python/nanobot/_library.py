@@ -111,7 +111,7 @@ Call = Callable[..., int]
 
 
 def _path() -> str:
-    """The library that the environment names, or else the one in the package's folder."""
+    """The library that the environment names; otherwise the one in the package's folder."""
     named = os.environ.get("NANOBOT_LIBRARY")
     return named or os.path.join(os.path.dirname(os.path.abspath(__file__)), NAME)
 
@@ -152,7 +152,7 @@ def lend(data: bytes) -> Tuple[bytes, int]:
 
 
 def address_of(data: bytes) -> int:
-    """Where the bytes lie, for a call that reads a part of them without a copy. It is never null."""
+    """The address of the bytes, for a call that reads a part of them without a copy. It is never null."""
     return ctypes.cast(ctypes.c_char_p(data), c_void_p).value or 0
 
 

@@ -17,7 +17,7 @@ from .why import Row, spaced, why
 
 
 def _around(data: bytes, offset: int) -> str:
-    """The bytes round an offset, of which its own stands in brackets."""
+    """The bytes around an offset, with its own in brackets."""
     first = max(0, offset - 6)
     return " ".join(f"[{b:02x}]" if i == offset else f"{b:02x}" for i, b in enumerate(data[first : offset + 7], first))
 
@@ -37,7 +37,7 @@ def walk_to_the_end(machine: Machine, data: bytes) -> Tuple[int, Optional[Broken
 
 
 class Runs:
-    """The run of a trace from its source, begun anew as often as it is asked for."""
+    """The run of a trace from its source, started anew at each call."""
 
     def __init__(self, source: bytes, target: bytes, data: bytes, light: bool) -> None:
         """An empty source or target is the empty model of the other's resolution."""
@@ -122,7 +122,7 @@ def _broken_run(machine: Machine, runs: Runs) -> Iterator[str]:
 
 
 def explain(source: Optional[Source], target: Optional[Source], trace: Source, *, light: bool = False) -> Iterator[str]:
-    """Yields the lines that tell why a trace is refused, or what it costs: first the line that the program prints of it.
+    """Yields the lines that say why a trace is refused, or what it costs: first the line that the program prints of it.
 
     Takes what `judge` takes. A trace is judged, and if it is refused its steps are made once, and once more to find the first voxel that
     the target has not. Raises ValueError if neither a source nor a target is given, TypeError, OSError or MemoryError."""

@@ -131,10 +131,10 @@ def coord_of(at: At) -> Coord:
     return Coord(x, y, z)
 
 
-def refusal_of(told: lib.Refusal) -> RefusedModel:
+def refusal_of(result: lib.Refusal) -> RefusedModel:
     """Why a model is refused."""
-    at = Coord(told.x, told.y, told.z) if told.number in (6, 7) else None
-    return RefusedModel(told.number, told.want, told.have, at)
+    at = Coord(result.x, result.y, result.z) if result.number in (6, 7) else None
+    return RefusedModel(result.number, result.want, result.have, at)
 
 
 @lru_cache(maxsize=4096)
@@ -196,10 +196,10 @@ class Machine:
             self.keep()
 
     def _start(self, data: bytes, light: bool, notes: int) -> None:
-        told = lib.Refusal()
-        status = library.machine_start(*lib.lend(data), light, notes, byref(self._handle), byref(told))
+        result = lib.Refusal()
+        status = library.machine_start(*lib.lend(data), light, notes, byref(self._handle), byref(result))
         if status == lib.MODEL:
-            raise refusal_of(told)
+            raise refusal_of(result)
         self._check(status)
 
     def _check(self, status: int) -> None:
@@ -292,38 +292,38 @@ class Machine:
         Raises `BrokenRule`, `BadCommands` (bytes that are no commands), `WrongCount`, `NoBot` (a bid that is not active), `Ended`,
         `TooManySteps`, `Closed`, TypeError or MemoryError; the machine is then as it was. It takes some microseconds, and a
         time that grows with the voxels whose level changes."""
-        told, data = lib.StepTold(), self._spelled(commands)
-        status = library.machine_step(byref(self._handle), data, len(data), byref(told))
+        result, data = lib.StepTold(), self._spelled(commands)
+        status = library.machine_step(byref(self._handle), data, len(data), byref(result))
         if status:
-            self._refuse(status, told.broken, told.offset, data)
-        return Step(told.energy, told.steps, told.active, told.high == 1, told.changed)
+            self._refuse(status, result.broken, result.offset, data)
+        return Step(result.energy, result.steps, result.active, result.high == 1, result.changed)
 
     def play(self, trace: Source, most: Optional[int] = None, offset: int = 0) -> Played:
-        """Makes the steps of a trace one after another, from a byte on, at most so many or all, and returns how far it came.
+        """Makes the steps of a trace one after another, from a byte on, at most `most` or all, and returns how far it came.
 
         The trace is bytes or the name of a file. Each step is made as `step` makes it, and may be taken back as others are. A step that is
-        refused ends the call and is told in `refused`; the machine is then as the step before it left it. Nothing is refused where the bytes
+        refused ends the call and is result in `refused`; the machine is then as the step before it left it. Nothing is refused where the bytes
         end behind a step, also if bots are left. A step takes a fraction of a microsecond.
 
         Raises `Closed`, TypeError, ValueError, OSError or MemoryError; after a MemoryError the steps before it are made."""
-        data, told = bytes_of(trace, "a trace"), lib.PlayedTold()
+        data, result = bytes_of(trace, "a trace"), lib.PlayedTold()
         begin = number_of("offset", offset, 0, len(data))
         steps = MOST_NUMBER if most is None else number_of("most", most, 0, MOST_NUMBER)
-        status = library.machine_play(byref(self._handle), lib.address_of(data) + begin, len(data) - begin, steps, byref(told))
-        used = begin + told.used
-        refused = self._refusal(status, told.broken, begin + told.offset, data[used:]) if status else None
-        return Played(told.made, used, told.energy, told.steps, told.active, told.high == 1, refused)
+        status = library.machine_play(byref(self._handle), lib.address_of(data) + begin, len(data) - begin, steps, byref(result))
+        used = begin + result.used
+        refused = self._refusal(status, result.broken, begin + result.offset, data[used:]) if status else None
+        return Played(result.made, used, result.energy, result.steps, result.active, result.high == 1, refused)
 
     def judge(self, commands: Commands) -> Judged:
         """Returns what `step` would, and whether no bot would be left; makes no step.
 
         Takes the same commands as `step`, and raises the same errors. The machine stays as it is. It takes as long as a step and an undo;
         after one that breaks rule 12 the next step, judgement or level takes as long as a start."""
-        told, data = lib.JudgedTold(), self._spelled(commands)
-        status = library.machine_judge(byref(self._handle), data, len(data), byref(told))
+        result, data = lib.JudgedTold(), self._spelled(commands)
+        status = library.machine_judge(byref(self._handle), data, len(data), byref(result))
         if status:
-            self._refuse(status, told.broken, told.offset, data)
-        return Judged(told.energy, told.halts == 1, told.active, told.high == 1, told.changed)
+            self._refuse(status, result.broken, result.offset, data)
+        return Judged(result.energy, result.halts == 1, result.active, result.high == 1, result.changed)
 
     def why(self, commands: Commands) -> List[str]:
         """Returns the lines that say why a step of these commands is refused, and none if it is not; makes no step.
@@ -344,9 +344,9 @@ class Machine:
     @property
     def state(self) -> State:
         """The energy, steps, active bots, resolution, harmonics and noted steps, in one call. Raises `Closed`."""
-        told = lib.StateTold()
-        self._check(library.machine_tell(byref(self._handle), byref(told)))
-        return State(told.energy, told.steps, told.active, told.resolution, told.high == 1, told.noted)
+        result = lib.StateTold()
+        self._check(library.machine_tell(byref(self._handle), byref(result)))
+        return State(result.energy, result.steps, result.active, result.resolution, result.high == 1, result.noted)
 
     @property
     def energy(self) -> int:
@@ -390,32 +390,32 @@ class Machine:
 
     def full(self, at: At) -> bool:
         """Returns whether the voxel at a coordinate is full. Raises `OutOfSpace`, TypeError or `Closed`."""
-        c, told = coord_of(at), c_uint32()
-        status = library.machine_full(byref(self._handle), *c, byref(told))
+        c, result = coord_of(at), c_uint32()
+        status = library.machine_full(byref(self._handle), *c, byref(result))
         if status == lib.OUTSIDE:
             raise OutOfSpace(c)
         self._check(status)
-        return told.value == 1
+        return result.value == 1
 
     def level(self, at: At) -> Optional[int]:
         """Returns how far the voxel at a coordinate is from the floor along full voxels; None if it is void or not grounded.
 
         Raises `OutOfSpace`, TypeError, `Closed` or MemoryError. After a step or a judgement that broke rule 12 it takes as long as a
         start."""
-        c, told = coord_of(at), c_uint32()
-        status = library.machine_level(byref(self._handle), *c, byref(told))
+        c, result = coord_of(at), c_uint32()
+        status = library.machine_level(byref(self._handle), *c, byref(result))
         if status == lib.OUTSIDE:
             raise OutOfSpace(c)
         if status == lib.NO_LEVEL:
             return None
         self._check(status)
-        return told.value
+        return result.value
 
     def count(self) -> int:
         """Returns how many voxels are full. Raises `Closed`."""
-        told = c_uint32()
-        self._check(library.machine_count(byref(self._handle), byref(told)))
-        return told.value
+        result = c_uint32()
+        self._check(library.machine_count(byref(self._handle), byref(result)))
+        return result.value
 
     def model(self) -> bytes:
         """Returns the matrix as the bytes of a model's file. Raises `Closed` or MemoryError. `matrix` returns it as a `Model`."""
@@ -428,10 +428,10 @@ class Machine:
         """Returns the matrix as a `Model`, of which `full` are the full voxels. Raises `Closed` or MemoryError."""
         return Model.from_bytes(self.model())
 
-    def _refuse_target(self, status: int, told: lib.Refusal, target: bytes) -> None:
+    def _refuse_target(self, status: int, result: lib.Refusal, target: bytes) -> None:
         """Raises why a target is refused."""
         if status == lib.MODEL:
-            raise refusal_of(told)
+            raise refusal_of(result)
         if status == lib.RESOLUTION:
             raise OtherResolution(self.state.resolution, resolution_of(target))
         self._check(status)
@@ -441,11 +441,11 @@ class Machine:
 
         The target is bytes, a `Model` or the name of a file, and need not be legal. Raises `OtherResolution`, `RefusedModel`, TypeError,
         OSError, `Closed` or MemoryError. Most of its time goes into reading the target: some 20 ms at resolution 250."""
-        data, place, told = bytes_of(target, "the target"), lib.Place(), lib.Refusal()
-        status = library.machine_compare(byref(self._handle), data, len(data), byref(place), byref(told))
+        data, place, result = bytes_of(target, "the target"), lib.Place(), lib.Refusal()
+        status = library.machine_compare(byref(self._handle), data, len(data), byref(place), byref(result))
         if status == lib.DIFFERS:
             return Coord(place.x, place.y, place.z)
-        self._refuse_target(status, told, data)
+        self._refuse_target(status, result, data)
         return None
 
     def differences(self, target: Source) -> int:
@@ -453,9 +453,9 @@ class Machine:
 
         Takes and raises what `difference` does. It visits the whole matrix: 40 to 80 ms at resolution 250. `aim` and `remaining` keep the
         number up to date instead."""
-        data, count, told = bytes_of(target, "the target"), c_uint32(), lib.Refusal()
-        status = library.machine_differences(byref(self._handle), data, len(data), byref(count), byref(told))
-        self._refuse_target(status, told, data)
+        data, count, result = bytes_of(target, "the target"), c_uint32(), lib.Refusal()
+        status = library.machine_differences(byref(self._handle), data, len(data), byref(count), byref(result))
+        self._refuse_target(status, result, data)
         return count.value
 
     def aim(self, target: Source) -> int:
@@ -463,9 +463,9 @@ class Machine:
 
         Takes and raises what `difference` does; if it raises, the target stays. Each step and each undo then updates `remaining`, at the
         cost of a comparison for each voxel that it changes. A copy has the same target."""
-        data, count, told = bytes_of(target, "the target"), c_uint32(), lib.Refusal()
-        status = library.machine_aim(byref(self._handle), data, len(data), byref(count), byref(told))
-        self._refuse_target(status, told, data)
+        data, count, result = bytes_of(target, "the target"), c_uint32(), lib.Refusal()
+        status = library.machine_aim(byref(self._handle), data, len(data), byref(count), byref(result))
+        self._refuse_target(status, result, data)
         return count.value
 
     @property

@@ -80,8 +80,8 @@ class Telling(unittest.TestCase):
     def test_harmonics_and_how_many_voxels_changed(self):
         for notes in (0, 5):
             with Machine(resolution=4, notes=notes) as machine:
-                told = [machine.step(it)[3:] for it in (FILL_BESIDE, FILL_BESIDE, FLIP, bytes(nanobot.Void(0, 0, 1)))]
-                self.assertEqual(told, [(False, 1), (False, 0), (True, 0), (True, 1)])
+                result = [machine.step(it)[3:] for it in (FILL_BESIDE, FILL_BESIDE, FLIP, bytes(nanobot.Void(0, 0, 1)))]
+                self.assertEqual(result, [(False, 1), (False, 0), (True, 0), (True, 1)])
 
 
 class Playing(unittest.TestCase):

@@ -31,11 +31,11 @@ class Explaining(unittest.TestCase):
         self.assertEqual(lines(E3, P3, POST), ["ok energy 420 steps 4"])
 
     def test_both_groups_of_an_interference(self):
-        told = lines(E3, P3, b"\x75\x05\x73\xfe")
-        self.assertEqual(told[0], "broken 11 Interference step 2 bid 1 at 0 0 1")
-        self.assertEqual(told[1], "step 2 begins at byte 2, with 2 commands for 2 bots")
+        result = lines(E3, P3, b"\x75\x05\x73\xfe")
+        self.assertEqual(result[0], "broken 11 Interference step 2 bid 1 at 0 0 1")
+        self.assertEqual(result[1], "step 2 begins at byte 2, with 2 commands for 2 bots")
         self.assertEqual(
-            told[2:],
+            result[2:],
             [
                 "the group of bot 1 uses 0 0 1:",
                 "  byte 2: bot 1 at 0 0 0: Fill <0,0,1>",
@@ -45,34 +45,34 @@ class Explaining(unittest.TestCase):
         )
 
     def test_a_voxel_that_floats(self):
-        told = lines(E3, P3, b"\xfe\x83")
-        self.assertEqual(told[0], "broken 12 Ungrounded step 2 bid 0 at 0 1 0")
-        self.assertEqual(told[3], "  byte 1: bot 1 at 0 0 0: Fill <0,1,0>")
+        result = lines(E3, P3, b"\xfe\x83")
+        self.assertEqual(result[0], "broken 12 Ungrounded step 2 bid 0 at 0 1 0")
+        self.assertEqual(result[3], "  byte 1: bot 1 at 0 0 0: Fill <0,1,0>")
 
     def test_a_bad_byte(self):
-        told = lines(E3, P3, b"\xfe\x04\xfe")
-        self.assertEqual(told, ["trace bad at 1", "the command at byte 1 is none: fe [04] fe", "it is that of bot 1 in step 2, which begins at byte 1"])
+        result = lines(E3, P3, b"\xfe\x04\xfe")
+        self.assertEqual(result, ["trace bad at 1", "the command at byte 1 is none: fe [04] fe", "it is that of bot 1 in step 2, which begins at byte 1"])
 
     def test_a_trace_that_ends(self):
-        told = lines(E3, P3, POST[:2])
-        self.assertEqual(told[0], "broken 1 TraceEnds step 2 bid 1 at 1 0 0")
+        result = lines(E3, P3, POST[:2])
+        self.assertEqual(result[0], "broken 1 TraceEnds step 2 bid 1 at 1 0 0")
 
     def test_a_wrong_result(self):
-        told = lines(E3, P3, b"\xff")
-        self.assertEqual(told[0], "broken 14 WrongResult step 1 bid 0 at 1 0 1")
-        self.assertEqual(told[1:], ["1 voxels differ from the target; the least:", "  1 0 1 is void, wanted: full"])
+        result = lines(E3, P3, b"\xff")
+        self.assertEqual(result[0], "broken 14 WrongResult step 1 bid 0 at 1 0 1")
+        self.assertEqual(result[1:], ["1 voxels differ from the target; the least:", "  1 0 1 is void, wanted: full"])
         self.assertEqual(lines(E3, None, POST)[2:], ["  1 0 1 is full, wanted: void"])
 
     def test_bad_bytes_behind_a_broken_step(self):
         # Flip, Halt under High, and then a byte that begins no command
-        told = lines(E3, P3, b"\xfd\xff\x03")
-        self.assertEqual(told[0], "trace bad at 2")
-        self.assertEqual(told[1:], ["the command at byte 2 is none: fd ff [03]", "before it, at byte 1: broken 4 HaltLow step 2 bid 1 at 0 0 0"])
+        result = lines(E3, P3, b"\xfd\xff\x03")
+        self.assertEqual(result[0], "trace bad at 2")
+        self.assertEqual(result[1:], ["the command at byte 2 is none: fd ff [03]", "before it, at byte 1: broken 4 HaltLow step 2 bid 1 at 0 0 0"])
 
     def test_cut_bytes_behind_a_halt(self):
-        told = lines(E3, P3, b"\xff\x14")
-        self.assertEqual(told[0], "trace cut at 1")
-        self.assertEqual(told[1:], ["the command at byte 1 is cut: ff [14]", "before it the last bot halts in step 1, which ends at byte 1"])
+        result = lines(E3, P3, b"\xff\x14")
+        self.assertEqual(result[0], "trace cut at 1")
+        self.assertEqual(result[1:], ["the command at byte 1 is cut: ff [14]", "before it the last bot halts in step 1, which ends at byte 1"])
 
     def test_words_that_are_not_understood(self):
         for words in (["explain", "-", "-", "b"], ["walk", "light", "-", "-", "b"], ["explain", "-", "t"], ["judge", "-", "t", "b"]):
@@ -87,10 +87,10 @@ class Explaining(unittest.TestCase):
     def test_a_group_that_lacks_a_bot(self):
         # both bots are to fill the line from 1 0 1 to 3 0 1, and the second one names a shorter one
         trace = nanobot.asm("Fission <1,0,0> 1\nWait\nSMove <3,0,0>\nGFill <1,0,1> <2,0,0>\nGFill <-1,0,1> <-1,0,0>\n")
-        told = lines(b"\x05" + bytes(16), None, trace)
-        self.assertEqual(told[0], "broken 10 GroupShape step 3 bid 1 at 0 0 0")
+        result = lines(b"\x05" + bytes(16), None, trace)
+        self.assertEqual(result[0], "broken 10 GroupShape step 3 bid 1 at 0 0 0")
         self.assertEqual(
-            told[5:],
+            result[5:],
             [
                 "the corner 3 0 1 has no bot",
                 "bots near such a corner, or with a region that meets this one:",
@@ -109,8 +109,8 @@ class Explaining(unittest.TestCase):
         self.assertEqual([it for it in lines(target, None, b"\xfe\x83") if it.startswith("since")], [])
 
     def test_what_follows_a_halt(self):
-        told = lines(P3, P3, b"\xff\xfe")
-        self.assertEqual(told[1], "the last bot halts in step 1, and 1 bytes are left from byte 1 on")
+        result = lines(P3, P3, b"\xff\xfe")
+        self.assertEqual(result[1], "the last bot halts in step 1, and 1 bytes are left from byte 1 on")
 
 
 class Walking(unittest.TestCase):

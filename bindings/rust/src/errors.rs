@@ -74,7 +74,7 @@ pub enum TraceError {
     Memory,
 }
 
-/// Why no level was told.
+/// Why a level was not returned.
 #[derive(Clone, Copy, PartialEq, Eq, Debug)]
 pub enum LevelError {
     OutOfSpace,

@@ -47,8 +47,8 @@ pub enum Profile {
     Light,
 }
 
-/// Where a machine stands after a step: the energy so far, the steps made, how many bots are active, whether harmonics are high; and how
-/// many voxels the step changed.
+/// The state after a step: the energy so far, the steps made, how many bots are active, whether harmonics are high; and how many voxels
+/// the step changed.
 #[derive(Clone, Copy, PartialEq, Eq, Debug)]
 pub struct Step {
     pub energy: i64,
@@ -82,7 +82,7 @@ pub struct Judged {
     pub changed: u32,
 }
 
-/// Where a machine stands. So many of its last steps can be taken back.
+/// The state of a machine. `noted` of its last steps can be taken back.
 #[derive(Clone, Copy, PartialEq, Eq, Debug)]
 pub struct State {
     pub energy: i64,
@@ -168,7 +168,7 @@ impl Machine {
         })
     }
 
-    /// Makes the steps of a trace one after another, at most so many, until one is refused or the bytes end. The machine is then as the
+    /// Makes the steps of a trace one after another, at most `most`, until one is refused or the bytes end. The machine is then as the
     /// last step that was made left it.
     pub fn play(&mut self, trace: &[u8], most: u32) -> Played {
         let mut told = sys::Played::default();
@@ -212,13 +212,13 @@ impl Machine {
         })
     }
 
-    /// Takes the last step back. It is never refused memory.
+    /// Takes the last step back. It never runs out of memory.
     pub fn undo(&mut self) -> Result<(), UndoError> {
         // SAFETY: the pointer is that of a reference.
         errors::undone(unsafe { sys::nanobot_machine_undo(&mut self.handle) })
     }
 
-    /// Where the machine stands.
+    /// The state of the machine.
     pub fn state(&mut self) -> State {
         let mut told = sys::State::default();
         // SAFETY: the pointers are those of two references.
@@ -250,7 +250,7 @@ impl Machine {
         (status == sys::DONE).then_some(full == 1)
     }
 
-    /// How far the voxel at a coordinate is from the floor along full voxels; None where it is void or not grounded.
+    /// How far the voxel at a coordinate is from the floor along full voxels; None if it is void or not grounded.
     pub fn level(&mut self, c: Coord) -> Result<Option<u32>, LevelError> {
         let mut level = 0;
         // SAFETY: the pointers are those of two references.
@@ -266,7 +266,7 @@ impl Machine {
         count
     }
 
-    /// The least coordinate at which the matrix and the model of these bytes differ; None where they are the same.
+    /// The least coordinate at which the matrix and the model of these bytes differ; None if they are the same.
     pub fn difference(&mut self, target: &[u8]) -> Result<Option<Coord>, TargetError> {
         let (mut place, mut refusal) = (sys::Place::default(), sys::Refusal::default());
         // SAFETY: each pointer is that of a slice or a reference.
@@ -359,7 +359,7 @@ pub fn version() -> u32 {
     unsafe { sys::nanobot_version() }
 }
 
-/// A bot as the library tells it.
+/// A bot as the library returns it.
 fn bot_of(told: &sys::Bot) -> Bot {
     Bot {
         bid: told.bid,

@@ -15,7 +15,7 @@ pub struct Cost {
     pub steps: u32,
 }
 
-/// The status and the line that the program prints, which is empty for want of memory (7).
+/// The status and the line that the program prints, which is empty if memory ran out (7).
 #[derive(Clone, PartialEq, Eq, Debug)]
 pub struct Refused {
     pub status: u32,
@@ -99,7 +99,7 @@ fn line_of(source: &[u8], target: &[u8], trace: &[u8], light: bool) -> Result<Ve
     })
 }
 
-/// What the trace costs from the source to the target, where it is accepted. None stands for the empty model of the other's resolution.
+/// What the trace costs from the source to the target, if it is accepted. None is the empty model of the other's resolution.
 pub fn judge(source: Option<&[u8]>, target: Option<&[u8]>, trace: &[u8], profile: Profile) -> Result<Cost, Refused> {
     let (source, target, light) = (source.unwrap_or(&[]), target.unwrap_or(&[]), profile == Profile::Light);
     let mut cost = Cost { energy: 0, steps: 0 };
@@ -129,7 +129,7 @@ pub fn check(model: &[u8]) -> Result<String, Refused> {
     Ok(String::from_utf8_lossy(&line).trim_end().to_owned())
 }
 
-/// A trace from the source to the target. None stands for the empty model of the other's resolution. The plan is made once: its buffer has room
+/// A trace from the source to the target. None is the empty model of the other's resolution. The plan is made once: its buffer has room
 /// for every plan, and takes memory only as far as it is written.
 pub fn plan(planner: Planner, source: Option<&[u8]>, target: Option<&[u8]>) -> Result<Vec<u8>, Refused> {
     let (source, target) = (source.unwrap_or(&[]), target.unwrap_or(&[]));

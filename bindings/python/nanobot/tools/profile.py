@@ -1,4 +1,4 @@
-"""Where the energy of a trace goes: `python -m nanobot profile [--timeline] [--json] [light] S T B`."""
+"""The parts of a trace's energy: `python -m nanobot profile [--timeline] [--json] [light] S T B`."""
 
 from __future__ import annotations
 
@@ -63,7 +63,7 @@ def source_model(source: Optional[Source], target: Optional[Source]) -> Model:
 
 
 def profile(source: Optional[Source], target: Optional[Source], trace: Source, *, light: bool = False) -> Profile:
-    """Returns where the energy of a trace goes, as far as no rule is broken.
+    """Returns the parts of a trace's energy, as far as no rule is broken.
 
     The models and the trace are given as for `judge`. Raises `Refused` if a model or a byte of the trace is refused. Takes one pass over the
     commands, about a microsecond each."""

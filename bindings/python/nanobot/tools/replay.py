@@ -62,7 +62,7 @@ class Player:
         self._acts = [self._act_of(head) for head in range(256)]
 
     def play(self, count: int) -> None:
-        """Plays so many steps, or fewer if no bot is left."""
+        """Plays `count` steps, or fewer if no bot is left."""
         trace, acts, counts = self._trace, self._acts, self.counts
         for _ in range(count):
             bots, at, high = len(self._places), self._at, self._high

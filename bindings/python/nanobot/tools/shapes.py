@@ -96,7 +96,7 @@ def box(resolution: int, one: Tuple[int, int, int], other: Tuple[int, int, int],
 
 
 def sphere(resolution: int, hollow: bool = False) -> Model:
-    """Returns the model of the largest ball that stands on the floor, or of its shell of two voxels."""
+    """Returns the model of the largest ball that touches the floor, or of its shell of two voxels."""
     rows = _size(resolution)
     radius = max((resolution - 3) / 2, 0)
     middle, height = (resolution - 1) / 2, radius - 0.5  # half a voxel lower than a ball that touches the floor, so it stands on a cap
