@@ -71,7 +71,7 @@ RUNS: Dict[str, Run] = {
     "move-40": Run("forty bots move (200,000 steps)", lambda: _forty(200_000, False)),
     "move-fill-void-40": Run("forty bots move, fill and void (100,000 rounds)", lambda: _forty(100_000, True)),
     "planes-250-low": Run("four bots void a 250-cube by planes of 31 by 31 under Low", lambda: _planes(b"")),
-    "planes-250-high": Run("the same under High", lambda: _planes(synthetic.FLIP)),
+    "planes-250-high": Run("the planes of planes-250-low under High", lambda: _planes(synthetic.FLIP)),
     "bridge": Run(
         "a plate on two posts, the foot of one of them voided and filled 5,000 times",
         lambda: _still(synthetic.plate_model(60), b"\xba\xbb" * 5_000),
