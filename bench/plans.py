@@ -4,9 +4,9 @@
 bench/bench plans [--program FILE] [--plan "crew - M"].. [MODEL..]
 
 Prints a row of a table for each plan: the model, its arguments, energy, steps, commands and bytes, the seconds of one
-processor to plan it from file to file and to run it, and the most megabytes that the planner held; a refusal in place
-of the numbers. Takes a minute with the proved program, out/nanobot. The models are house, full-R and forged-7-R, and
-the mazes of a resolution R of 250 at most, which take minutes each at 250:"""
+processor to plan it from file to file and to run it, and the planner's peak memory, which is no less than this script's
+20 MB; a refusal in place of the numbers. Takes a minute with the proved program, out/nanobot. The models are house,
+full-R and forged-7-R, and the mazes of a resolution R of 250 at most, which take minutes each at 250:"""
 
 from __future__ import annotations
 
