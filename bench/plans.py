@@ -39,7 +39,7 @@ def _run(program: Path, folder: Path, *words: str) -> Ran:
         said = child.stdout.read() if child.stdout else ""
         _, status, used = os.wait4(child.pid, 0)
         child.returncode = os.waitstatus_to_exitcode(status)
-    return Ran(said.strip(), used.ru_utime, used.ru_maxrss // 1000)
+    return Ran(said.strip(), used.ru_utime, used.ru_maxrss * 1024 // 10**6)
 
 
 def _resolution(model: str) -> int:
