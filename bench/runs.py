@@ -4,8 +4,8 @@ bench/bench runs [--count] [--rounds N] [--program FILE].. [NAME..]
 
 Times each run, or those that are named, with out/nanobot or with the programs that are given: seconds of one processor,
 from start to end, the least of N rounds (5). The programs take turns. --count counts millions of instructions by
-valgrind, which other work on the machine does not change, on the smaller runs; it takes some minutes. Prints a table,
-with a column for each program."""
+valgrind, which other work on the machine does not change, on the smaller runs, voxel-100 and planes-250-high; it takes
+some minutes. Prints a table, with a column for each program."""
 
 from __future__ import annotations
 
@@ -33,20 +33,30 @@ def _still(model: bytes, commands: bytes) -> Tuple[bytes, bytes, bytes]:
 
 
 def _forged(resolution: int) -> Tuple[None, bytes, bytes]:
-    """What `make 7 R` stores, and the plan of `layer` that builds it."""
+    """What `make 7 R` stores, and a trace that builds it."""
     with tempfile.TemporaryDirectory() as folder:
-        model, trace = Path(folder, "model"), Path(folder, "trace")
-        for words in (["make", "7", str(resolution), model], ["plan", "layer", "-", model, trace]):
-            subprocess.run([TOP / "nanobot", *words], check=True, stdout=subprocess.DEVNULL)
-        return None, model.read_bytes(), trace.read_bytes()
+        path = Path(folder, "model")
+        subprocess.run([TOP / "nanobot", "make", "7", str(resolution), path], check=True, stdout=subprocess.DEVNULL)
+        model = path.read_bytes()
+    return None, model, synthetic.build(model, synthetic.FLIP)
 
 
 def _fill(side: int, harmonics: bytes) -> Tuple[None, bytes, bytes]:
-    return None, synthetic.full_model(side), synthetic.fill_all(side, harmonics)
+    model = synthetic.full_model(side)
+    return None, model, synthetic.build(model, harmonics)
 
 
-def _moving(trace: bytes) -> Tuple[bytes, bytes, bytes]:
-    return synthetic.empty_model(50), synthetic.empty_model(50), trace
+def _void(side: int) -> Tuple[bytes, None, bytes]:
+    model = synthetic.full_model(side)
+    return model, None, synthetic.take_down(model)
+
+
+def _planes(harmonics: bytes) -> Tuple[bytes, None, bytes]:
+    return synthetic.full_model(250), None, synthetic.planes(250, harmonics)
+
+
+def _forty(rounds: int, edits: bool) -> Tuple[bytes, None, bytes]:
+    return synthetic.empty_model(42), None, synthetic.forty_rounds(rounds, edits)
 
 
 RUNS: Dict[str, Run] = {
@@ -56,25 +66,26 @@ RUNS: Dict[str, Run] = {
     ),
     "fill-200-high": Run("one bot fills a 200-cube under High", lambda: _fill(200, synthetic.FLIP)),
     "fill-150-low": Run("one bot fills a 150-cube under Low", lambda: _fill(150, b"")),
-    "void-150-low": Run(
-        "one bot voids a 150-cube under Low", lambda: (synthetic.full_model(150), None, synthetic.void_all(150))
-    ),
-    "layer-7-250": Run("the plan of `plan layer - M` for `make 7 250`", lambda: _forged(250)),
-    "move-40": Run("forty bots move (200,000 steps)", lambda: _moving(synthetic.forty_bots(200_000))),
-    "fill-void-40": Run("forty bots fill and void (100,000 rounds)", lambda: _moving(synthetic.forty_fill(100_000))),
-    "bridge-62": Run(
-        "the foot of a bridge of resolution 62 voided and filled 5,000 times",
-        lambda: _still(synthetic.bridge_model(62), b"\xba\xbb" * 5_000),
+    "void-150-low": Run("one bot voids a 150-cube under Low", lambda: _void(150)),
+    "forged-7-250": Run("one bot builds `make 7 250` under High", lambda: _forged(250)),
+    "move-40": Run("forty bots move (200,000 steps)", lambda: _forty(200_000, False)),
+    "move-fill-void-40": Run("forty bots move, fill and void (100,000 rounds)", lambda: _forty(100_000, True)),
+    "planes-250-low": Run("four bots void a 250-cube by planes of 31 by 31 under Low", lambda: _planes(b"")),
+    "planes-250-high": Run("the planes of planes-250-low under High", lambda: _planes(synthetic.FLIP)),
+    "bridge": Run(
+        "a plate on two posts, the foot of one of them voided and filled 5,000 times",
+        lambda: _still(synthetic.plate_model(60), b"\xba\xbb" * 5_000),
     ),
 }
 SMALLER: Dict[str, Run] = {
     "fill-100-high": Run("as fill-200-high", lambda: _fill(100, synthetic.FLIP)),
-    "void-100-low": Run("as void-150-low", lambda: (synthetic.full_model(100), None, synthetic.void_all(100))),
-    "layer-7-100": Run("as layer-7-250", lambda: _forged(100)),
-    "move-40-20000": Run("as move-40", lambda: _moving(synthetic.forty_bots(20_000))),
-    "fill-void-40-10000": Run("as fill-void-40", lambda: _moving(synthetic.forty_fill(10_000))),
-    "bridge-62-500": Run("as bridge-62", lambda: _still(synthetic.bridge_model(62), b"\xba\xbb" * 500)),
+    "void-100-low": Run("as void-150-low", lambda: _void(100)),
+    "forged-7-100": Run("as forged-7-250", lambda: _forged(100)),
+    "move-40-20000": Run("as move-40", lambda: _forty(20_000, False)),
+    "fill-40-10000": Run("as move-fill-void-40", lambda: _forty(10_000, True)),
+    "bridge-500": Run("as bridge", lambda: _still(synthetic.plate_model(60), b"\xba\xbb" * 500)),
 }
+COUNTED = ("voxel-100", "planes-250-high", *SMALLER)
 
 
 def _files(run: Run, folder: Path) -> List[str]:
@@ -123,7 +134,7 @@ def main(words: List[str]) -> int:
     programs = [parser.existing(program) for program in given.program or [PROGRAM]]
     print("| Run | Name | " + " | ".join(map(str, programs)) + " |\n|---|---|" + "---|" * len(programs))
     with scratch.folder() as folder:
-        for name in given.names or (SMALLER if given.count else RUNS):
+        for name in given.names or (COUNTED if given.count else RUNS):
             found = _measured(known[name], programs, 0 if given.count else max(given.rounds, 1), Path(folder))
             cells = [known[name].shows, f"`{name}`", *(f"{it:.1f}" if given.count else f"{it:.3f}" for it in found)]
             print(f"| {' | '.join(cells)} |", flush=True)

@@ -8,6 +8,8 @@ import tempfile
 import time
 
 SIGNALS = {signal.SIGINT, signal.SIGTERM, signal.SIGHUP}
+# A script whose reader has closed the pipe ends without a traceback; while there is a folder, `folder` removes it first.
+signal.signal(signal.SIGPIPE, signal.SIG_DFL)
 
 
 def _make(where):
@@ -41,6 +43,7 @@ def folder():
     for number in SIGNALS:
         if signal.getsignal(number) != signal.SIG_IGN:
             signal.signal(number, lambda number, _: sys.exit(128 + number))
+    signal.signal(signal.SIGPIPE, signal.SIG_IGN)
     signal.pthread_sigmask(signal.SIG_BLOCK, SIGNALS)
     name = _make(os.environ.get("TMPDIR") or "/tmp")
     try:

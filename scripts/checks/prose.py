@@ -38,7 +38,7 @@ COMMENT = {
     ".rt": re.compile(r"//[/!]?(.*)"),
     ".h": re.compile(r"(?://|^ ?\*|/\*)(.*)", re.MULTILINE),
     ".antt": re.compile(r"(?:^|\s)--(?: |$)(.*)", re.MULTILINE),
-    ".py": re.compile(r'#(.*)|"""(.*?)"""', re.DOTALL | re.MULTILINE),
+    ".py": re.compile(r'#([^\n]*)|"""(.*?)"""', re.DOTALL),
 }
 COMMENT[".rs"] = COMMENT[".rt"]
 

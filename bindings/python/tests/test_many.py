@@ -30,6 +30,11 @@ esac
 """
 
 
+def setUpModule():
+    # A script ignores SIGINT for what it starts in the background, and that is inherited.
+    signal.signal(signal.SIGINT, signal.default_int_handler)
+
+
 class Tools(unittest.TestCase):
     def setUp(self):
         folder = tempfile.TemporaryDirectory()

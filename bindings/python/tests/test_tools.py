@@ -22,6 +22,11 @@ E3, P3 = b"\x03\x00\x00\x00\x00", b"\x03\x00\x04\x00\x00"
 POST = b"\x14\x10\x73\x14\x0e\xff"
 
 
+def setUpModule():
+    # A script ignores SIGINT for what it starts in the background, and that is inherited.
+    signal.signal(signal.SIGINT, signal.default_int_handler)
+
+
 def lines(source, target, trace):
     return list(explain(source, target, trace))
 

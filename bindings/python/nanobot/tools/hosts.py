@@ -52,12 +52,14 @@ class Hosts:
     def __exit__(self, *_: Any) -> None:
         if self._child is not None:
             self._end(self._child)
+            # No --filter-hosts, which leaves out a host that is slow to answer.
             words = [
                 "parallel",
                 "--will-cite",
                 "--sshloginfile",
                 self._hosts,
-                "--filter-hosts",
+                "--timeout",
+                "30",
                 "--nonall",
                 f"cd && rm -rf {self._there}",
             ]
