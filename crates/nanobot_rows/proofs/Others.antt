@@ -355,12 +355,17 @@ no_shorter h =
     let some : 1 ≡ length h.0 = ap length rest in
     omega (arith, few, some)
 
+longest_front : AreInFront (hex "FE FF") (Wait ∷ Halt ∷ [])
+longest_front = ([], ((Wait ∷ Halt ∷ [], (refl, (refl, tt)), refl), λ other front. omega arith), (refl, (refl, tt)), refl)
+
 pub worked_touching : WorkedTouching
 worked_touching = record {
-  a_longest_front = ([], ((Wait ∷ Halt ∷ [], (refl, (refl, tt)), refl), λ other front. omega arith), (refl, (refl, tt)), refl);
+  a_longest_front = longest_front;
   not_a_shorter_front = no_shorter;
   a_front = record { are_commands = (refl, tt); rest = hex "FF"; bytes_are = refl };
   no_front_of_no_bytes = λ h. let e : [] ≡ 0xFF ∷ h.rest = h.bytes_are in cc;
+  of_the_longest_front = λ before after h. h.longest (Wait ∷ Halt ∷ []) longest_front;
+  of_some_front = λ before after h. h.given;
   of_a_run = λ files before after w h. h files (empty 3) (voxels_at 3 (coord 1 0 1 ∷ [])) refl (two_files files w) files (hex "14 10 73 14 0E FF") refl w.build;
   of_a_light_run = λ files before after w h. h files (empty 3) (voxels_at 3 (coord 1 0 1 ∷ [])) refl (one_file files w) files (hex "14 10 73 14 0E FF") refl w.build;
 }

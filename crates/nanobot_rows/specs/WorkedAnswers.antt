@@ -7,6 +7,7 @@ use Rattle.nano_spec.specs.declared.commands.Command.TheVariants.{Halt, Wait}
 use Rattle.nano_spec.specs.Matrix.{Matrix, empty}
 use Rattle.nano_spec.specs.Profile.{full_profile, light_profile}
 use Rattle.nano_spec.specs.Worked.{empty_3, empty_4, hex, one_voxel, voxels_at}
+use Rattle.trace_judge.specs.Payment.{IsWithinWorkOfRun}
 use Rattle.vox_depot.specs.Files.{Files, content}
 use Rattle.nanobot_rows.specs.declared.status.Status.{Status}
 use Rattle.nanobot_rows.specs.declared.status.Status.TheVariants as is
@@ -125,6 +126,11 @@ pub record WorkedTouching : Type 0 where
   pub not_a_shorter_front : AreInFront (hex "FE FF") (Wait ∷ []) → ⊥
   pub a_front : BeginWith (hex "FE FF") (Wait ∷ [])
   pub no_front_of_no_bytes : BeginWith [] (Halt ∷ []) → ⊥
+  pub of_the_longest_front : (before after : ℕ) → IsWithinTrace full_profile (empty 3) (hex "FE FF") before after
+      → IsWithinWorkOfRun (empty 3) (Wait ∷ Halt ∷ []) full_profile before after
+  pub of_some_front : (before after : ℕ) → IsWithinTrace full_profile (empty 3) (hex "FE FF") before after
+      → (commands : List Command) × BeginWith (hex "FE FF") commands
+      × IsWithinWorkOfRun (empty 3) commands full_profile before after
   pub of_a_run : (files : Files) (before after : ℕ) → AreWorkedFiles files → IsRowWithin
       (run Full (Some (codes "nothing.mdl")) (Some (codes "post.mdl")) (codes "build.nbt")) (Some files) before after
       → IsWithinTrace full_profile (empty 3) (hex "14 10 73 14 0E FF") before after
