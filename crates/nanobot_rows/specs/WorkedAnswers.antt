@@ -11,7 +11,7 @@ use Rattle.trace_judge.specs.Payment.{IsWithinWorkOfRun}
 use Rattle.vox_depot.specs.Files.{Files, content}
 use Rattle.nanobot_rows.specs.declared.status.Status.{Status}
 use Rattle.nanobot_rows.specs.declared.status.Status.TheVariants as is
-use Rattle.nanobot_rows.specs.Answer.{Answer, AnswerOf, Reply, facts_of, with_file}
+use Rattle.nanobot_rows.specs.Answer.{Answer, AnswerOf, Found, ModelsOf, Reply, facts_of, with_file}
 use Rattle.nanobot_rows.specs.Models.{AreModels, IsSide}
 use Rattle.nanobot_rows.specs.Touching.{AreInFront, BeginWith, IsRowWithin, IsWithinTrace}
 use Rattle.nanobot_words.specs.declared.planner.Planner.{Planner}
@@ -84,6 +84,8 @@ pub record WorkedAnswers : Type 0 where
   pub a_layer_plan :
       Makes (plan Layer (Some (codes "nothing.mdl")) (Some (codes "nothing.mdl")) (codes "new.nbt"))
       (codes "plan energy 101 steps 1 commands 1 bytes 1\n") (codes "new.nbt") (hex "FF")
+  pub a_plan_that_builds : Makes (plan Layer (Some (codes "nothing.mdl")) (Some (codes "post.mdl")) (codes "new.nbt"))
+      (codes "plan energy 420 steps 4 commands 4 bytes 6\n") (codes "new.nbt") (hex "14 10 73 14 0E FF")
   pub a_low_plan : Makes (plan Low None (Some (codes "nothing.mdl")) (codes "new.nbt"))
       (codes "plan energy 101 steps 1 commands 1 bytes 1\n") (codes "new.nbt") (hex "FF")
   pub an_exercise : Tells (exercise 0 1) is.Done
@@ -116,6 +118,9 @@ pub record WorkedModels : Type 0 where
       (Some (codes "post.mdl")) files (empty 3) (voxels_at 3 (coord 1 0 1 ∷ []))
   pub one_file : (files : Files) → AreWorkedFiles files
       → AreModels None (Some (codes "post.mdl")) files (empty 3) (voxels_at 3 (coord 1 0 1 ∷ []))
+  pub not_another_model : (files : Files) → AreWorkedFiles files
+      → IsSide files (Some (codes "post.mdl")) (empty 3) (empty 3) → ⊥
+  pub no_names : (files : Files) (found : Found (Matrix × Matrix)) → ModelsOf None None files found → ⊥
   -- what has no file is empty, and of the other's resolution
   pub not_a_full_model : (files : Files) → IsSide files None (voxels_at 3 (coord 1 0 1 ∷ [])) (empty 3) → ⊥
   pub not_of_another_resolution : (files : Files) → IsSide files None (empty 4) (empty 3) → ⊥
@@ -137,3 +142,6 @@ pub record WorkedTouching : Type 0 where
   pub of_a_light_run : (files : Files) (before after : ℕ) → AreWorkedFiles files
       → IsRowWithin (run Light None (Some (codes "post.mdl")) (codes "build.nbt")) (Some files) before after
       → IsWithinTrace light_profile (empty 3) (hex "14 10 73 14 0E FF") before after
+  -- of a row that runs no trace nothing is said
+  pub of_another_row :
+      (told : Option Files) (before after : ℕ) → IsRowWithin (check (codes "post.mdl")) told before after
