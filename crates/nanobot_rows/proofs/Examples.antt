@@ -86,8 +86,9 @@ Choice source target long found =
     (found ≡ Err (is.Model, report_line (report.GroupLong (runs source + runs target) (rows source + rows target))))
     (found ≡ Ok tt)
 
-too_long : (files : Files) (source target : Matrix) → 1073741824 < group.most_bytes source target
-    → CanPlan Group source target files (Err (is.Model, report_line (report.GroupLong (runs source + runs target) (rows source + rows target))))
+too_long : (files : Files) (source target : Matrix) → 1073741824 < group.most_bytes source target → CanPlan Group source
+    target files
+    (Err (is.Model, report_line (report.GroupLong (runs source + runs target) (rows source + rows target))))
 too_long files source target many = subst (λ (t : Bool). Choice source target t (Err (is.Model, report_line (report.GroupLong (runs source + runs target) (rows source + rows target))))) (sym (test_less 1073741824 (group.most_bytes source target) many)) refl
 
 pub worked_lengths : WorkedLengths

@@ -116,7 +116,8 @@ halts source target profile most energy some accepted = record {
 a_layer_plan : IsLayerPlan (empty 3) (empty 3) (Halt ∷ []) (pos 101) 1
 a_layer_plan = record { plan = halts (empty 3) (empty 3) full_profile 1 (pos 101) (omega arith) alone; bytes = omega arith }
 
-a_plan_that_builds : IsLayerPlan (empty 3) (voxels_at 3 (coord 1 0 1 ∷ [])) (commands_in 6 (hex "14 10 73 14 0E FF")) (pos 420) 4
+a_plan_that_builds :
+    IsLayerPlan (empty 3) (voxels_at 3 (coord 1 0 1 ∷ [])) (commands_in 6 (hex "14 10 73 14 0E FF")) (pos 420) 4
 a_plan_that_builds = record {
   plan = record {
     are_commands = build_commands.0;
@@ -370,10 +371,12 @@ one_is_none e = cc
 reads_a_voxel : model one_voxel ≡ Ok (empty 3) → ⊥
 reads_a_voxel e = one_is_none (ap full_of e)
 
-not_another_model : (files : Files) → AreWorkedFiles files → IsSide files (Some (codes "post.mdl")) (empty 3) (empty 3) → ⊥
+not_another_model : (files : Files) → AreWorkedFiles files → IsSide files (Some (codes "post.mdl")) (empty 3) (empty 3)
+    → ⊥
 not_another_model files w h = reads_a_voxel (subst (λ (o : Option (List ℕ)). IsSomeAnd o (λ b. (model b ≡ Ok (empty 3)) × IsLegal (empty 3))) w.post h).0
 
-pub a_source : (files : Files) → AreWorkedFiles files → AreModels (Some (codes "nothing.mdl")) None files (empty 3) (empty 3)
+pub a_source : (files : Files) → AreWorkedFiles files
+    → AreModels (Some (codes "nothing.mdl")) None files (empty 3) (empty 3)
 a_source files w = record {
   source_is = is_side files (codes "nothing.mdl") empty_3 (empty 3) (empty 3) w.nothing refl nothing_is_legal;
   target_is = refl;

@@ -117,10 +117,11 @@ pub record WorkedLengths : Type 0 where
       → CanPlan Group source target files
       (Err (is.Model, report_line (report.GroupLong (runs source + runs target) (rows source + rows target))))
   pub of_a_plan_that_is_too_long : (files : Files) (name : List ℕ) (source target : Matrix)
-      → 2 ^ 30 < group.most_bytes source target → OfPlan Group name source target files (record
-      { status = is.Model;
+      → 2 ^ 30 < group.most_bytes source target → OfPlan Group name source target files (record {
+        status = is.Model;
         line = report_line (report.GroupLong (runs source + runs target) (rows source + rows target));
-        after = files })
+        after = files;
+      })
   pub of_a_low_plan : (files : Files) (source target : Matrix) → FirstUnsupported target None
       → CanPlan Low source target files (Ok tt)
   pub of_an_unsupported_part : (files : Files) (source target : Matrix) (at : Coord)
