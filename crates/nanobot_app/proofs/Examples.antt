@@ -3,6 +3,7 @@ use Rattle.std.proofs.Common.{◌≡◌, ℕ, ◌<◌, ◌≤◌, ◌∙◌, pos
 use Rattle.std.specs.Prelude.{Option, IsSomeAnd}
 use Rattle.std.specs.Fmt.{digits}
 use Rattle.std.proofs.lemmas.List.{length-take}
+use Rattle.nano_spec.specs.declared.commands.Command.TheVariants.{Halt}
 use Rattle.nano_spec.specs.Matrix.{empty}
 use Rattle.nano_spec.specs.Worked.{hex, voxels_at}
 use Rattle.nano_spec.proofs.Showing.{commands_in}
@@ -11,7 +12,7 @@ use Rattle.vox_depot.specs.Files.{Files}
 use Rattle.nanobot_rows.specs.declared.status.Status.TheVariants as is
 use Rattle.nanobot_rows.specs.Answer.{Reply}
 use Rattle.nanobot_rows.specs.WorkedAnswers.{AreWorkedFiles}
-use Rattle.nanobot_rows.proofs.Others.{build_commands, from_empty, one_file, two_files}
+use Rattle.nanobot_rows.proofs.Others.{a_source, alone, build_commands, from_empty, halt_commands, one_file, two_files}
 use Rattle.nanobot_words.specs.Rows.{Row, asm, check, stores_of}
 use Rattle.nanobot_words.proofs.Examples.{an_asm, stores_none}
 use Rattle.nanobot_app.specs.Headline.{TakesBytes}
@@ -68,6 +69,13 @@ worked_headlines = record {
     to = voxels_at 3 (coord 1 0 1 ∷ []);
     models = one_file files w;
     taken = subst (λ (o : Option (List ℕ)). IsSomeAnd o (λ bytes. TakesBytes (empty 3) (voxels_at 3 (coord 1 0 1 ∷ [])) bytes (pos 420) 4)) (sym w.build) takes;
+  };
+  a_run_to_nothing_is_taken = λ files w. record {
+    named = tt;
+    from = empty 3;
+    to = empty 3;
+    models = a_source files w;
+    taken = subst (λ (o : Option (List ℕ)). IsSomeAnd o (λ bytes. TakesBytes (empty 3) (empty 3) bytes (pos 101) 1)) (sym w.halt) (omega arith, (Halt ∷ [], halt_commands, alone));
   };
   no_run_from_nothing_to_nothing = λ files trace energy steps h. h.named;
   not_too_long_a_trace = λ source target bytes energy steps long h. let few : length bytes ≤ 1073741824 = h.0 in let many : 1073741824 < length bytes = long in omega arith;

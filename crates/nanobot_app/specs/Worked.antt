@@ -68,6 +68,8 @@ pub record WorkedHeadlines : Type 0 where
       (Some (codes "post.mdl")) (codes "build.nbt") (pos 420) 4
   pub a_run_from_nothing_is_taken : (files : Files) → AreWorkedFiles files
       → MachineTakes files None (Some (codes "post.mdl")) (codes "build.nbt") (pos 420) 4
+  pub a_run_to_nothing_is_taken : (files : Files) → AreWorkedFiles files
+      → MachineTakes files (Some (codes "nothing.mdl")) None (codes "halt.nbt") (pos 101) 1
   pub no_run_from_nothing_to_nothing : (files : Files) (trace : List ℕ) (energy : ℤ) (steps : ℕ)
       → MachineTakes files None None trace energy steps → ⊥
   pub not_too_long_a_trace : (source target : Matrix) (bytes : List ℕ) (energy : ℤ) (steps : ℕ) → 2 ^ 30 < length bytes

@@ -1,14 +1,16 @@
 -- The worked examples of what is told, by computing.
-use Rattle.std.proofs.Common.{◌≡◌, ◌+◌, refl, sym, subst, Bool}
-use Rattle.std.specs.Prelude.{Ok, Err, MatchBool, ⊤}
+use Rattle.std.proofs.Common.{◌≡◌, ◌+◌, ◌<◌, refl, sym, subst, Bool}
+use Rattle.std.specs.Prelude.{Some, None, Ok, Err, MatchBool, ⊤}
 use Rattle.std.specs.Fmt.{digits}
 use Rattle.nano_spec.specs.Matrix.{Matrix}
+use Rattle.vox_depot.specs.Files.{Files}
 use Rattle.group_planner.specs.Bounds as group
 use Rattle.group_planner.specs.Rows.{full_before, rows, runs, sum_below}
 use Rattle.vox_geom.proofs.Tests.{test_less, test_not_less}
 use Rattle.nanobot_rows.specs.declared.report.Report.TheVariants as report
 use Rattle.nanobot_rows.specs.declared.status.Status.TheVariants as is
-use Rattle.nanobot_rows.specs.Answer.{Found}
+use Rattle.nanobot_rows.specs.Answer.{CanPlan, Found}
+use Rattle.nanobot_words.specs.declared.planner.Planner.TheVariants.{Group}
 use Rattle.nanobot_rows.specs.Lines.{text_long_line, trace_long_line}
 use Rattle.nanobot_rows.specs.Report.{report_line}
 use Rattle.nanobot_rows.specs.Worked.{WorkedBounds, WorkedLengths, WorkedLimits, WorkedLines, WorkedStatuses}
@@ -63,7 +65,7 @@ worked_limits = record {
 pub worked_bounds : WorkedBounds
 unfolding full_before sum_below
 worked_bounds = record {
-  strips = (refl, refl, refl, refl);
+  strips = (refl, refl, refl, refl, refl);
   full_voxels = refl;
   rows_of_voxels = refl;
   runs_of_voxels = refl;
@@ -84,10 +86,18 @@ Choice source target long found =
     (found ≡ Err (is.Model, report_line (report.GroupLong (runs source + runs target) (rows source + rows target))))
     (found ≡ Ok tt)
 
+too_long : (files : Files) (source target : Matrix) → 1073741824 < group.most_bytes source target → CanPlan Group source
+    target files
+    (Err (is.Model, report_line (report.GroupLong (runs source + runs target) (rows source + rows target))))
+too_long files source target many = subst (λ (t : Bool). Choice source target t (Err (is.Model, report_line (report.GroupLong (runs source + runs target) (rows source + rows target))))) (sym (test_less 1073741824 (group.most_bytes source target) many)) refl
+
 pub worked_lengths : WorkedLengths
 worked_lengths = record {
   of_a_text = λ files name bytes commands there few reads. (Ok bytes, fits files name bytes 1073741824 is.Text (text_long_line 1073741824) there few, rw reads refl);
   of_a_trace_of_a_session = λ files source trace script bytes m commands lines reply found there few decodes says session. (Ok m, found, (Ok commands, (Ok bytes, fits files trace bytes 50000000 is.Trace (trace_long_line 50000000) there few, (Ok commands, decodes, refl)), (Ok lines, says, session)));
   of_a_group_plan = λ files source target few. subst (λ (t : Bool). Choice source target t (Ok tt)) (sym (test_not_less 1073741824 (group.most_bytes source target) few)) refl;
-  of_too_long_a_group_plan = λ files source target many. subst (λ (t : Bool). Choice source target t (Err (is.Model, report_line (report.GroupLong (runs source + runs target) (rows source + rows target))))) (sym (test_less 1073741824 (group.most_bytes source target) many)) refl;
+  of_too_long_a_group_plan = too_long;
+  of_a_plan_that_is_too_long = λ files name source target many. (Err (is.Model, report_line (report.GroupLong (runs source + runs target) (rows source + rows target))), too_long files source target many, refl);
+  of_a_low_plan = λ files source target each. (None, each, refl);
+  of_an_unsupported_part = λ files source target at first. (Some at, first, refl);
 }

@@ -1,6 +1,6 @@
 -- The worked examples of answers to commands over files, of models and of touches.
 use Rattle.std.proofs.Common.{◌≡◌, ℕ, ◌≤◌, ℤ, pos, List, [], ◌∷◌, length, codes, refl, sym, ap, subst, inl, inr, arith}
-use Rattle.std.specs.Prelude.{Option, Some, None, ok_or, Ok, Err, IsSomeAnd, IsTrue}
+use Rattle.std.specs.Prelude.{Option, Some, None, ok_or, Result, Ok, Err, IsSomeAnd, IsTrue}
 use Rattle.std.specs.Fmt.{digits}
 use Rattle.std.proofs.lemmas.List.Elements.{All-cons, All-nil}
 use Rattle.vox_geom.specs.Point.{coord}
@@ -14,7 +14,7 @@ use Rattle.nano_spec.specs.Cutting.{Cutting}
 use Rattle.nano_spec.specs.Forge.{forged}
 use Rattle.nano_spec.specs.Legal.{Border, IsLegal, Legality, leaves_box}
 use Rattle.nano_spec.specs.Matrix.{Matrix, all_of, empty, full_count, is_full}
-use Rattle.nano_spec.specs.Model.{model}
+use Rattle.nano_spec.specs.Model.{NoModel, model}
 use Rattle.nano_spec.specs.Profile.{full_profile, light_profile}
 use Rattle.nano_spec.specs.State.{opening, seed_numbers}
 use Rattle.nano_spec.specs.Verdict.{VerdictOf}
@@ -71,7 +71,7 @@ judged {verdict = verdict} files b trace commands falls cut there few tells = (
 pub build_commands : Cutting (hex "14 10 73 14 0E FF") (commands_in 6 (hex "14 10 73 14 0E FF"))
 build_commands = (are_commands (commands_in 6 (hex "14 10 73 14 0E FF")) refl, refl)
 
-halt_commands : Cutting (hex "FF") (Halt ∷ [])
+pub halt_commands : Cutting (hex "FF") (Halt ∷ [])
 halt_commands = ((refl, tt), refl)
 
 pub from_empty : VerdictOf (empty 3) (voxels_at 3 (coord 1 0 1 ∷ [])) (commands_in 6 (hex "14 10 73 14 0E FF"))
@@ -89,7 +89,7 @@ nothing_done : VerdictOf (empty 3) (voxels_at 3 (coord 1 0 1 ∷ [])) (Halt ∷ 
 unfolding seed_numbers
 nothing_done = run_by 6 2 (voxels_at 3 (coord 1 0 1 ∷ [])) (opening (empty 3) full_profile) (Halt ∷ []) 0 (verdict.Refused (record { step = 1; bid = 0; rule = WrongResult; at = coord 1 0 1 })) refl
 
-alone : VerdictOf (empty 3) (empty 3) (Halt ∷ []) full_profile (verdict.Accepted (pos 101) 1)
+pub alone : VerdictOf (empty 3) (empty 3) (Halt ∷ []) full_profile (verdict.Accepted (pos 101) 1)
 unfolding seed_numbers
 alone = run_by 6 2 (empty 3) (opening (empty 3) full_profile) (Halt ∷ []) 0 (verdict.Accepted (pos 101) 1) refl
 
@@ -115,6 +115,18 @@ halts source target profile most energy some accepted = record {
 
 a_layer_plan : IsLayerPlan (empty 3) (empty 3) (Halt ∷ []) (pos 101) 1
 a_layer_plan = record { plan = halts (empty 3) (empty 3) full_profile 1 (pos 101) (omega arith) alone; bytes = omega arith }
+
+a_plan_that_builds :
+    IsLayerPlan (empty 3) (voxels_at 3 (coord 1 0 1 ∷ [])) (commands_in 6 (hex "14 10 73 14 0E FF")) (pos 420) 4
+a_plan_that_builds = record {
+  plan = record {
+    are_commands = build_commands.0;
+    accepted = from_empty;
+    few_bots = few_at_most (empty 3) full_profile (commands_in 6 (hex "14 10 73 14 0E FF")) 1 (omega arith);
+    halt_alone = λ e. let count : 0 ≡ 1 = ap full_count e in cc;
+  };
+  bytes = omega arith;
+}
 
 a_low_plan : IsLowPlan (empty 3) (empty 3) (Halt ∷ []) (pos 101) 1
 a_low_plan = record {
@@ -274,6 +286,15 @@ worked_answers = record {
     (Ok (empty 3), is_nothing who.Source files w, (Ok (empty 3), is_nothing who.Target files w, refl)),
     (Ok tt, refl, (Halt ∷ [], pos 101, 1, a_layer_plan, refl)),
   );
+  a_plan_that_builds = λ files w. (
+    Ok (empty 3, voxels_at 3 (coord 1 0 1 ∷ [])),
+    (
+      Ok (empty 3),
+      is_nothing who.Source files w,
+      (Ok (voxels_at 3 (coord 1 0 1 ∷ [])), is_post who.Target files w, refl),
+    ),
+    (Ok tt, refl, (commands_in 6 (hex "14 10 73 14 0E FF"), pos 420, 4, a_plan_that_builds, refl)),
+  );
   a_low_plan = λ files w. (
     Ok (empty 3, empty 3),
     (Ok (empty 3), is_nothing who.Target files w, refl),
@@ -340,11 +361,35 @@ one_file files w = record {
   alike = refl;
 }
 
+abbrev full_of : Result Matrix NoModel → ℕ
+full_of (Ok m) = full_count m
+full_of (Err why) = 0
+
+one_is_none : ◌≡◌ {A = ℕ} 1 0 → ⊥
+one_is_none e = cc
+
+reads_a_voxel : model one_voxel ≡ Ok (empty 3) → ⊥
+reads_a_voxel e = one_is_none (ap full_of e)
+
+not_another_model : (files : Files) → AreWorkedFiles files → IsSide files (Some (codes "post.mdl")) (empty 3) (empty 3)
+    → ⊥
+not_another_model files w h = reads_a_voxel (subst (λ (o : Option (List ℕ)). IsSomeAnd o (λ b. (model b ≡ Ok (empty 3)) × IsLegal (empty 3))) w.post h).0
+
+pub a_source : (files : Files) → AreWorkedFiles files
+    → AreModels (Some (codes "nothing.mdl")) None files (empty 3) (empty 3)
+a_source files w = record {
+  source_is = is_side files (codes "nothing.mdl") empty_3 (empty 3) (empty 3) w.nothing refl nothing_is_legal;
+  target_is = refl;
+  alike = refl;
+}
+
 pub worked_models : WorkedModels
 worked_models = record {
   two_files = two_files;
   one_file = one_file;
   not_a_full_model = λ files h. let count : 1 ≡ 0 = ap full_count h in cc;
+  not_another_model = not_another_model;
+  no_names = λ files found h. h;
   not_of_another_resolution = λ files h. let resolution : 4 ≡ 3 = ap (λ (m : Matrix). m.resolution) h in cc;
 }
 
@@ -355,12 +400,18 @@ no_shorter h =
     let some : 1 ≡ length h.0 = ap length rest in
     omega (arith, few, some)
 
+longest_front : AreInFront (hex "FE FF") (Wait ∷ Halt ∷ [])
+longest_front = ([], ((Wait ∷ Halt ∷ [], (refl, (refl, tt)), refl), λ other front. omega arith), (refl, (refl, tt)), refl)
+
 pub worked_touching : WorkedTouching
 worked_touching = record {
-  a_longest_front = ([], ((Wait ∷ Halt ∷ [], (refl, (refl, tt)), refl), λ other front. omega arith), (refl, (refl, tt)), refl);
+  a_longest_front = longest_front;
   not_a_shorter_front = no_shorter;
   a_front = record { are_commands = (refl, tt); rest = hex "FF"; bytes_are = refl };
   no_front_of_no_bytes = λ h. let e : [] ≡ 0xFF ∷ h.rest = h.bytes_are in cc;
+  of_the_longest_front = λ before after h. h.longest (Wait ∷ Halt ∷ []) longest_front;
+  of_some_front = λ before after h. h.given;
   of_a_run = λ files before after w h. h files (empty 3) (voxels_at 3 (coord 1 0 1 ∷ [])) refl (two_files files w) files (hex "14 10 73 14 0E FF") refl w.build;
   of_a_light_run = λ files before after w h. h files (empty 3) (voxels_at 3 (coord 1 0 1 ∷ [])) refl (one_file files w) files (hex "14 10 73 14 0E FF") refl w.build;
+  of_another_row = λ told before after. tt;
 }

@@ -1,6 +1,7 @@
 -- Worked examples of what is told: statuses and lines, limits, and numbers that plans are bounded by (docs/FORMATS.md,
 -- "Printed lines").
-use Rattle.std.specs.Prelude.{◌≡◌, ℕ, ◌+◌, ◌*◌, ◌^◌, ◌<◌, ◌≤◌, pos, negsuc, List, [], ◌∷◌, codes, map, length, Some, Ok, Err}
+use Rattle.std.specs.Prelude.{◌≡◌, ℕ, ◌+◌, ◌*◌, ◌^◌, ◌<◌, ◌≤◌, pos, negsuc, List, [], ◌∷◌, codes, map, length, Some, None, Ok, Err}
+use Rattle.vox_geom.specs.declared.coordinate.Coord.{Coord}
 use Rattle.vox_geom.specs.Point.{coord}
 use Rattle.vox_geom.specs.Space.{numbers_below}
 use Rattle.nano_spec.specs.declared.commands.Command.{Command}
@@ -15,15 +16,16 @@ use Rattle.vox_depot.specs.Files.{Files, content}
 use Rattle.step_debugger.specs.Session.{DebugLine}
 use Rattle.group_planner.specs.Bounds as group
 use Rattle.group_planner.specs.Rows.{rows, runs}
+use Rattle.low_planner.specs.Supported.{FirstUnsupported}
 use Rattle.swarm_planner.specs.Bounds.{width}
 use Rattle.void_planner.specs.Bounds as void
 use Rattle.nanobot_rows.specs.declared.report.Report.{Report}
 use Rattle.nanobot_rows.specs.declared.report.Report.TheVariants as report
 use Rattle.nanobot_rows.specs.declared.report.Who.TheVariants as who
 use Rattle.nanobot_rows.specs.declared.status.Status.TheVariants as is
-use Rattle.nanobot_rows.specs.Answer.{AnswerOf, CanPlan, ModelOf, OfSession, Reply, ScriptOf, TextOf, dis_limit, group_limit, run_limit, script_limit, text_limit}
+use Rattle.nanobot_rows.specs.Answer.{AnswerOf, CanPlan, ModelOf, OfPlan, OfSession, Reply, ScriptOf, TextOf, dis_limit, group_limit, run_limit, script_limit, text_limit}
 use Rattle.nanobot_rows.specs.Report.{code_of, report_line, status_of}
-use Rattle.nanobot_words.specs.declared.planner.Planner.TheVariants.{Group}
+use Rattle.nanobot_words.specs.declared.planner.Planner.TheVariants.{Group, Low}
 use Rattle.nanobot_words.specs.Rows.{debug}
 
 -- the exit status and the line of a report
@@ -90,16 +92,17 @@ pub record WorkedLimits : Type 0 where
 
 -- numbers that plans are bounded by
 pub record WorkedBounds : Type 0 where
-  pub strips : (width 3 ≡ 1) × (width 22 ≡ 1) × (width 23 ≡ 2) × (width 250 ≡ 13)
+  pub strips : (width 2 ≡ 1) × (width 3 ≡ 1) × (width 22 ≡ 1) × (width 23 ≡ 2) × (width 250 ≡ 13)
   pub full_voxels : full_count (voxels_at 3 (coord 1 0 0 ∷ coord 1 0 2 ∷ coord 2 0 0 ∷ [])) ≡ 3
   pub rows_of_voxels : rows (voxels_at 3 (coord 1 0 0 ∷ coord 1 0 2 ∷ coord 2 0 0 ∷ [])) ≡ 2
   pub runs_of_voxels : runs (voxels_at 3 (coord 1 0 0 ∷ coord 1 0 2 ∷ coord 2 0 0 ∷ [])) ≡ 3
-  pub group_steps : group.most_group_steps (empty 3) (voxels_at 3 (coord 1 0 0 ∷ coord 1 0 2 ∷ coord 2 0 0 ∷ [])) ≡ 1344
-  pub group_bytes : group.most_bytes (voxels_at 3 (coord 1 0 0 ∷ coord 1 0 2 ∷ coord 2 0 0 ∷ [])) (empty 3) ≡ 5388
+  pub group_steps : group.most_group_steps (empty 3) (voxels_at 4 (coord 1 0 0 ∷ coord 1 0 2 ∷ coord 2 0 0 ∷ [])) ≡ 1344
+  pub group_bytes : group.most_bytes (empty 3) (voxels_at 4 (coord 1 0 0 ∷ coord 1 0 2 ∷ coord 2 0 0 ∷ [])) ≡ 5388
   pub void_steps :
       (void.most_void_steps 31 ≡ 696) × (void.most_void_steps 32 ≡ 1480) × (void.most_void_steps 250 ≡ 164200)
 
--- what is so long as may be is answered, and a group plan that may be too long is refused with its runs and rows
+-- what is so long as may be is answered, and a group plan that may be too long is refused with its runs and rows, as is
+-- a low plan with its unsupported part
 pub record WorkedLengths : Type 0 where
   pub of_a_text : (files : Files) (name bytes : List ℕ) (commands : List Command) → content files name ≡ Some bytes
       → length bytes ≤ 2 ^ 30 → read bytes ≡ Ok commands → TextOf name files (Ok commands)
@@ -113,3 +116,14 @@ pub record WorkedLengths : Type 0 where
   pub of_too_long_a_group_plan : (files : Files) (source target : Matrix) → 2 ^ 30 < group.most_bytes source target
       → CanPlan Group source target files
       (Err (is.Model, report_line (report.GroupLong (runs source + runs target) (rows source + rows target))))
+  pub of_a_plan_that_is_too_long : (files : Files) (name : List ℕ) (source target : Matrix)
+      → 2 ^ 30 < group.most_bytes source target → OfPlan Group name source target files (record {
+        status = is.Model;
+        line = report_line (report.GroupLong (runs source + runs target) (rows source + rows target));
+        after = files;
+      })
+  pub of_a_low_plan : (files : Files) (source target : Matrix) → FirstUnsupported target None
+      → CanPlan Low source target files (Ok tt)
+  pub of_an_unsupported_part : (files : Files) (source target : Matrix) (at : Coord)
+      → FirstUnsupported target (Some at)
+      → CanPlan Low source target files (Err (is.Unsupported, report_line (report.Unsupported at)))

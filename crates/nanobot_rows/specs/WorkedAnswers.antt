@@ -7,10 +7,11 @@ use Rattle.nano_spec.specs.declared.commands.Command.TheVariants.{Halt, Wait}
 use Rattle.nano_spec.specs.Matrix.{Matrix, empty}
 use Rattle.nano_spec.specs.Profile.{full_profile, light_profile}
 use Rattle.nano_spec.specs.Worked.{empty_3, empty_4, hex, one_voxel, voxels_at}
+use Rattle.trace_judge.specs.Payment.{IsWithinWorkOfRun}
 use Rattle.vox_depot.specs.Files.{Files, content}
 use Rattle.nanobot_rows.specs.declared.status.Status.{Status}
 use Rattle.nanobot_rows.specs.declared.status.Status.TheVariants as is
-use Rattle.nanobot_rows.specs.Answer.{Answer, AnswerOf, Reply, facts_of, with_file}
+use Rattle.nanobot_rows.specs.Answer.{Answer, AnswerOf, Found, ModelsOf, Reply, facts_of, with_file}
 use Rattle.nanobot_rows.specs.Models.{AreModels, IsSide}
 use Rattle.nanobot_rows.specs.Touching.{AreInFront, BeginWith, IsRowWithin, IsWithinTrace}
 use Rattle.nanobot_words.specs.declared.planner.Planner.{Planner}
@@ -83,6 +84,8 @@ pub record WorkedAnswers : Type 0 where
   pub a_layer_plan :
       Makes (plan Layer (Some (codes "nothing.mdl")) (Some (codes "nothing.mdl")) (codes "new.nbt"))
       (codes "plan energy 101 steps 1 commands 1 bytes 1\n") (codes "new.nbt") (hex "FF")
+  pub a_plan_that_builds : Makes (plan Layer (Some (codes "nothing.mdl")) (Some (codes "post.mdl")) (codes "new.nbt"))
+      (codes "plan energy 420 steps 4 commands 4 bytes 6\n") (codes "new.nbt") (hex "14 10 73 14 0E FF")
   pub a_low_plan : Makes (plan Low None (Some (codes "nothing.mdl")) (codes "new.nbt"))
       (codes "plan energy 101 steps 1 commands 1 bytes 1\n") (codes "new.nbt") (hex "FF")
   pub an_exercise : Tells (exercise 0 1) is.Done
@@ -115,6 +118,9 @@ pub record WorkedModels : Type 0 where
       (Some (codes "post.mdl")) files (empty 3) (voxels_at 3 (coord 1 0 1 ∷ []))
   pub one_file : (files : Files) → AreWorkedFiles files
       → AreModels None (Some (codes "post.mdl")) files (empty 3) (voxels_at 3 (coord 1 0 1 ∷ []))
+  pub not_another_model : (files : Files) → AreWorkedFiles files
+      → IsSide files (Some (codes "post.mdl")) (empty 3) (empty 3) → ⊥
+  pub no_names : (files : Files) (found : Found (Matrix × Matrix)) → ModelsOf None None files found → ⊥
   -- what has no file is empty, and of the other's resolution
   pub not_a_full_model : (files : Files) → IsSide files None (voxels_at 3 (coord 1 0 1 ∷ [])) (empty 3) → ⊥
   pub not_of_another_resolution : (files : Files) → IsSide files None (empty 4) (empty 3) → ⊥
@@ -125,9 +131,17 @@ pub record WorkedTouching : Type 0 where
   pub not_a_shorter_front : AreInFront (hex "FE FF") (Wait ∷ []) → ⊥
   pub a_front : BeginWith (hex "FE FF") (Wait ∷ [])
   pub no_front_of_no_bytes : BeginWith [] (Halt ∷ []) → ⊥
+  pub of_the_longest_front : (before after : ℕ) → IsWithinTrace full_profile (empty 3) (hex "FE FF") before after
+      → IsWithinWorkOfRun (empty 3) (Wait ∷ Halt ∷ []) full_profile before after
+  pub of_some_front : (before after : ℕ) → IsWithinTrace full_profile (empty 3) (hex "FE FF") before after
+      → (commands : List Command) × BeginWith (hex "FE FF") commands
+      × IsWithinWorkOfRun (empty 3) commands full_profile before after
   pub of_a_run : (files : Files) (before after : ℕ) → AreWorkedFiles files → IsRowWithin
       (run Full (Some (codes "nothing.mdl")) (Some (codes "post.mdl")) (codes "build.nbt")) (Some files) before after
       → IsWithinTrace full_profile (empty 3) (hex "14 10 73 14 0E FF") before after
   pub of_a_light_run : (files : Files) (before after : ℕ) → AreWorkedFiles files
       → IsRowWithin (run Light None (Some (codes "post.mdl")) (codes "build.nbt")) (Some files) before after
       → IsWithinTrace light_profile (empty 3) (hex "14 10 73 14 0E FF") before after
+  -- of a row that runs no trace nothing is said
+  pub of_another_row :
+      (told : Option Files) (before after : ℕ) → IsRowWithin (check (codes "post.mdl")) told before after
