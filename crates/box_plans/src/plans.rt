@@ -1,0 +1,74 @@
+//! A plan: the model is cut, its boxes are scheduled, and the steps are written, or undone.
+use crate::blocks::Piece;
+use crate::manner::{Cutting, Manner};
+use crate::record::{MOST_BOTS, Writer};
+use crate::schedule::Schedule;
+use crate::site::Site;
+use crate::spots::HOME;
+use crate::tiles::{best_tiles, tiles};
+use nano_spec::CommandList;
+use std::alloc::Global;
+use vox_geom::Memory;
+use vox_planes::Planes;
+
+/// The boxes of a model in a manner.
+fn pieces_of(alloc: Global, site: &Site, manner: Manner) -> Result<Vec<Piece>, Memory> {
+    match manner.cutting {
+        Cutting::Exact(_) => Ok(Vec::new(alloc)),
+        Cutting::Tiles(width, shift) => tiles(alloc, site, width, shift),
+        Cutting::BestTiles => best_tiles(alloc, site),
+    }
+}
+
+/// The number of bots besides the first one: fewer if the floor is small.
+fn seeds_for(site: &Site) -> u8 {
+    let third = site.area() / 3;
+    third.max(1).min(usize::from(MOST_BOTS)).saturating_sub(1) as u8
+}
+
+/// The steps of a crew that builds a model from nothing. None if it takes more steps than that, or more work than is worth it.
+fn raise(
+    alloc: Global,
+    model: &Planes,
+    manner: Manner,
+    most: u64,
+) -> Result<Option<Schedule>, Memory> {
+    let site = Site::of(alloc, model)?;
+    let pieces = pieces_of(alloc, &site, manner)?;
+    let any = match manner.cutting {
+        Cutting::Exact(_) => false,
+        _ => true,
+    };
+    let seeds = seeds_for(&site);
+    let mut schedule = Schedule::new(alloc, site, pieces.as_slice(), any, manner, 0)?;
+    schedule.yard.arrive(0, HOME, seeds);
+    if !schedule.work(alloc, most)? {
+        return Ok(None);
+    }
+    if !schedule.yard.gather()? {
+        return Ok(None);
+    }
+    Ok(Some(schedule))
+}
+
+/// The commands of a crew that builds a model from nothing, or takes it down by the same backwards. None if that takes more steps than
+/// `most`, or more work than is worth it. They promise nothing.
+pub fn boxes(
+    alloc: Global,
+    model: &Planes,
+    down: bool,
+    manner: Manner,
+    most: u64,
+) -> Result<Option<CommandList>, Memory> {
+    let Some(schedule) = raise(alloc, model, manner, most)? else {
+        return Ok(None);
+    };
+    let yard = schedule.yard;
+    let mut writer = Writer::begin(alloc, if down { yard.first() } else { 0 })?;
+    if down {
+        writer.write_backwards(&yard.record)?;
+    } else {
+        writer.write_forwards(&yard.record)?;
+    }
+    Ok(Some(writer.into_commands()?))
+}

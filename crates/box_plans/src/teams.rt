@@ -1,0 +1,527 @@
+//! The choice of the next box for a free bot, and of the bots that fill it with him: those that can be there soonest.
+use crate::agenda::{Agenda, State};
+use crate::blocks::{Block, MOST_TEAM};
+use crate::jobs::{Job, Target, put_spot};
+use crate::record::MOST_BOTS;
+use crate::schedule::Schedule;
+use crate::spots::{HOME, NEAR, Spot, is_near, length, moves_between};
+use crate::yard::Bot;
+use std::alloc::Global;
+use vox_geom::Memory;
+
+/// How many of the nearest boxes are compared at once.
+const CHUNK: usize = 12;
+
+/// How many boxes are compared at most.
+const MOST_FOUND: usize = 48;
+
+/// The value of a box below which a bot waits for a better one, for one step.
+const LEAST: i64 = 400_000;
+
+/// A box that is ready is looked at again only after so many steps if it hung in the air.
+const PAUSE: u32 = 3;
+
+/// A box, and how near it is.
+#[derive(Clone, Copy, Debug)]
+pub(crate) struct Candidate {
+    key: i64,
+    number: u32,
+}
+
+/// A box with its value, and the bots that can be there soonest, corner by corner. A bot by itself has its position, too.
+#[derive(Clone, Copy, Debug)]
+pub(crate) struct Offer {
+    value: i64,
+    number: u32,
+    bots: [u8; MOST_TEAM],
+    stand: Option<Spot>,
+}
+
+/// Lists that searches use again and again.
+#[derive(Drop)]
+pub(crate) struct Lists {
+    pub(crate) found: Vec<u32>,
+    pub(crate) candidates: Vec<Candidate>,
+    pub(crate) offers: Vec<Offer>,
+}
+
+impl Lists {
+    /// Empty lists.
+    pub(crate) fn new(alloc: Global) -> Lists {
+        Lists {
+            found: Vec::new(alloc),
+            candidates: Vec::new(alloc),
+            offers: Vec::new(alloc),
+        }
+    }
+
+    /// A candidate by its number.
+    fn candidate(&self, i: usize) -> Option<Candidate> {
+        match self.candidates.get(i) {
+            Some(candidate) => Some(*candidate),
+            None => None,
+        }
+    }
+
+    /// Changes a candidate.
+    fn put(&mut self, i: usize, candidate: Candidate) {
+        if let Some(place) = self.candidates.get_mut(i) {
+            *place = candidate;
+        }
+    }
+
+    /// Adds a candidate behind those that are no farther; only the nearest are kept.
+    fn add(&mut self, candidate: Candidate) -> Result<(), Memory> {
+        self.candidates.push(candidate).map_err(|_| Memory)?;
+        let count = self.candidates.len();
+        for k in 1..count {
+            let at = count.wrapping_sub(k);
+            let before = at.wrapping_sub(1);
+            let (Some(one), Some(other)) = (self.candidate(before), self.candidate(at)) else {
+                break;
+            };
+            if one.key <= other.key {
+                break;
+            }
+            self.put(before, other);
+            self.put(at, one);
+        }
+        self.candidates.truncate(MOST_FOUND);
+        Ok(())
+    }
+
+    /// Takes the offer with the greatest value.
+    fn take_best(&mut self) -> Option<Offer> {
+        let mut best: Option<(usize, Offer)> = None;
+        for i in 0..self.offers.len() {
+            if let Some(offer) = self.offers.get(i) {
+                let is_better = match best {
+                    Some((_, other)) => offer.value > other.value,
+                    None => true,
+                };
+                if is_better {
+                    best = Some((i, *offer));
+                }
+            }
+        }
+        let (at, offer) = best?;
+        if let Some(place) = self.offers.get_mut(at) {
+            place.value = -1;
+        }
+        if offer.value < 0 { None } else { Some(offer) }
+    }
+}
+
+/// The distance of a bot from a corner: none if it can fill it from where it is.
+fn distance(from: Spot, corner: Spot) -> i64 {
+    if from == corner || is_near(from.to(corner)) {
+        return 0;
+    }
+    i64::from(moves_between(from, corner))
+}
+
+impl Schedule {
+    /// Returns whether a box may be taken now, as far as its height and what holds it are concerned.
+    fn may_take(&mut self, number: u32) -> Result<bool, Memory> {
+        let item = self.agenda.get(number);
+        let low = item.block.low.y;
+        if low > self.lowest.saturating_add(self.manner.window) {
+            return Ok(false);
+        }
+        let step = self.yard.step;
+        if item.hung > 0 && step.saturating_sub(item.hung) < PAUSE {
+            return Ok(false);
+        }
+        let holds = if self.has_any() {
+            let anchors = &mut self.anchors;
+            anchors.hold(&mut self.yard.site, &mut self.agenda, number)?
+        } else {
+            self.yard.site.is_attached(item.block)
+        };
+        if !holds {
+            self.agenda.hang(number, step);
+        }
+        Ok(holds)
+    }
+
+    /// How near a box is to a position.
+    fn key_of(&self, at: Spot, number: u32) -> i64 {
+        let corner = self.agenda.get(number).block.nearest_corner(at);
+        let far = i64::from(length(at.to(corner)));
+        if is_near(at.to(corner)) {
+            return far;
+        }
+        let above = corner.at_height(corner.y.saturating_add(1));
+        let moves = i64::from(moves_between(at, above)).saturating_add(1);
+        moves.saturating_mul(1000).saturating_add(far)
+    }
+
+    /// Adds those of the boxes that were found which may be taken.
+    fn add_candidates(&mut self, lists: &mut Lists, at: Spot) -> Result<(), Memory> {
+        for i in 0..lists.found.len() {
+            let number = match lists.found.get(i) {
+                Some(number) => *number,
+                None => break,
+            };
+            self.yard.work = self.yard.work.saturating_add(20);
+            if self.may_take(number)? {
+                let key = self.key_of(at, number);
+                lists.add(Candidate { key, number })?;
+            }
+        }
+        Ok(())
+    }
+
+    /// Finds the boxes in the buckets of a ring around a position.
+    fn collect_ring(&mut self, found: &mut Vec<u32>, at: Spot, ring: i16) -> Result<(), Memory> {
+        found.clear();
+        let (x, z) = (Agenda::bucket_of(at.x), Agenda::bucket_of(at.z));
+        let (low, high) = (x.saturating_sub(ring), x.saturating_add(ring));
+        let (near, far) = (z.saturating_sub(ring), z.saturating_add(ring));
+        for k in near..=far {
+            self.agenda.collect(low, k, found)?;
+            if ring > 0 {
+                self.agenda.collect(high, k, found)?;
+            }
+        }
+        for k in low.saturating_add(1)..high {
+            self.agenda.collect(k, near, found)?;
+            self.agenda.collect(k, far, found)?;
+        }
+        Ok(())
+    }
+
+    /// The nearest boxes that may be taken.
+    fn find_candidates(&mut self, lists: &mut Lists, at: Spot) -> Result<(), Memory> {
+        lists.candidates.clear();
+        self.agenda.begin_search();
+        let mut more = 0u8;
+        for ring in 0..self.agenda.across() {
+            self.collect_ring(&mut lists.found, at, ring)?;
+            self.add_candidates(lists, at)?;
+            if lists.candidates.len() >= MOST_FOUND {
+                more = more.saturating_add(1);
+            }
+            if more >= 2 {
+                break;
+            }
+        }
+        Ok(())
+    }
+
+    /// Returns whether another bot is to stand at a position.
+    fn is_taken(&self, at: Spot, number: u8) -> bool {
+        for other in 0..MOST_BOTS {
+            let bot = self.yard.bot(other);
+            if other != number && bot.active && bot.job.is_some() && bot.stand == at {
+                return true;
+            }
+        }
+        false
+    }
+
+    /// Returns whether some bot is below a position, so near that it may want to rise.
+    fn is_over_bot(&self, at: Spot) -> bool {
+        for other in 0..MOST_BOTS {
+            let bot = self.yard.bot(other);
+            let is_below = bot.at.is_above_or_below(at) && bot.at.y < at.y;
+            if bot.active && is_below && bot.at.y.saturating_add(16) > at.y {
+                return true;
+            }
+        }
+        false
+    }
+
+    /// Returns whether a bot may stand at a position while a box is filled.
+    pub(crate) fn may_stand(&self, at: Spot, block: Block) -> bool {
+        self.yard.site.is_sky(at)
+            && !block.is_over(at)
+            && at.y >= self.claimed(at.x, at.z)
+            && !self.is_over_bot(at)
+    }
+
+    /// The corner that is nearest to a bot.
+    fn corner_for(&self, at: Spot, block: Block) -> usize {
+        let corners = block.corners();
+        let mut best = (i32::MAX, 0usize);
+        for i in 0..corners.count {
+            let corner = corners.get(i);
+            let far = moves_between(at, corner)
+                .wrapping_mul(100)
+                .wrapping_add(length(at.to(corner)));
+            if far < best.0 {
+                best = (far, i);
+            }
+        }
+        best.1
+    }
+
+    /// The free bot that is nearest to a corner, but for those that are used, and how far it is.
+    fn bot_for(&self, corner: Spot, used: u64) -> Option<(u8, i64)> {
+        let mut best: Option<(i64, u8, i64)> = None;
+        for number in 0..MOST_BOTS {
+            let bot = self.yard.bot(number);
+            if !bot.is_free() || (used / bit(number).max(1)) % 2 == 1 {
+                continue;
+            }
+            let far = distance(bot.at, corner);
+            let key = far
+                .wrapping_mul(768)
+                .wrapping_add(i64::from(length(bot.at.to(corner))));
+            let is_better = match best {
+                Some((other, _, _)) => key < other,
+                None => true,
+            };
+            if is_better {
+                best = Some((key, number, far));
+            }
+        }
+        let (_, number, far) = best?;
+        Some((number, far))
+    }
+
+    /// The bots that can be at the corners of a box soonest, one of which is given, and how many steps that takes.
+    fn team_for(&self, number: u8, block: Block) -> Option<([u8; MOST_TEAM], i64)> {
+        let at = self.yard.bot(number).at;
+        let corners = block.corners();
+        let own = self.corner_for(at, block);
+        let mut bots = [u8::MAX; MOST_TEAM];
+        let mut used = bit(number);
+        let mut time = distance(at, corners.get(own));
+        for i in 0..corners.count {
+            let mut bot = number;
+            if i != own {
+                let (other, far) = self.bot_for(corners.get(i), used)?;
+                time = time.max(far);
+                used |= bit(other);
+                bot = other;
+            }
+            if let Some(place) = bots.get_mut(i) {
+                *place = bot;
+            }
+        }
+        Some((bots, time))
+    }
+
+    /// How many boxes of one voxel among the nearest ones can be filled from a position.
+    fn count_reach(&self, lists: &Lists, from: usize, at: Spot) -> i64 {
+        let mut count = 0i64;
+        for i in from..from.saturating_add(CHUNK) {
+            if let Some(candidate) = lists.candidate(i) {
+                let block = self.agenda.get(candidate.number).block;
+                let d = at.to(block.low);
+                if block.low == block.high && is_near(d) && d.dy < 1 {
+                    count = count.saturating_add(1);
+                }
+            }
+        }
+        count.max(1)
+    }
+
+    /// The best position for a box of one voxel.
+    fn offer_alone(&self, lists: &Lists, from: usize, number: u8, item: u32) -> Option<Offer> {
+        let at = self.yard.bot(number).at;
+        let block = self.agenda.get(item).block;
+        let mut best: Option<Offer> = None;
+        for d in NEAR {
+            let stand = block.low.plus(d);
+            if !self.may_stand(stand, block) || self.is_taken(stand, number) {
+                continue;
+            }
+            let count = self.count_reach(lists, from, stand);
+            let time = i64::from(moves_between(at, stand))
+                .saturating_add(count)
+                .max(1);
+            let far = i64::from(length(at.to(stand)));
+            let value = (count.saturating_mul(2_000_000) / time).saturating_sub(far.saturating_mul(
+                1000,
+            ));
+            let is_better = match best {
+                Some(other) => value > other.value,
+                None => true,
+            };
+            if is_better {
+                let bots = [number; MOST_TEAM];
+                best = Some(Offer {
+                    value: value.max(0),
+                    number: item,
+                    bots,
+                    stand: Some(stand),
+                });
+            }
+        }
+        best
+    }
+
+    /// The offer of a box to a bot.
+    fn offer(&self, lists: &Lists, from: usize, number: u8, item: u32) -> Option<Offer> {
+        let block = self.agenda.get(item).block;
+        if block.low == block.high {
+            return self.offer_alone(lists, from, number, item);
+        }
+        let (bots, time) = self.team_for(number, block)?;
+        let doublings = block.dimensions() as i64;
+        let worth = self.manner.big.saturating_mul(doublings).saturating_add(10);
+        let value = worth.saturating_mul(200_000) / time.saturating_add(1).max(1);
+        Some(Offer {
+            value: value.max(0),
+            number: item,
+            bots,
+            stand: None,
+        })
+    }
+
+    /// The offers of some candidates.
+    fn make_offers(&self, lists: &mut Lists, number: u8, from: usize) -> Result<(), Memory> {
+        lists.offers.clear();
+        for i in from..from.saturating_add(CHUNK) {
+            let Some(candidate) = lists.candidate(i) else {
+                break;
+            };
+            if let Some(offer) = self.offer(lists, from, number, candidate.number) {
+                lists.offers.push(offer).map_err(|_| Memory)?;
+            }
+        }
+        Ok(())
+    }
+
+    /// Returns whether a bot with a job that is not in a team is or will be in a box or below it.
+    fn is_used_by_others(&self, block: Block, bots: &[u8; MOST_TEAM]) -> bool {
+        for number in 0..MOST_BOTS {
+            let bot = self.yard.bot(number);
+            let is_busy = bot.active && bot.job.is_some() && !bots.contains(&number);
+            if is_busy && (block.is_over(bot.at) || block.is_over(bot.stand)) {
+                return true;
+            }
+        }
+        false
+    }
+
+    /// The best position for a bot at a corner, where none of the team stands.
+    fn stand_for(&self, number: u8, corner: Spot, block: Block, job: &Job) -> Option<Spot> {
+        let at = self.yard.bot(number).at;
+        let mut best: Option<(i32, Spot)> = None;
+        for i in 0..NEAR.len() {
+            let Some(d) = NEAR.get(i) else {
+                break;
+            };
+            let stand = corner.plus(*d);
+            if job.has_stand(stand)
+                || !self.may_stand(stand, block)
+                || self.is_taken(stand, number)
+            {
+                continue;
+            }
+            let far = if stand == at {
+                -1
+            } else {
+                moves_between(at, stand)
+                    .wrapping_mul(100)
+                    .wrapping_add(i.min(100) as i32)
+            };
+            let is_better = match best {
+                Some((other, _)) => far < other,
+                None => true,
+            };
+            if is_better {
+                best = Some((far, stand));
+            }
+        }
+        let (_, stand) = best?;
+        Some(stand)
+    }
+
+    /// Returns whether some position near a corner is in the sky and not in the box or below it.
+    fn has_sky(&self, corner: Spot, block: Block) -> bool {
+        for d in NEAR {
+            let at = corner.plus(d);
+            if self.yard.site.is_sky(at) && !block.is_over(at) {
+                return true;
+            }
+        }
+        false
+    }
+
+    /// The job of a team for a box, if there are positions for all. A thick box with a corner that has no place in the sky is split.
+    fn job_of(&mut self, offer: Offer) -> Result<Option<Job>, Memory> {
+        let item = self.agenda.get(offer.number);
+        let block = item.block;
+        if item.state != State::Ready || self.is_used_by_others(block, &offer.bots) {
+            return Ok(None);
+        }
+        let corners = block.corners();
+        let mut job = Job::new(self.yard.step);
+        let mut ends = [HOME; MOST_TEAM];
+        for i in 0..corners.count {
+            let corner = corners.get(i);
+            let bot = match offer.bots.get(i) {
+                Some(bot) => *bot,
+                None => break,
+            };
+            let stand = match offer.stand {
+                Some(stand) => Some(stand),
+                None => self.stand_for(bot, corner, block, &job),
+            };
+            let Some(stand) = stand else {
+                if block.low.y != block.high.y && !self.has_sky(corner, block) {
+                    self.agenda.split(offer.number)?;
+                }
+                return Ok(None);
+            };
+            job.join(bot, stand);
+            put_spot(&mut ends, i, corner);
+        }
+        job.add_target(Target {
+            number: offer.number,
+            corners: ends,
+        });
+        Ok(Some(job))
+    }
+
+    /// Takes the best of the offers for which there are positions. Returns whether the search ends.
+    fn take_offer(&mut self, lists: &mut Lists, number: u8) -> Result<bool, Memory> {
+        for _ in 0..CHUNK {
+            let Some(offer) = lists.take_best() else {
+                break;
+            };
+            let bot = self.yard.bot(number);
+            if offer.value < LEAST && bot.patience < 1 {
+                let waiting = Bot { patience: 1, ..bot };
+                self.yard.put(number, waiting);
+                return Ok(true);
+            }
+            if let Some(job) = self.job_of(offer)? {
+                self.start(number, job);
+                return Ok(true);
+            }
+        }
+        Ok(false)
+    }
+
+    /// A free bot looks for a box, and takes it with a team.
+    pub(crate) fn find_job(&mut self, lists: &mut Lists, number: u8) -> Result<(), Memory> {
+        let at = self.yard.bot(number).at;
+        self.find_candidates(lists, at)?;
+        for chunk in 0..MOST_FOUND / CHUNK {
+            let from = chunk.wrapping_mul(CHUNK);
+            if from >= lists.candidates.len() {
+                break;
+            }
+            self.yard.work = self.yard.work.saturating_add(2000);
+            self.make_offers(lists, number, from)?;
+            if self.take_offer(lists, number)? {
+                break;
+            }
+        }
+        Ok(())
+    }
+}
+
+/// The bit of a bot.
+fn bit(number: u8) -> u64 {
+    let mut bit = 1u64;
+    for _ in 0..number.min(63) {
+        bit = bit.wrapping_mul(2);
+    }
+    bit
+}
