@@ -2,7 +2,7 @@
 use crate::agenda::Agenda;
 use crate::blocks::Block;
 use crate::site::Site;
-use crate::spots::{NEIGHBORS, Spot};
+use crate::spots::{NEIGHBORS, Spot, by};
 use std::alloc::Global;
 use vox_geom::Memory;
 
@@ -59,7 +59,8 @@ impl Anchors {
                 break;
             };
             floor = floor || at.y == 0;
-            for d in NEIGHBORS {
+            for (dx, dy, dz) in NEIGHBORS {
+                let d = by(dx, dy, dz);
                 self.visit(site, block, at.plus(d))?;
             }
         }

@@ -1,6 +1,6 @@
 //! The end of a plan: bots without work fly home, and fuse when they meet.
 use crate::record::MOST_BOTS;
-use crate::spots::{HOME, NEAR, length};
+use crate::spots::{HOME, NEAR, by, length};
 use crate::tasks::{Task, opposite};
 use crate::yard::{Bot, Yard};
 use vox_geom::{Diff, Memory};
@@ -35,7 +35,8 @@ impl Yard {
     /// A bot without work flies home, or fuses with one that it meets: the one that is nearer to home stays.
     pub(crate) fn retire(&mut self, number: u8) {
         let at = self.bot(number).at;
-        for d in NEAR {
+        for (dx, dy, dz) in NEAR {
+            let d = by(dx, dy, dz);
             if let Some(other) = self.partner(number, d) {
                 if length(HOME.to(at)) <= length(HOME.to(at.plus(d))) {
                     self.fuse(number, other, d);

@@ -1,5 +1,5 @@
 //! Paths through the sky: up, across along x and z in either order, and down.
-use crate::spots::{LONG, SHORT, Spot, apart, by, length};
+use crate::spots::{LONG, NOWHERE, SHORT, Spot, apart, by, length};
 use crate::yard::{Bot, Yard};
 use vox_geom::Diff;
 
@@ -27,8 +27,8 @@ struct Path {
 /// No path.
 const NO_PATH: Path = Path {
     moves: 0,
-    first: by(0, 0, 0),
-    second: by(0, 0, 0),
+    first: NOWHERE,
+    second: NOWHERE,
 };
 
 /// Some paths, the shortest first.
@@ -76,7 +76,7 @@ fn joined(legs: [Leg; 4]) -> ([Leg; 4], usize) {
 }
 
 /// A leg by its number.
-fn leg(legs: &[Leg; 4], i: usize) -> Leg {
+fn nth_leg(legs: &[Leg; 4], i: usize) -> Leg {
     match legs.get(i) {
         Some(leg) => *leg,
         None => STAY,
@@ -88,7 +88,7 @@ fn count_moves(legs: &[Leg; 4], count: usize) -> i32 {
     let mut moves = 0i32;
     let mut covered = 0i16;
     for i in 0..count.min(4) {
-        let way = leg(legs, i).way.wrapping_sub(covered);
+        let way = nth_leg(legs, i).way.wrapping_sub(covered);
         covered = 0;
         moves = moves.wrapping_add(i32::from(apart(way, 0) / LONG));
         let rest = apart(way, 0) % LONG;
@@ -97,7 +97,7 @@ fn count_moves(legs: &[Leg; 4], count: usize) -> i32 {
         }
         moves = moves.wrapping_add(1);
         if rest <= SHORT {
-            covered = limited(leg(legs, i.saturating_add(1)).way, SHORT);
+            covered = limited(nth_leg(legs, i.saturating_add(1)).way, SHORT);
         }
     }
     moves
@@ -107,7 +107,7 @@ fn count_moves(legs: &[Leg; 4], count: usize) -> i32 {
 fn path_along(legs: [Leg; 4]) -> Option<Path> {
     let (legs, count) = joined(legs);
     let moves = count_moves(&legs, count);
-    let (one, two) = (leg(&legs, 0), leg(&legs, 1));
+    let (one, two) = (nth_leg(&legs, 0), nth_leg(&legs, 1));
     if one.way == 0 {
         return None;
     }

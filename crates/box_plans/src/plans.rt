@@ -1,6 +1,9 @@
 //! A plan: the model is cut, its boxes are scheduled, and the steps are written, or undone.
 use crate::blocks::Piece;
+use crate::clearing::clear_poles;
+use crate::cut::cut_model;
 use crate::manner::{Cutting, Manner};
+use crate::poles::plant_poles;
 use crate::record::{MOST_BOTS, Writer};
 use crate::schedule::Schedule;
 use crate::site::Site;
@@ -14,7 +17,7 @@ use vox_planes::Planes;
 /// The boxes of a model in a manner.
 fn pieces_of(alloc: Global, site: &Site, manner: Manner) -> Result<Vec<Piece>, Memory> {
     match manner.cutting {
-        Cutting::Exact(_) => Ok(Vec::new(alloc)),
+        Cutting::Exact(prices) => cut_model(alloc, site, prices),
         Cutting::Tiles(width, shift) => tiles(alloc, site, width, shift),
         Cutting::BestTiles => best_tiles(alloc, site),
     }
@@ -33,16 +36,23 @@ fn raise(
     manner: Manner,
     most: u64,
 ) -> Result<Option<Schedule>, Memory> {
-    let site = Site::of(alloc, model)?;
+    let mut site = Site::of(alloc, model)?;
+    let Some(poles) = plant_poles(alloc, &mut site)? else {
+        return Ok(None);
+    };
     let pieces = pieces_of(alloc, &site, manner)?;
     let any = match manner.cutting {
         Cutting::Exact(_) => false,
         _ => true,
     };
+    let kept = poles.len().saturating_mul(2);
     let seeds = seeds_for(&site);
-    let mut schedule = Schedule::new(alloc, site, pieces.as_slice(), any, manner, 0)?;
+    let mut schedule = Schedule::new(alloc, site, pieces.as_slice(), any, manner, kept)?;
     schedule.yard.arrive(0, HOME, seeds);
     if !schedule.work(alloc, most)? {
+        return Ok(None);
+    }
+    if !clear_poles(alloc, &mut schedule.yard, poles.as_slice())? {
         return Ok(None);
     }
     if !schedule.yard.gather()? {

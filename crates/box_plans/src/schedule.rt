@@ -5,6 +5,7 @@
 use crate::agenda::Agenda;
 use crate::anchors::Anchors;
 use crate::blocks::{Block, Piece};
+use crate::claims::Owners;
 use crate::jobs::{Job, NO_JOB, spot_of};
 use crate::manner::Manner;
 use crate::record::MOST_BOTS;
@@ -14,7 +15,7 @@ use crate::tasks::Task;
 use crate::teams::Lists;
 use crate::yard::{Bot, Yard};
 use std::alloc::Global;
-use vox_geom::{Diff, Memory};
+use vox_geom::Memory;
 
 /// A team gives a job up after so many steps.
 const MOST_AGE: u32 = 40;
@@ -32,21 +33,21 @@ const MOST_STUCK: u32 = 12;
 const MOST_STEPS: u64 = 200_000;
 
 /// Where bots make others, the most useful differences first.
-const SPREAD: [Diff; 14] = [
-    by(1, 1, 0),
-    by(0, 1, 1),
-    by(1, 0, 0),
-    by(0, 0, 1),
-    by(0, 1, 0),
-    by(1, 0, 1),
-    by(1, -1, 0),
-    by(0, -1, 1),
-    by(-1, 1, 0),
-    by(0, 1, -1),
-    by(-1, 0, 0),
-    by(0, 0, -1),
-    by(-1, 0, 1),
-    by(1, 0, -1),
+const SPREAD: [(i16, i16, i16); 14] = [
+    (1, 1, 0),
+    (0, 1, 1),
+    (1, 0, 0),
+    (0, 0, 1),
+    (0, 1, 0),
+    (1, 0, 1),
+    (1, -1, 0),
+    (0, -1, 1),
+    (-1, 1, 0),
+    (0, 1, -1),
+    (-1, 0, 0),
+    (0, 0, -1),
+    (-1, 0, 1),
+    (1, 0, -1),
 ];
 
 /// Boxes and the bots that fill them.
@@ -55,6 +56,7 @@ pub(crate) struct Schedule {
     pub(crate) yard: Yard,
     pub(crate) agenda: Agenda,
     pub(crate) anchors: Anchors,
+    pub(crate) owners: Owners,
     pub(crate) manner: Manner,
     pub(crate) lowest: i16,
     jobs: Vec<Job>,
@@ -85,8 +87,11 @@ impl Schedule {
         manner: Manner,
         kept: usize,
     ) -> Result<Schedule, Memory> {
+        let agenda = Agenda::of(alloc, &site, pieces)?;
+        let asked = manner.look || manner.extra > 0;
         Ok(Schedule {
-            agenda: Agenda::of(alloc, &site, pieces)?,
+            owners: Owners::of(alloc, &site, &agenda, asked)?,
+            agenda,
             anchors: Anchors::new(alloc),
             manner,
             lowest: 0,
@@ -215,7 +220,8 @@ impl Schedule {
     /// A bot with seeds makes another one beside it, which gets half of them.
     fn multiply(&mut self, number: u8) {
         let bot = self.yard.bot(number);
-        for d in SPREAD {
+        for (dx, dy, dz) in SPREAD {
+            let d = by(dx, dy, dz);
             let at = bot.at.plus(d);
             if !self.yard.site.is_sky(at) || self.yard.is_reserved(at) {
                 continue;

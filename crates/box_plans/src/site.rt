@@ -3,7 +3,7 @@
 //! The sky of a column is what lies above its highest full voxel. All bots stay in the sky, so each of them can always rise and fly
 //! home, and paths need no search: up, across, down.
 use crate::blocks::Block;
-use crate::spots::{NEIGHBORS, Spot};
+use crate::spots::{NEIGHBORS, Spot, by};
 use std::alloc::Global;
 use vox_geom::{Coord, Memory};
 use vox_planes::Planes;
@@ -154,6 +154,14 @@ impl Site {
         }
     }
 
+    /// Returns whether the voxel with an index belongs to the model.
+    pub(crate) fn is_index_goal(&self, index: usize) -> bool {
+        match self.cells.get(index) {
+            Some(cell) => *cell != Cell::Void,
+            None => false,
+        }
+    }
+
     /// Returns whether a bot may be at a position, now or later: it is in space and not full.
     pub(crate) fn is_open(&self, c: Spot) -> bool {
         self.index(c).is_some() && !self.is_full(c)
@@ -244,7 +252,8 @@ impl Site {
 
     /// Returns whether a neighbor of a voxel is full.
     fn has_full_neighbor(&self, c: Spot) -> bool {
-        for d in NEIGHBORS {
+        for (dx, dy, dz) in NEIGHBORS {
+            let d = by(dx, dy, dz);
             if self.is_full(c.plus(d)) {
                 return true;
             }

@@ -8,42 +8,49 @@ pub(crate) const LONG: i16 = 15;
 pub(crate) const SHORT: i16 = 5;
 
 /// The differences from a voxel to the eighteen positions from which a bot can fill it, the most useful ones first.
-pub(crate) const NEAR: [Diff; 18] = [
-    by(0, 1, 0),
-    by(1, 0, 0),
-    by(-1, 0, 0),
-    by(0, 0, 1),
-    by(0, 0, -1),
-    by(1, 1, 0),
-    by(-1, 1, 0),
-    by(0, 1, 1),
-    by(0, 1, -1),
-    by(1, 0, 1),
-    by(1, 0, -1),
-    by(-1, 0, 1),
-    by(-1, 0, -1),
-    by(1, -1, 0),
-    by(-1, -1, 0),
-    by(0, -1, 1),
-    by(0, -1, -1),
-    by(0, -1, 0),
+pub(crate) const NEAR: [(i16, i16, i16); 18] = [
+    (0, 1, 0),
+    (1, 0, 0),
+    (-1, 0, 0),
+    (0, 0, 1),
+    (0, 0, -1),
+    (1, 1, 0),
+    (-1, 1, 0),
+    (0, 1, 1),
+    (0, 1, -1),
+    (1, 0, 1),
+    (1, 0, -1),
+    (-1, 0, 1),
+    (-1, 0, -1),
+    (1, -1, 0),
+    (-1, -1, 0),
+    (0, -1, 1),
+    (0, -1, -1),
+    (0, -1, 0),
 ];
 
 /// The differences to the six neighbors.
-pub(crate) const NEIGHBORS: [Diff; 6] = [
-    by(1, 0, 0),
-    by(-1, 0, 0),
-    by(0, 1, 0),
-    by(0, -1, 0),
-    by(0, 0, 1),
-    by(0, 0, -1),
+pub(crate) const NEIGHBORS: [(i16, i16, i16); 6] = [
+    (1, 0, 0),
+    (-1, 0, 0),
+    (0, 1, 0),
+    (0, -1, 0),
+    (0, 0, 1),
+    (0, 0, -1),
 ];
 
 /// The differences to the four neighbors in the same layer.
-pub(crate) const SIDES: [Diff; 4] = [by(1, 0, 0), by(-1, 0, 0), by(0, 0, 1), by(0, 0, -1)];
+pub(crate) const SIDES: [(i16, i16, i16); 4] = [(1, 0, 0), (-1, 0, 0), (0, 0, 1), (0, 0, -1)];
+
+/// No difference.
+pub(crate) const NOWHERE: Diff = Diff {
+    dx: 0,
+    dy: 0,
+    dz: 0,
+};
 
 /// A difference.
-pub(crate) const fn by(dx: i16, dy: i16, dz: i16) -> Diff {
+pub(crate) fn by(dx: i16, dy: i16, dz: i16) -> Diff {
     Diff { dx, dy, dz }
 }
 

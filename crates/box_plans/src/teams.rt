@@ -1,10 +1,11 @@
 //! The choice of the next box for a free bot, and of the bots that fill it with him: those that can be there soonest.
 use crate::agenda::{Agenda, State};
 use crate::blocks::{Block, MOST_TEAM};
+use crate::claims::Reach;
 use crate::jobs::{Job, Target, put_spot};
 use crate::record::MOST_BOTS;
 use crate::schedule::Schedule;
-use crate::spots::{HOME, NEAR, Spot, is_near, length, moves_between};
+use crate::spots::{HOME, NEAR, Spot, by, is_near, length, moves_between};
 use crate::yard::Bot;
 use std::alloc::Global;
 use vox_geom::Memory;
@@ -17,6 +18,9 @@ const MOST_FOUND: usize = 48;
 
 /// The value of a box below which a bot waits for a better one, for one step.
 const LEAST: i64 = 400_000;
+
+/// What it is worth that one more box is in reach of a position, in hundredths of a step.
+const LOOK: i32 = 15;
 
 /// A box that is ready is looked at again only after so many steps if it hung in the air.
 const PAUSE: u32 = 3;
@@ -323,7 +327,8 @@ impl Schedule {
         let at = self.yard.bot(number).at;
         let block = self.agenda.get(item).block;
         let mut best: Option<Offer> = None;
-        for d in NEAR {
+        for (dx, dy, dz) in NEAR {
+            let d = by(dx, dy, dz);
             let stand = block.low.plus(d);
             if !self.may_stand(stand, block) || self.is_taken(stand, number) {
                 continue;
@@ -386,7 +391,7 @@ impl Schedule {
     }
 
     /// Returns whether a bot with a job that is not in a team is or will be in a box or below it.
-    fn is_used_by_others(&self, block: Block, bots: &[u8; MOST_TEAM]) -> bool {
+    pub(crate) fn is_used_by_others(&self, block: Block, bots: &[u8; MOST_TEAM]) -> bool {
         for number in 0..MOST_BOTS {
             let bot = self.yard.bot(number);
             let is_busy = bot.active && bot.job.is_some() && !bots.contains(&number);
@@ -397,43 +402,72 @@ impl Schedule {
         false
     }
 
-    /// The best position for a bot at a corner, where none of the team stands.
-    fn stand_for(&self, number: u8, corner: Spot, block: Block, job: &Job) -> Option<Spot> {
+    /// The steps of a bot to a position, in hundredths, less what it is worth that more boxes are in reach of it and of all others.
+    fn price_of(&self, at: Spot, stand: Spot, choice: usize, all: &Option<Reach>) -> i32 {
+        let far = if stand == at {
+            -1
+        } else {
+            moves_between(at, stand)
+                .wrapping_mul(100)
+                .wrapping_add(choice.min(100) as i32)
+        };
+        let Some(reach) = all else {
+            return far;
+        };
+        far.wrapping_sub((reach.count.min(100) as i32).wrapping_mul(LOOK))
+    }
+
+    /// The boxes in reach of a position that are in reach of the others, too, if they are looked at.
+    fn common_reach(&self, stand: Spot, item: u32, common: &Option<Reach>) -> Option<Reach> {
+        if !self.manner.look {
+            return None;
+        }
+        let reach = self.reach(stand, self.agenda.get(item).block.dimensions(), item);
+        match common {
+            Some(common) => Some(common.shared(&reach)),
+            None => Some(reach),
+        }
+    }
+
+    /// The best position for a bot at a corner, where none of the team stands, and the boxes in reach of all.
+    fn stand_for(
+        &self,
+        number: u8,
+        corner: Spot,
+        item: u32,
+        job: &Job,
+        common: &Option<Reach>,
+    ) -> Option<(Spot, Option<Reach>)> {
         let at = self.yard.bot(number).at;
-        let mut best: Option<(i32, Spot)> = None;
+        let block = self.agenda.get(item).block;
+        let mut best: Option<(i32, Spot, Option<Reach>)> = None;
         for i in 0..NEAR.len() {
-            let Some(d) = NEAR.get(i) else {
+            let Some((dx, dy, dz)) = NEAR.get(i) else {
                 break;
             };
-            let stand = corner.plus(*d);
-            if job.has_stand(stand)
-                || !self.may_stand(stand, block)
-                || self.is_taken(stand, number)
+            let stand = corner.plus(by(*dx, *dy, *dz));
+            if job.has_stand(stand) || !self.may_stand(stand, block) || self.is_taken(stand, number)
             {
                 continue;
             }
-            let far = if stand == at {
-                -1
-            } else {
-                moves_between(at, stand)
-                    .wrapping_mul(100)
-                    .wrapping_add(i.min(100) as i32)
-            };
+            let reach = self.common_reach(stand, item, common);
+            let price = self.price_of(at, stand, i, &reach);
             let is_better = match best {
-                Some((other, _)) => far < other,
+                Some((other, _, _)) => price < other,
                 None => true,
             };
             if is_better {
-                best = Some((far, stand));
+                best = Some((price, stand, reach));
             }
         }
-        let (_, stand) = best?;
-        Some(stand)
+        let (_, stand, reach) = best?;
+        Some((stand, reach))
     }
 
     /// Returns whether some position near a corner is in the sky and not in the box or below it.
     fn has_sky(&self, corner: Spot, block: Block) -> bool {
-        for d in NEAR {
+        for (dx, dy, dz) in NEAR {
+            let d = by(dx, dy, dz);
             let at = corner.plus(d);
             if self.yard.site.is_sky(at) && !block.is_over(at) {
                 return true;
@@ -452,22 +486,24 @@ impl Schedule {
         let corners = block.corners();
         let mut job = Job::new(self.yard.step);
         let mut ends = [HOME; MOST_TEAM];
+        let mut common = None;
         for i in 0..corners.count {
             let corner = corners.get(i);
             let bot = match offer.bots.get(i) {
                 Some(bot) => *bot,
                 None => break,
             };
-            let stand = match offer.stand {
-                Some(stand) => Some(stand),
-                None => self.stand_for(bot, corner, block, &job),
+            let found = match offer.stand {
+                Some(stand) => Some((stand, None)),
+                None => self.stand_for(bot, corner, offer.number, &job, &common),
             };
-            let Some(stand) = stand else {
+            let Some((stand, reach)) = found else {
                 if block.low.y != block.high.y && !self.has_sky(corner, block) {
                     self.agenda.split(offer.number)?;
                 }
                 return Ok(None);
             };
+            common = reach;
             job.join(bot, stand);
             put_spot(&mut ends, i, corner);
         }
@@ -491,6 +527,7 @@ impl Schedule {
                 return Ok(true);
             }
             if let Some(job) = self.job_of(offer)? {
+                let job = self.extend(job, offer.number);
                 self.start(number, job);
                 return Ok(true);
             }

@@ -283,7 +283,7 @@ impl Tiling {
 }
 
 /// The boxes of a model in tiles at most so wide, with borders moved by so much.
-fn tiling(alloc: Global, site: &Site, width: i16, shift: i16) -> Result<Tiling, Memory> {
+fn tile_model(alloc: Global, site: &Site, width: i16, shift: i16) -> Result<Tiling, Memory> {
     let mut tiling = Tiling::empty(alloc, site)?;
     let Some(extent) = extent(site) else {
         return Ok(tiling);
@@ -312,20 +312,20 @@ pub(crate) fn tiles(
     width: i16,
     shift: i16,
 ) -> Result<Vec<Piece>, Memory> {
-    Ok(tiling(alloc, site, width, shift)?.pieces)
+    Ok(tile_model(alloc, site, width, shift)?.pieces)
 }
 
 /// The boxes of a model in tiles of the size that promises the fewest steps.
 pub(crate) fn best_tiles(alloc: Global, site: &Site) -> Result<Vec<Piece>, Memory> {
     let step = if site.side() > LARGE { 3 } else { 1 };
-    let mut best = tiling(alloc, site, MOST_SIDE, 0)?;
+    let mut best = tile_model(alloc, site, MOST_SIDE, 0)?;
     for k in 0..22i16 / step {
         for shift in SHIFTS {
             if step > 1 && shift % 2 == 1 {
                 continue;
             }
             let width = MOST_SIDE.saturating_sub(step.saturating_mul(k));
-            let other = tiling(alloc, site, width, shift)?;
+            let other = tile_model(alloc, site, width, shift)?;
             if other.expected() < best.expected() {
                 best = other;
             }
