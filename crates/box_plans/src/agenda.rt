@@ -72,7 +72,7 @@ struct Columns {
 impl Agenda {
     /// No box.
     fn empty(alloc: Global, side: i16) -> Result<Agenda, Memory> {
-        let across = side.max(0) / WIDTH + 1;
+        let across = (side.max(0) / WIDTH).saturating_add(1);
         let n = across.max(0) as usize;
         Ok(Agenda {
             items: Vec::new(alloc),

@@ -73,9 +73,16 @@ impl Reach {
 
 impl Owners {
     /// The corners of all boxes, if they are asked for.
-    pub(crate) fn of(alloc: Global, site: &Site, agenda: &Agenda, asked: bool) -> Result<Owners, Memory> {
+    pub(crate) fn of(
+        alloc: Global,
+        site: &Site,
+        agenda: &Agenda,
+        asked: bool,
+    ) -> Result<Owners, Memory> {
         if !asked {
-            return Ok(Owners { boxes: Vec::new(alloc) });
+            return Ok(Owners {
+                boxes: Vec::new(alloc),
+            });
         }
         let mut owners = Owners {
             boxes: vec![in alloc; NONE; site.volume()]?,

@@ -57,12 +57,20 @@ fn parts_of(alloc: Global, poles: &[Pole]) -> Result<Vec<Part>, Memory> {
         if high.saturating_sub(foot.y) >= LONG_POLE - 1 {
             let middle = foot.y.saturating_add(high) / 2;
             let lower = Pole { foot, high: middle };
-            let part = Part { pole: lower, up: false, taken: false };
+            let part = Part {
+                pole: lower,
+                up: false,
+                taken: false,
+            };
             parts.push(part).map_err(|_| Memory)?;
             low = foot.at_height(middle.saturating_add(1));
         }
         let upper = Pole { foot: low, high };
-        let part = Part { pole: upper, up: low != foot, taken: false };
+        let part = Part {
+            pole: upper,
+            up: low != foot,
+            taken: false,
+        };
         parts.push(part).map_err(|_| Memory)?;
     }
     Ok(parts)
@@ -96,7 +104,7 @@ impl Yard {
         let one = from.to(spot_of(path, at.saturating_add(1)));
         let mut count = 0i16;
         let mut c = from;
-        for k in 1..LONG as usize + 1 {
+        for k in 1..16usize {
             let Some(next) = path.get(at.saturating_add(k)) else {
                 break;
             };
@@ -122,14 +130,25 @@ impl Yard {
             one.dz.wrapping_mul(count),
         );
         self.reserve_leg(bot.at, d);
-        self.put(number, Bot { at: bot.at.plus(d), task: Task::Move(d), ..bot });
+        self.put(
+            number,
+            Bot {
+                at: bot.at.plus(d),
+                task: Task::Move(d),
+                ..bot
+            },
+        );
         count.max(0) as usize
     }
 
     /// A bot voids a voxel of a pole that is in its reach. Returns whether there is one.
     fn void_part(&mut self, number: u8, part: Part) -> bool {
         let at = self.bot(number).at;
-        let heights = if part.up { [-1i16, 0, 1] } else { [1i16, 0, -1] };
+        let heights = if part.up {
+            [-1i16, 0, 1]
+        } else {
+            [1i16, 0, -1]
+        };
         for e in heights {
             let y = at.y.wrapping_add(e);
             let c = part.pole.foot.at_height(y);
@@ -180,7 +199,14 @@ impl Yard {
         let d = by(0, one.wrapping_mul(clear), 0);
         self.reserve_leg(at, d);
         let bot = self.bot(number);
-        self.put(number, Bot { at: at.plus(d), task: Task::Move(d), ..bot });
+        self.put(
+            number,
+            Bot {
+                at: at.plus(d),
+                task: Task::Move(d),
+                ..bot
+            },
+        );
     }
 
     /// A bot that is blocked below an overhang goes one voxel aside. Returns whether it does.
@@ -196,7 +222,14 @@ impl Yard {
             return false;
         }
         self.reserve(to);
-        self.put(number, Bot { at: to, task: Task::Move(d), ..bot });
+        self.put(
+            number,
+            Bot {
+                at: to,
+                task: Task::Move(d),
+                ..bot
+            },
+        );
         true
     }
 
@@ -283,12 +316,24 @@ impl Clearing {
     }
 
     /// The nearest free bot gets a part of a pole, which it voids from a column. Returns whether one does.
-    fn send_to(&mut self, alloc: Global, yard: &mut Yard, part: Part, beside: Spot) -> Result<bool, Memory> {
+    fn send_to(
+        &mut self,
+        alloc: Global,
+        yard: &mut Yard,
+        part: Part,
+        beside: Spot,
+    ) -> Result<bool, Memory> {
         if !yard.is_side_void(part, beside) || self.is_column_used(beside) {
             return Ok(false);
         }
         let stand = stand_at(part, beside);
-        let found = self.searcher.path_to(alloc, &yard.site, stand, Goal::Listed, self.free.as_slice())?;
+        let found = self.searcher.path_to(
+            alloc,
+            &yard.site,
+            stand,
+            Goal::Listed,
+            self.free.as_slice(),
+        )?;
         let Some(path) = found else {
             return Ok(false);
         };
@@ -298,7 +343,15 @@ impl Clearing {
         };
         self.end_errand(bot);
         yard.post(bot, true);
-        let errand = Errand { bot, part, path, at: 0, blocked: 0, home: false, over: false };
+        let errand = Errand {
+            bot,
+            part,
+            path,
+            at: 0,
+            blocked: 0,
+            home: false,
+            over: false,
+        };
         self.errands.push(errand).map_err(|_| Memory)?;
         Ok(true)
     }
@@ -361,7 +414,9 @@ impl Clearing {
         }
         let at = yard.bot(errand.bot).at;
         let none: [Spot; 0] = [];
-        let found = self.searcher.path_to(alloc, &yard.site, end, Goal::At(at), &none)?;
+        let found = self
+            .searcher
+            .path_to(alloc, &yard.site, end, Goal::At(at), &none)?;
         if let Some(path) = found {
             errand.path = path;
             errand.at = 0;
@@ -376,7 +431,9 @@ impl Clearing {
         };
         let at = yard.bot(errand.bot).at;
         let none: [Spot; 0] = [];
-        let found = self.searcher.path_to(alloc, &yard.site, at, Goal::Sky, &none)?;
+        let found = self
+            .searcher
+            .path_to(alloc, &yard.site, at, Goal::Sky, &none)?;
         let Some(path) = found else {
             return Ok(false);
         };

@@ -5,8 +5,8 @@
 use crate::blocks::{Block, MOST_SIDE, Piece};
 use crate::heap::{Entry, Heap};
 use crate::manner::Prices;
-use crate::site::Site;
 use crate::patch::best_box;
+use crate::site::Site;
 use crate::spots::{Spot, apart};
 use crate::weights::Weights;
 use std::alloc::Global;
@@ -174,7 +174,14 @@ impl Cutter {
     }
 
     /// The column beside a corner in which a bot can stand, and whether it is to be filled later.
-    fn post(&self, site: &Site, block: Block, corner: Spot, dx: i16, dz: i16) -> Option<(u32, bool)> {
+    fn post(
+        &self,
+        site: &Site,
+        block: Block,
+        corner: Spot,
+        dx: i16,
+        dz: i16,
+    ) -> Option<(u32, bool)> {
         let (x, z) = (corner.x.wrapping_add(dx), corner.z.wrapping_add(dz));
         let column = site.column(x, z)?;
         let stand = if dx == 0 || dz == 0 {
@@ -200,7 +207,10 @@ impl Cutter {
         if block.low.y == block.high.y || !self.prices.guarded {
             return Some(posts);
         }
-        let lower = Block { low: block.low, high: block.high.at_height(block.low.y) };
+        let lower = Block {
+            low: block.low,
+            high: block.high.at_height(block.low.y),
+        };
         let corners = lower.corners();
         for i in 0..corners.count {
             if !self.add_post(site, block, corners.get(i), &mut posts) {
@@ -208,7 +218,10 @@ impl Cutter {
             }
         }
         let below = block.low.y.saturating_sub(1);
-        let under = Block { low: block.low.at_height(below), high: block.high.at_height(below) };
+        let under = Block {
+            low: block.low.at_height(below),
+            high: block.high.at_height(below),
+        };
         if posts.shafts > 0 && block.low.y > 0 && !site.has_goal_in(under) {
             return None;
         }
@@ -222,9 +235,11 @@ impl Cutter {
             Some(price) => u64::from(*price),
             None => 1,
         };
-        let layers = u64::from(apart(block.high.y, block.low.y) as u16).saturating_add(1);
+        let layers = u64::from(apart(block.high.y, block.low.y).max(0) as u16).saturating_add(1);
         let shafts = u64::from(posts.shafts).saturating_mul(layers);
-        let price = shafts.saturating_mul(u64::from(self.prices.shaft)).saturating_add(price);
+        let price = shafts
+            .saturating_mul(u64::from(self.prices.shaft))
+            .saturating_add(price);
         let weight = u64::from(self.weights.weight(block)).saturating_mul(4096);
         Some(weight / price.max(1))
     }
@@ -232,7 +247,11 @@ impl Cutter {
     /// Adds the best box for a voxel to the heap, at most as valuable as that.
     fn offer(&mut self, site: &Site, seed: Spot, most: u64) -> Result<(), Memory> {
         let (value, block) = best_box(self, site, seed);
-        let entry = Entry { value: value.min(most), seed, block };
+        let entry = Entry {
+            value: value.min(most),
+            seed,
+            block,
+        };
         self.heap.push(entry)
     }
 
@@ -262,7 +281,9 @@ impl Cutter {
     /// Cuts a box.
     fn cut(&mut self, site: &Site, block: Block, posts: Posts) -> Result<(), Memory> {
         let guards = posts.columns;
-        self.pieces.push(Piece { block, guards }).map_err(|_| Memory)?;
+        self.pieces
+            .push(Piece { block, guards })
+            .map_err(|_| Memory)?;
         for x in block.low.x..=block.high.x {
             for z in block.low.z..=block.high.z {
                 let next = self.next_above(site, x, z, block.high.y);
@@ -287,8 +308,7 @@ impl Cutter {
         self.heap.clear();
         for x in 1..site.side() {
             for z in 1..site.side() {
-                let is_turn = each == 1 || (x % 4 == 0 && z % 4 == 0);
-                if is_turn && self.begins(site, x, z, y) {
+                if is_turn(x, z, each) && self.begins(site, x, z, y) {
                     self.offer(site, Spot { x, y, z }, u64::MAX)?;
                 }
             }
@@ -322,6 +342,11 @@ impl Cutter {
         }
         Ok(())
     }
+}
+
+/// Returns whether a column is one of those that are offered.
+fn is_turn(x: i16, z: i16, each: i16) -> bool {
+    each == 1 || (x % 4 == 0 && z % 4 == 0)
 }
 
 /// The directions away from a box at one end of a side: all three if both ends are one.

@@ -15,6 +15,11 @@ pub(crate) struct Entry {
     pub(crate) block: Block,
 }
 
+/// The index of the entry above one.
+fn parent_of(at: usize) -> usize {
+    at.saturating_sub(1) / 2
+}
+
 /// A binary heap.
 #[derive(Drop)]
 pub(crate) struct Heap {
@@ -52,7 +57,7 @@ impl Heap {
             if at == 0 {
                 break;
             }
-            let parent = at.wrapping_sub(1) / 2;
+            let parent = parent_of(at);
             let Some(above) = self.get(parent) else {
                 break;
             };

@@ -81,8 +81,16 @@ impl Patch {
             x,
             z,
             y: seed.y,
-            wide: last_x.saturating_sub(x).saturating_add(1).max(1).min(MOST_SIDE) as usize,
-            deep: last_z.saturating_sub(z).saturating_add(1).max(1).min(MOST_SIDE) as usize,
+            wide: last_x
+                .saturating_sub(x)
+                .saturating_add(1)
+                .max(1)
+                .min(MOST_SIDE) as usize,
+            deep: last_z
+                .saturating_sub(z)
+                .saturating_add(1)
+                .max(1)
+                .min(MOST_SIDE) as usize,
             own_x: seed.x.saturating_sub(x).max(0) as usize,
             own_z: seed.z.saturating_sub(z).max(0) as usize,
             runs: [0; 961],
@@ -111,7 +119,11 @@ impl Patch {
         if !cutter.begins(site, c.x, c.z, c.y) {
             return;
         }
-        let run = if cutter.may_be_thick() { cutter.run(site, c) } else { 1 };
+        let run = if cutter.may_be_thick() {
+            cutter.run(site, c)
+        } else {
+            1
+        };
         let at = i.wrapping_mul(EDGE).wrapping_add(k);
         if let Some(place) = self.runs.get_mut(at) {
             *place = run;
@@ -251,7 +263,10 @@ impl Patch {
         let low = self.column(area.x.0, area.z.0);
         let high = self.column(area.x.1, area.z.1);
         let top = self.y.saturating_add(i16::from(thick)).saturating_sub(1);
-        Block { low, high: high.at_height(top) }
+        Block {
+            low,
+            high: high.at_height(top),
+        }
     }
 }
 
@@ -304,7 +319,10 @@ fn best_of_level(
     }
     let own = (patch.own_x, patch.own_x);
     let deep = patch.area(patch.own_x, patch.own_x, span_of(&spans, patch.own_x));
-    let alone = Area { x: own, z: (patch.own_z, patch.own_z) };
+    let alone = Area {
+        x: own,
+        z: (patch.own_z, patch.own_z),
+    };
     let mut best = best;
     for area in [patch.rectangle(&spans), patch.line(&spans), deep, alone] {
         best = better(cutter, site, patch, best, area);
@@ -316,7 +334,13 @@ fn best_of_level(
 pub(crate) fn best_box(cutter: &Cutter, site: &Site, seed: Spot) -> (u64, Block) {
     let patch = Patch::around(cutter, site, seed);
     let most = patch.run(patch.own_x, patch.own_z).max(1);
-    let mut best = (0, Block { low: seed, high: seed });
+    let mut best = (
+        0,
+        Block {
+            low: seed,
+            high: seed,
+        },
+    );
     for k in 0..most {
         let level = most.wrapping_sub(k);
         if patch.is_level(level, most) {

@@ -83,6 +83,12 @@ fn nth_leg(legs: &[Leg; 4], i: usize) -> Leg {
     }
 }
 
+/// How many longest moves a way has, and what is left of it.
+fn parts_of(way: i16) -> (i16, i16) {
+    let far = apart(way, 0);
+    (far / LONG, far % LONG)
+}
+
 /// How many moves legs take: each at most 15 along one axis, or at most 5 along two axes that follow one another.
 fn count_moves(legs: &[Leg; 4], count: usize) -> i32 {
     let mut moves = 0i32;
@@ -90,8 +96,8 @@ fn count_moves(legs: &[Leg; 4], count: usize) -> i32 {
     for i in 0..count.min(4) {
         let way = nth_leg(legs, i).way.wrapping_sub(covered);
         covered = 0;
-        moves = moves.wrapping_add(i32::from(apart(way, 0) / LONG));
-        let rest = apart(way, 0) % LONG;
+        let (whole, rest) = parts_of(way);
+        moves = moves.wrapping_add(i32::from(whole));
         if rest == 0 {
             continue;
         }

@@ -139,7 +139,10 @@ fn pole_under(site: &Site, c: Spot) -> Pole {
         }
         foot = below;
     }
-    Pole { foot, high: c.y.saturating_sub(1) }
+    Pole {
+        foot,
+        high: c.y.saturating_sub(1),
+    }
 }
 
 /// Returns whether all voxels beside a pole on some side are open to the outside.

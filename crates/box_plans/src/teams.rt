@@ -265,7 +265,7 @@ impl Schedule {
         let mut best: Option<(i64, u8, i64)> = None;
         for number in 0..MOST_BOTS {
             let bot = self.yard.bot(number);
-            if !bot.is_free() || (used / bit(number).max(1)) % 2 == 1 {
+            if !bot.is_free() || has_bit(used, number) {
                 continue;
             }
             let far = distance(bot.at, corner);
@@ -338,9 +338,7 @@ impl Schedule {
                 .saturating_add(count)
                 .max(1);
             let far = i64::from(length(at.to(stand)));
-            let value = (count.saturating_mul(2_000_000) / time).saturating_sub(far.saturating_mul(
-                1000,
-            ));
+            let value = worth(count, time).saturating_sub(far.saturating_mul(1000));
             let is_better = match best {
                 Some(other) => value > other.value,
                 None => true,
@@ -446,7 +444,9 @@ impl Schedule {
                 break;
             };
             let stand = corner.plus(by(*dx, *dy, *dz));
-            if job.has_stand(stand) || !self.may_stand(stand, block) || self.is_taken(stand, number)
+            if job.has_stand(stand)
+                || !self.may_stand(stand, block)
+                || self.is_taken(stand, number)
             {
                 continue;
             }
@@ -552,6 +552,16 @@ impl Schedule {
         }
         Ok(())
     }
+}
+
+/// Returns whether some bits have that of a bot.
+fn has_bit(bits: u64, number: u8) -> bool {
+    bits / bit(number).max(1) % 2 == 1
+}
+
+/// What a number of boxes is worth that take so many steps.
+fn worth(count: i64, time: i64) -> i64 {
+    count.saturating_mul(2_000_000) / time.max(1)
 }
 
 /// The bit of a bot.

@@ -315,24 +315,38 @@ pub(crate) fn tiles(
     Ok(tile_model(alloc, site, width, shift)?.pieces)
 }
 
+/// The better of some boxes and those of tiles at most so wide.
+fn better(
+    alloc: Global,
+    site: &Site,
+    best: Tiling,
+    width: i16,
+    shifts: &[i16],
+) -> Result<Tiling, Memory> {
+    let mut best = best;
+    for shift in shifts {
+        let other = tile_model(alloc, site, width, *shift)?;
+        if other.expected() < best.expected() {
+            best = other;
+        }
+    }
+    Ok(best)
+}
+
 /// The boxes of a model in tiles of the size that promises the fewest steps.
 pub(crate) fn best_tiles(alloc: Global, site: &Site) -> Result<Vec<Piece>, Memory> {
-    let step = if site.side() > LARGE { 3 } else { 1 };
     let mut best = tile_model(alloc, site, MOST_SIDE, 0)?;
-    for k in 0..22i16 / step {
-        for shift in SHIFTS {
-            if step > 1 && shift % 2 == 1 {
-                continue;
-            }
-            let width = MOST_SIDE.saturating_sub(step.saturating_mul(k));
-            let other = tile_model(alloc, site, width, shift)?;
-            if other.expected() < best.expected() {
-                best = other;
-            }
+    if site.side() > LARGE {
+        for width in FEW_WIDTHS {
+            best = better(alloc, site, best, width, &[0, 2])?;
         }
+        return Ok(best.pieces);
+    }
+    for width in 10..32i16 {
+        best = better(alloc, site, best, width, &[0, 1, 2, 4])?;
     }
     Ok(best.pieces)
 }
 
-/// By how much borders are moved.
-const SHIFTS: [i16; 4] = [0, 1, 2, 4];
+/// The widths of tiles that are tried for a large model.
+const FEW_WIDTHS: [i16; 6] = [31, 28, 25, 23, 20, 17];

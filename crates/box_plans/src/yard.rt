@@ -10,10 +10,10 @@ use std::alloc::Global;
 use vox_geom::{Diff, Memory};
 
 /// The most work for each voxel of a model's space.
-const WORK_EACH: u64 = 64;
+const WORK_EACH: u64 = 100;
 
 /// The most work besides.
-const MOST_WORK: u64 = 100_000_000;
+const MOST_WORK: u64 = 1_000_000_000;
 
 /// A bot: where it is after its task, and its task. Its job, and where it is to stand for it. How often it was blocked, how long it
 /// waited for a good box, and the first of its seeds and their number.
