@@ -2,10 +2,10 @@
 //!
 //! A box waits for all boxes below it in its columns, and for those whose bots need one of its columns. What is ready is found by the
 //! columns of its corners.
-use crate::blocks::{Block, Piece};
+use crate::blocks::{Block, CutBox};
 use crate::chains::Chains;
-use crate::site::Site;
-use crate::spots::HOME;
+use crate::positions::HOME;
+use crate::site::BuildSite;
 use std::alloc::Global;
 use vox_geom::Memory;
 
@@ -14,7 +14,7 @@ const WIDTH: i16 = 8;
 
 /// The states of a box.
 #[derive(Clone, Copy, PartialEq, Eq, Debug)]
-pub(crate) enum State {
+pub(crate) enum BoxState {
     /// It waits for others.
     Waits,
     /// A team may take it.
@@ -25,11 +25,11 @@ pub(crate) enum State {
     Done,
 }
 
-/// A box: for how many others it waits, when it was last looked at and by which search, and where its anchors are, if they are known.
+/// A box: how many others it waits for, when it last hung in the air, the last search that met it, and its anchors if they are known.
 #[derive(Clone, Copy, Debug)]
 pub(crate) struct Item {
     pub(crate) block: Block,
-    pub(crate) state: State,
+    pub(crate) state: BoxState,
     pub(crate) waits: u32,
     pub(crate) search: u32,
     pub(crate) hung: u32,
@@ -42,7 +42,7 @@ const NONE: Item = Item {
         low: HOME,
         high: HOME,
     },
-    state: State::Done,
+    state: BoxState::Done,
     waits: 0,
     search: 0,
     hung: 0,
@@ -64,7 +64,7 @@ pub(crate) struct Agenda {
 
 /// Which boxes come last in each column, and which ones need it.
 #[derive(Drop)]
-struct Columns {
+struct ColumnOrder {
     last: Vec<u32>,
     guarded: Chains,
 }
@@ -87,9 +87,9 @@ impl Agenda {
     }
 
     /// The boxes in an order in which each comes after all those below it.
-    pub(crate) fn of(alloc: Global, site: &Site, pieces: &[Piece]) -> Result<Agenda, Memory> {
+    pub(crate) fn of(alloc: Global, site: &BuildSite, pieces: &[CutBox]) -> Result<Agenda, Memory> {
         let mut agenda = Agenda::empty(alloc, site.side())?;
-        let mut columns = Columns {
+        let mut columns = ColumnOrder {
             last: vec![in alloc; u32::MAX; site.area()]?,
             guarded: Chains::new(alloc, site.area())?,
         };
@@ -108,9 +108,9 @@ impl Agenda {
     /// Adds a box, and keeps for what it waits.
     fn add_piece(
         &mut self,
-        site: &Site,
-        columns: &mut Columns,
-        piece: Piece,
+        site: &BuildSite,
+        columns: &mut ColumnOrder,
+        piece: CutBox,
     ) -> Result<(), Memory> {
         let block = piece.block;
         let number = self.add(block)?;
@@ -134,7 +134,7 @@ impl Agenda {
         let number = self.items.len().min(u32::MAX as usize) as u32;
         let item = Item {
             block,
-            state: State::Waits,
+            state: BoxState::Waits,
             ..NONE
         };
         self.items.push(item).map_err(|_| Memory)?;
@@ -144,7 +144,12 @@ impl Agenda {
     }
 
     /// A box waits for those that come before it in a column.
-    fn wait_in(&mut self, columns: &mut Columns, column: usize, number: u32) -> Result<(), Memory> {
+    fn wait_in(
+        &mut self,
+        columns: &mut ColumnOrder,
+        column: usize,
+        number: u32,
+    ) -> Result<(), Memory> {
         let mut before = u32::MAX;
         if let Some(last) = columns.last.get_mut(column) {
             before = *last;
@@ -219,13 +224,13 @@ impl Agenda {
     /// A box waits for no other any more.
     fn make_ready(&mut self, number: u32) -> Result<(), Memory> {
         let item = self.get(number);
-        if item.state != State::Waits {
+        if item.state != BoxState::Waits {
             return Ok(());
         }
         self.put(
             number,
             Item {
-                state: State::Ready,
+                state: BoxState::Ready,
                 ..item
             },
         );
@@ -300,12 +305,12 @@ impl Agenda {
                 None => break,
             };
             let item = self.get(number);
-            if item.state == State::Done {
+            if item.state == BoxState::Done {
                 self.buckets.remove(bucket, before, link);
                 continue;
             }
             before = Some(link);
-            if item.state == State::Ready && item.search != self.searches {
+            if item.state == BoxState::Ready && item.search != self.searches {
                 self.put(
                     number,
                     Item {
@@ -325,7 +330,7 @@ impl Agenda {
         self.put(number, Item { hung: step, ..item });
     }
 
-    /// Keeps where the anchors of a box are.
+    /// Keeps the range of the anchors of a box.
     pub(crate) fn set_anchors(&mut self, number: u32, from: usize, to: usize) {
         let item = self.get(number);
         self.put(
@@ -340,13 +345,13 @@ impl Agenda {
     /// A team takes a box.
     pub(crate) fn take(&mut self, number: u32) {
         let item = self.get(number);
-        if item.state == State::Ready {
+        if item.state == BoxState::Ready {
             self.ready = self.ready.saturating_sub(1);
             self.taken = self.taken.saturating_add(1);
             self.put(
                 number,
                 Item {
-                    state: State::Taken,
+                    state: BoxState::Taken,
                     ..item
                 },
             );
@@ -356,13 +361,13 @@ impl Agenda {
     /// A team gives a box up.
     pub(crate) fn release(&mut self, number: u32) {
         let item = self.get(number);
-        if item.state == State::Taken {
+        if item.state == BoxState::Taken {
             self.ready = self.ready.saturating_add(1);
             self.taken = self.taken.saturating_sub(1);
             self.put(
                 number,
                 Item {
-                    state: State::Ready,
+                    state: BoxState::Ready,
                     ..item
                 },
             );
@@ -372,18 +377,18 @@ impl Agenda {
     /// A box is full: those that waited for nothing else are ready.
     pub(crate) fn finish(&mut self, number: u32) -> Result<(), Memory> {
         let item = self.get(number);
-        if item.state == State::Done {
+        if item.state == BoxState::Done {
             return Ok(());
         }
         match item.state {
-            State::Ready => self.ready = self.ready.saturating_sub(1),
-            State::Taken => self.taken = self.taken.saturating_sub(1),
+            BoxState::Ready => self.ready = self.ready.saturating_sub(1),
+            BoxState::Taken => self.taken = self.taken.saturating_sub(1),
             _ => {}
         }
         self.put(
             number,
             Item {
-                state: State::Done,
+                state: BoxState::Done,
                 ..item
             },
         );
@@ -426,12 +431,12 @@ impl Agenda {
     /// Returns whether a box is ready and has more than one voxel.
     pub(crate) fn can_halve(&self, number: u32) -> bool {
         let item = self.get(number);
-        item.state == State::Ready && item.block.low != item.block.high
+        item.state == BoxState::Ready && item.block.low != item.block.high
     }
 
     /// Cuts a ready box in halves: the lowest layer and the rest or, of a box of one layer, along its longer side. A half without
     /// voxels of the model is done.
-    pub(crate) fn halve(&mut self, number: u32, site: &Site) -> Result<(), Memory> {
+    pub(crate) fn halve(&mut self, number: u32, site: &BuildSite) -> Result<(), Memory> {
         let block = self.get(number).block;
         if block.low.y != block.high.y {
             return self.split(number);
@@ -492,7 +497,7 @@ impl Agenda {
     pub(crate) fn lowest(&self) -> i16 {
         let mut lowest = i16::MAX;
         for item in self.items.as_slice() {
-            if item.state == State::Ready || item.state == State::Taken {
+            if item.state == BoxState::Ready || item.state == BoxState::Taken {
                 lowest = lowest.min(item.block.low.y);
             }
         }
@@ -503,7 +508,7 @@ impl Agenda {
     pub(crate) fn bots_needed(&self) -> usize {
         let mut sum = 0usize;
         for item in self.items.as_slice() {
-            if item.state == State::Ready || item.state == State::Waits {
+            if item.state == BoxState::Ready || item.state == BoxState::Waits {
                 let bots = item.block.corners().count;
                 sum = sum.saturating_add(bots);
             }

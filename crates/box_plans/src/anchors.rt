@@ -1,8 +1,8 @@
 //! What holds a box of any content: each connected part of the model in it needs the floor or a full voxel beside it.
 use crate::agenda::Agenda;
 use crate::blocks::Block;
-use crate::site::Site;
-use crate::spots::{NEIGHBORS, Spot, by};
+use crate::positions::{NEIGHBORS, Position, by};
+use crate::site::BuildSite;
 use std::alloc::Global;
 use vox_geom::Memory;
 
@@ -13,7 +13,7 @@ const END: u32 = u32::MAX;
 #[derive(Drop)]
 pub(crate) struct Anchors {
     voxels: Vec<u32>,
-    queue: Vec<Spot>,
+    queue: Vec<Position>,
 }
 
 impl Anchors {
@@ -26,7 +26,7 @@ impl Anchors {
     }
 
     /// Adds a voxel of a part, or an anchor of it.
-    fn visit(&mut self, site: &mut Site, block: Block, c: Spot) -> Result<(), Memory> {
+    fn visit(&mut self, site: &mut BuildSite, block: Block, c: Position) -> Result<(), Memory> {
         if block.has(c) {
             if site.see(c) {
                 self.queue.push(c).map_err(|_| Memory)?;
@@ -46,7 +46,7 @@ impl Anchors {
     }
 
     /// Adds the anchors of the part that has a voxel, unless it is on the floor.
-    fn add_part(&mut self, site: &mut Site, block: Block, c: Spot) -> Result<(), Memory> {
+    fn add_part(&mut self, site: &mut BuildSite, block: Block, c: Position) -> Result<(), Memory> {
         let start = self.voxels.len();
         let mut floor = false;
         self.queue.clear();
@@ -72,15 +72,21 @@ impl Anchors {
     }
 
     /// Adds the parts that begin in a column of a box.
-    fn add_column(&mut self, site: &mut Site, block: Block, x: i16, z: i16) -> Result<(), Memory> {
+    fn add_column(
+        &mut self,
+        site: &mut BuildSite,
+        block: Block,
+        x: i16,
+        z: i16,
+    ) -> Result<(), Memory> {
         for y in block.low.y..=block.high.y {
-            self.add_part(site, block, Spot { x, y, z })?;
+            self.add_part(site, block, Position { x, y, z })?;
         }
         Ok(())
     }
 
     /// Adds the parts of a box.
-    fn add_block(&mut self, site: &mut Site, block: Block) -> Result<(), Memory> {
+    fn add_block(&mut self, site: &mut BuildSite, block: Block) -> Result<(), Memory> {
         forget(site, block);
         for x in block.low.x..=block.high.x {
             for z in block.low.z..=block.high.z {
@@ -93,7 +99,7 @@ impl Anchors {
     /// Returns whether each part of a box would be grounded.
     pub(crate) fn hold(
         &mut self,
-        site: &mut Site,
+        site: &mut BuildSite,
         agenda: &mut Agenda,
         number: u32,
     ) -> Result<bool, Memory> {
@@ -109,7 +115,7 @@ impl Anchors {
     }
 
     /// Returns whether each part has an anchor that is full.
-    fn are_full(&self, site: &Site, from: usize, to: usize) -> bool {
+    fn are_full(&self, site: &BuildSite, from: usize, to: usize) -> bool {
         let mut held = false;
         for i in from..to {
             let Some(anchor) = self.voxels.get(i) else {
@@ -128,14 +134,14 @@ impl Anchors {
 }
 
 /// Takes the marks of a column of a box away.
-fn forget_column(site: &mut Site, block: Block, x: i16, z: i16) {
+fn forget_column(site: &mut BuildSite, block: Block, x: i16, z: i16) {
     for y in block.low.y..=block.high.y {
-        site.forget(Spot { x, y, z });
+        site.forget(Position { x, y, z });
     }
 }
 
 /// Takes the marks of a box away.
-fn forget(site: &mut Site, block: Block) {
+fn forget(site: &mut BuildSite, block: Block) {
     for x in block.low.x..=block.high.x {
         for z in block.low.z..=block.high.z {
             forget_column(site, block, x, z);

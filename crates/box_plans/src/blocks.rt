@@ -1,5 +1,5 @@
 //! Boxes of voxels, each filled by a team of one, two, four or eight bots near its corners.
-use crate::spots::{HOME, Spot, apart};
+use crate::positions::{HOME, Position, apart};
 
 /// The most voxels along an axis that one command fills.
 pub(crate) const MOST_SIDE: i16 = 31;
@@ -10,20 +10,20 @@ pub(crate) const MOST_TEAM: usize = 8;
 /// A box, by its lowest and highest corners.
 #[derive(Clone, Copy, PartialEq, Eq, Debug)]
 pub(crate) struct Block {
-    pub(crate) low: Spot,
-    pub(crate) high: Spot,
+    pub(crate) low: Position,
+    pub(crate) high: Position,
 }
 
 /// The corners of a box, each once.
 #[derive(Clone, Copy, Debug)]
-pub(crate) struct Corners {
-    spots: [Spot; MOST_TEAM],
+pub(crate) struct BoxCorners {
+    spots: [Position; MOST_TEAM],
     pub(crate) count: usize,
 }
 
-impl Corners {
+impl BoxCorners {
     /// A corner by its number.
-    pub(crate) fn get(&self, i: usize) -> Spot {
+    pub(crate) fn get(&self, i: usize) -> Position {
         match self.spots.get(i) {
             Some(spot) => *spot,
             None => HOME,
@@ -31,7 +31,7 @@ impl Corners {
     }
 
     /// Adds a corner.
-    fn add(&mut self, c: Spot) {
+    fn add(&mut self, c: Position) {
         if let Some(spot) = self.spots.get_mut(self.count) {
             *spot = c;
             self.count = self.count.saturating_add(1);
@@ -41,23 +41,23 @@ impl Corners {
     /// Adds the corners of a layer.
     fn add_layer(&mut self, block: Block, y: i16) {
         let Block { low, high } = block;
-        self.add(Spot { y, ..low });
+        self.add(Position { y, ..low });
         if low.x != high.x {
-            self.add(Spot {
+            self.add(Position {
                 y,
                 z: low.z,
                 x: high.x,
             });
         }
         if low.z != high.z {
-            self.add(Spot {
+            self.add(Position {
                 y,
                 x: low.x,
                 z: high.z,
             });
         }
         if low.x != high.x && low.z != high.z {
-            self.add(Spot { y, ..high });
+            self.add(Position { y, ..high });
         }
     }
 }
@@ -71,8 +71,8 @@ impl Block {
     }
 
     /// The corners, the lower ones first.
-    pub(crate) fn corners(self) -> Corners {
-        let mut corners = Corners {
+    pub(crate) fn corners(self) -> BoxCorners {
+        let mut corners = BoxCorners {
             spots: [HOME; MOST_TEAM],
             count: 0,
         };
@@ -84,8 +84,8 @@ impl Block {
     }
 
     /// The corner at the other end of the diagonal.
-    pub(crate) fn opposite(self, corner: Spot) -> Spot {
-        Spot {
+    pub(crate) fn opposite(self, corner: Position) -> Position {
+        Position {
             x: other_end(corner.x, self.low.x, self.high.x),
             y: other_end(corner.y, self.low.y, self.high.y),
             z: other_end(corner.z, self.low.z, self.high.z),
@@ -98,18 +98,18 @@ impl Block {
     }
 
     /// Returns whether a position is in the box or below it: nobody may be there when it is filled, or he would be shut in.
-    pub(crate) fn is_over(self, c: Spot) -> bool {
+    pub(crate) fn is_over(self, c: Position) -> bool {
         self.has_column(c.x, c.z) && c.y <= self.high.y
     }
 
     /// Returns whether a voxel is in the box.
-    pub(crate) fn has(self, c: Spot) -> bool {
+    pub(crate) fn has(self, c: Position) -> bool {
         self.is_over(c) && c.y >= self.low.y
     }
 
     /// The corner that is nearest to a position.
-    pub(crate) fn nearest_corner(self, from: Spot) -> Spot {
-        Spot {
+    pub(crate) fn nearest_corner(self, from: Position) -> Position {
+        Position {
             x: nearer_end(from.x, self.low.x, self.high.x),
             y: nearer_end(from.y.wrapping_sub(1), self.low.y, self.high.y),
             z: nearer_end(from.z, self.low.z, self.high.z),
@@ -138,12 +138,12 @@ impl Block {
             let next = middle.wrapping_add(1);
             let first = Block {
                 low,
-                high: Spot { x: middle, ..high },
+                high: Position { x: middle, ..high },
             };
             (
                 first,
                 Block {
-                    low: Spot { x: next, ..low },
+                    low: Position { x: next, ..low },
                     high,
                 },
             )
@@ -152,12 +152,12 @@ impl Block {
             let next = middle.wrapping_add(1);
             let first = Block {
                 low,
-                high: Spot { z: middle, ..high },
+                high: Position { z: middle, ..high },
             };
             (
                 first,
                 Block {
-                    low: Spot { z: next, ..low },
+                    low: Position { z: next, ..low },
                     high,
                 },
             )
@@ -176,17 +176,17 @@ fn nearer_end(at: i16, low: i16, high: i16) -> i16 {
     if down <= up { low } else { high }
 }
 
-/// A box of a plan, and the columns in which bots will stand when it is filled: what is to come there has to wait for it.
+/// A box of a plan, and the columns of its team's posts: later boxes there wait for it.
 #[derive(Clone, Copy, Debug)]
-pub(crate) struct Piece {
+pub(crate) struct CutBox {
     pub(crate) block: Block,
     pub(crate) guards: [Option<u32>; 4],
 }
 
-impl Piece {
+impl CutBox {
     /// A box for which nothing has to wait but what is above it.
-    pub(crate) fn plain(block: Block) -> Piece {
-        Piece {
+    pub(crate) fn plain(block: Block) -> CutBox {
+        CutBox {
             block,
             guards: [None; 4],
         }

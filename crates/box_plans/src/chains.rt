@@ -20,7 +20,7 @@ pub(crate) struct Chains {
 }
 
 impl Chains {
-    /// So many empty lists.
+    /// Makes `count` empty lists.
     pub(crate) fn new(alloc: Global, count: usize) -> Result<Chains, Memory> {
         Ok(Chains {
             heads: vec![in alloc; END; count]?,

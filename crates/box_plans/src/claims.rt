@@ -1,10 +1,10 @@
-//! Several boxes from one stop: a team takes boxes that it can fill from where it stands, and chooses positions that reach many.
-use crate::agenda::{Agenda, State};
+//! Several boxes from one stop: a team takes boxes that it can fill from its posts, and chooses posts that reach many.
+use crate::agenda::{Agenda, BoxState};
 use crate::blocks::{Block, MOST_TEAM};
-use crate::jobs::{Job, Target, put_spot};
+use crate::jobs::{Target, TeamJob, put_position};
+use crate::positions::{HOME, NEAR, Position, by, is_near};
 use crate::schedule::Schedule;
-use crate::site::Site;
-use crate::spots::{HOME, NEAR, Spot, by, is_near};
+use crate::site::BuildSite;
 use std::alloc::Global;
 use vox_geom::Memory;
 
@@ -14,7 +14,7 @@ const NONE: u32 = u32::MAX;
 /// The most boxes that have a corner near a position.
 const MOST_NEAR: usize = 18;
 
-/// The boxes by their corners. Nothing is kept if no manner asks for it.
+/// The boxes by their corners. Empty if the manner has no use for it.
 #[derive(Drop)]
 pub(crate) struct Owners {
     boxes: Vec<u32>,
@@ -72,10 +72,10 @@ impl Reach {
 }
 
 impl Owners {
-    /// The corners of all boxes, if they are asked for.
+    /// The corners of all boxes, if the manner has a use for them.
     pub(crate) fn of(
         alloc: Global,
-        site: &Site,
+        site: &BuildSite,
         agenda: &Agenda,
         asked: bool,
     ) -> Result<Owners, Memory> {
@@ -94,7 +94,7 @@ impl Owners {
     }
 
     /// Keeps the corners of a box.
-    fn add(&mut self, site: &Site, block: Block, number: u32) {
+    fn add(&mut self, site: &BuildSite, block: Block, number: u32) {
         let corners = block.corners();
         for i in 0..corners.count {
             if let Some(index) = site.index(corners.get(i)) {
@@ -106,7 +106,7 @@ impl Owners {
     }
 
     /// The box that had a corner at a position when all boxes were whole.
-    fn at(&self, site: &Site, c: Spot) -> u32 {
+    fn at(&self, site: &BuildSite, c: Position) -> u32 {
         match site.index(c) {
             Some(index) => match self.boxes.get(index) {
                 Some(number) => *number,
@@ -119,15 +119,15 @@ impl Owners {
 
 impl Schedule {
     /// The boxes other than one that are ready, have as many dimensions, and have a corner near a position.
-    pub(crate) fn reach(&self, at: Spot, dimensions: usize, but: u32) -> Reach {
+    pub(crate) fn reach(&self, at: Position, dimensions: usize, but: u32) -> Reach {
         let mut reach = NO_REACH;
         for (dx, dy, dz) in NEAR {
-            let number = self.owners.at(&self.yard.site, at.plus(by(dx, dy, dz)));
+            let number = self.owners.at(&self.air.site, at.plus(by(dx, dy, dz)));
             if number == NONE || number == but {
                 continue;
             }
             let item = self.agenda.get(number);
-            if item.state == State::Ready && item.block.dimensions() == dimensions {
+            if item.state == BoxState::Ready && item.block.dimensions() == dimensions {
                 reach.add(number);
             }
         }
@@ -155,8 +155,8 @@ impl Schedule {
         Some(number)
     }
 
-    /// The corners of a box that the bots of a team fill it from where they stand. None if some corner is out of reach.
-    fn corners_for(&self, job: &Job, block: Block) -> Option<[Spot; MOST_TEAM]> {
+    /// The corner of a box that each bot of a team fills from its post. None if some corner is out of reach.
+    fn corners_for(&self, job: &TeamJob, block: Block) -> Option<[Position; MOST_TEAM]> {
         let corners = block.corners();
         if corners.count != job.members {
             return None;
@@ -164,21 +164,21 @@ impl Schedule {
         let mut used = [false; MOST_TEAM];
         let mut ends = [HOME; MOST_TEAM];
         for i in 0..job.members {
-            let corner = free_corner(block, &mut used, job.stand(i))?;
-            put_spot(&mut ends, i, corner);
+            let corner = free_corner(block, &mut used, job.post(i))?;
+            put_position(&mut ends, i, corner);
         }
         Some(ends)
     }
 
-    /// A team takes more boxes that it can fill from where it stands.
-    pub(crate) fn extend(&self, job: Job, first: u32) -> Job {
+    /// A team takes more boxes that it can fill from its posts.
+    pub(crate) fn extend(&self, job: TeamJob, first: u32) -> TeamJob {
         let block = self.agenda.get(first).block;
         let dimensions = block.dimensions();
         let mut job = job;
         if self.manner.extra == 0 || dimensions > 2 || job.members == 0 {
             return job;
         }
-        let mut reach = self.reach(job.stand(0), dimensions, first);
+        let mut reach = self.reach(job.post(0), dimensions, first);
         for _ in 0..MOST_NEAR {
             let Some(number) = self.take_lowest(&mut reach) else {
                 break;
@@ -191,10 +191,10 @@ impl Schedule {
         job
     }
 
-    /// A team takes one more box if all of it can be filled from where the bots stand, and nobody is in the way.
-    fn try_extend(&self, job: &mut Job, number: u32) {
+    /// A team takes one more box if it can fill it from its posts, and nobody is in the way.
+    fn try_extend(&self, job: &mut TeamJob, number: u32) {
         let block = self.agenda.get(number).block;
-        if !self.yard.site.is_attached(block) || job.stands_under(block) {
+        if !self.air.site.is_attached(block) || job.has_post_under(block) {
             return;
         }
         if self.is_used_by_others(block, &job.bots) {
@@ -207,12 +207,12 @@ impl Schedule {
 }
 
 /// A corner of a box that a bot can fill from a position, and no other one uses.
-fn free_corner(block: Block, used: &mut [bool; MOST_TEAM], stand: Spot) -> Option<Spot> {
+fn free_corner(block: Block, used: &mut [bool; MOST_TEAM], post: Position) -> Option<Position> {
     let corners = block.corners();
     for i in 0..corners.count {
         let corner = corners.get(i);
         if let Some(taken) = used.get_mut(i) {
-            if !*taken && is_near(stand.to(corner)) {
+            if !*taken && is_near(post.to(corner)) {
                 *taken = true;
                 return Some(corner);
             }

@@ -1,12 +1,12 @@
 //! Poles are taken away by all bots at once, a long one by two: one voids its lower half from the top down, the other one its upper
 //! half from the middle up, which hangs from what it held.
-use crate::jobs::spot_of;
-use crate::poles::Pole;
+use crate::airspace::{Airspace, CrewBot};
+use crate::jobs::position_of;
+use crate::poles::TemporaryPole;
+use crate::positions::{LONG, NEIGHBORS, Position, SIDES, apart, by};
 use crate::record::MOST_BOTS;
-use crate::search::{Goal, Searcher, reversed};
-use crate::spots::{LONG, NEIGHBORS, SIDES, Spot, apart, by};
-use crate::tasks::Task;
-use crate::yard::{Bot, Yard};
+use crate::search::{SearchGoal, Searcher, reversed};
+use crate::tasks::BotTask;
 use std::alloc::Global;
 use vox_geom::{Diff, Memory};
 
@@ -21,8 +21,8 @@ const MOST_SEARCHED: u64 = 100_000_000;
 
 /// A part of a pole: whether it is voided upward, and whether a bot has it or had it.
 #[derive(Clone, Copy, Debug)]
-struct Part {
-    pole: Pole,
+struct PolePart {
+    pole: TemporaryPole,
     up: bool,
     taken: bool,
 }
@@ -31,8 +31,8 @@ struct Part {
 #[derive(Drop)]
 struct Errand {
     bot: u8,
-    part: Part,
-    path: Vec<Spot>,
+    part: PolePart,
+    path: Vec<Position>,
     at: usize,
     blocked: u8,
     home: bool,
@@ -42,22 +42,22 @@ struct Errand {
 /// All parts of poles, and the bots that void them.
 #[derive(Drop)]
 struct Clearing {
-    parts: Vec<Part>,
+    parts: Vec<PolePart>,
     errands: Vec<Errand>,
     searcher: Searcher,
-    free: Vec<Spot>,
+    free: Vec<Position>,
 }
 
 /// The parts of some poles.
-fn parts_of(alloc: Global, poles: &[Pole]) -> Result<Vec<Part>, Memory> {
+fn parts_of(alloc: Global, poles: &[TemporaryPole]) -> Result<Vec<PolePart>, Memory> {
     let mut parts = Vec::new(alloc);
     for pole in poles {
-        let Pole { foot, high } = *pole;
+        let TemporaryPole { foot, high } = *pole;
         let mut low = foot;
         if high.saturating_sub(foot.y) >= LONG_POLE - 1 {
             let middle = foot.y.saturating_add(high) / 2;
-            let lower = Pole { foot, high: middle };
-            let part = Part {
+            let lower = TemporaryPole { foot, high: middle };
+            let part = PolePart {
                 pole: lower,
                 up: false,
                 taken: false,
@@ -65,8 +65,8 @@ fn parts_of(alloc: Global, poles: &[Pole]) -> Result<Vec<Part>, Memory> {
             parts.push(part).map_err(|_| Memory)?;
             low = foot.at_height(middle.saturating_add(1));
         }
-        let upper = Pole { foot: low, high };
-        let part = Part {
+        let upper = TemporaryPole { foot: low, high };
+        let part = PolePart {
             pole: upper,
             up: low != foot,
             taken: false,
@@ -76,8 +76,8 @@ fn parts_of(alloc: Global, poles: &[Pole]) -> Result<Vec<Part>, Memory> {
     Ok(parts)
 }
 
-/// Where a bot stands in a column to begin with a part of a pole.
-fn stand_at(part: Part, beside: Spot) -> Spot {
+/// The first post of a bot beside a part of a pole.
+fn first_post(part: PolePart, beside: Position) -> Position {
     let (low, high) = (part.pole.foot.y, part.pole.high);
     let y = if part.up {
         low.saturating_add(1).min(high)
@@ -87,9 +87,9 @@ fn stand_at(part: Part, beside: Spot) -> Spot {
     beside.at_height(y)
 }
 
-impl Yard {
+impl Airspace {
     /// Returns whether all voxels beside a part of a pole in a column are void.
-    fn is_side_void(&self, part: Part, beside: Spot) -> bool {
+    fn is_side_void(&self, part: PolePart, beside: Position) -> bool {
         for y in part.pole.foot.y..=part.pole.high {
             if !self.site.is_open(beside.at_height(y)) {
                 return false;
@@ -99,9 +99,9 @@ impl Yard {
     }
 
     /// How far a bot can go straight on along a path from a place of it: at most 15 voxels, none of them full or reserved.
-    fn straight(&self, path: &[Spot], at: usize) -> (Diff, i16) {
-        let from = spot_of(path, at);
-        let one = from.to(spot_of(path, at.saturating_add(1)));
+    fn straight(&self, path: &[Position], at: usize) -> (Diff, i16) {
+        let from = position_of(path, at);
+        let one = from.to(position_of(path, at.saturating_add(1)));
         let mut count = 0i16;
         let mut c = from;
         for k in 1..16usize {
@@ -118,7 +118,7 @@ impl Yard {
     }
 
     /// A bot goes straight on along a path. Returns how far.
-    fn go_along(&mut self, number: u8, path: &[Spot], at: usize) -> usize {
+    fn go_along(&mut self, number: u8, path: &[Position], at: usize) -> usize {
         let (one, count) = self.straight(path, at);
         if count == 0 {
             return 0;
@@ -132,9 +132,9 @@ impl Yard {
         self.reserve_leg(bot.at, d);
         self.put(
             number,
-            Bot {
+            CrewBot {
                 at: bot.at.plus(d),
-                task: Task::Move(d),
+                task: BotTask::Move(d),
                 ..bot
             },
         );
@@ -142,7 +142,7 @@ impl Yard {
     }
 
     /// A bot voids a voxel of a pole that is in its reach. Returns whether there is one.
-    fn void_part(&mut self, number: u8, part: Part) -> bool {
+    fn void_part(&mut self, number: u8, part: PolePart) -> bool {
         let at = self.bot(number).at;
         let heights = if part.up {
             [-1i16, 0, 1]
@@ -156,7 +156,7 @@ impl Yard {
             if is_part && self.site.is_full(c) && !self.is_reserved(c) {
                 self.reserve(c);
                 self.site.void(c);
-                self.order(number, Task::Void(at.to(c)));
+                self.order(number, BotTask::Void(at.to(c)));
                 return true;
             }
         }
@@ -164,7 +164,7 @@ impl Yard {
     }
 
     /// The voxel of a part of a pole that comes next, if one is full.
-    fn next_voxel(&self, part: Part) -> Option<i16> {
+    fn next_voxel(&self, part: PolePart) -> Option<i16> {
         let mut found = None;
         for y in part.pole.foot.y..=part.pole.high {
             if self.site.is_full(part.pole.foot.at_height(y)) {
@@ -177,10 +177,10 @@ impl Yard {
         found
     }
 
-    /// A bot at a pole goes up or down to where it reaches a voxel.
-    fn go_to_voxel(&mut self, number: u8, part: Part, y: i16) {
+    /// A bot at a pole goes up or down until it reaches a voxel.
+    fn go_to_voxel(&mut self, number: u8, part: PolePart, y: i16) {
         let at = self.bot(number).at;
-        let goal = stand_height(part, y);
+        let goal = post_height(part, y);
         let way = goal.wrapping_sub(at.y);
         let way = way.max(LONG.wrapping_neg()).min(LONG);
         let one = way.max(-1).min(1);
@@ -201,9 +201,9 @@ impl Yard {
         let bot = self.bot(number);
         self.put(
             number,
-            Bot {
+            CrewBot {
                 at: at.plus(d),
-                task: Task::Move(d),
+                task: BotTask::Move(d),
                 ..bot
             },
         );
@@ -224,9 +224,9 @@ impl Yard {
         self.reserve(to);
         self.put(
             number,
-            Bot {
+            CrewBot {
                 at: to,
-                task: Task::Move(d),
+                task: BotTask::Move(d),
                 ..bot
             },
         );
@@ -234,14 +234,14 @@ impl Yard {
     }
 
     /// Keeps whether a bot is needed for a pole.
-    fn post(&mut self, number: u8, posted: bool) {
+    fn mark_posted(&mut self, number: u8, posted: bool) {
         let bot = self.bot(number);
-        self.put(number, Bot { posted, ..bot });
+        self.put(number, CrewBot { posted, ..bot });
     }
 }
 
 /// At which height a bot reaches a voxel of a pole and the two next ones.
-fn stand_height(part: Part, y: i16) -> i16 {
+fn post_height(part: PolePart, y: i16) -> i16 {
     if part.up {
         y.saturating_add(1).min(part.pole.high)
     } else {
@@ -251,7 +251,7 @@ fn stand_height(part: Part, y: i16) -> i16 {
 
 impl Clearing {
     /// A part.
-    fn part(&self, i: usize) -> Option<Part> {
+    fn part(&self, i: usize) -> Option<PolePart> {
         match self.parts.get(i) {
             Some(part) => Some(*part),
             None => None,
@@ -279,7 +279,7 @@ impl Clearing {
     }
 
     /// Returns whether a bot works in a column, or will.
-    fn is_column_used(&self, column: Spot) -> bool {
+    fn is_column_used(&self, column: Position) -> bool {
         for errand in self.errands.as_slice() {
             let end = match errand.path.last() {
                 Some(end) => *end,
@@ -292,11 +292,11 @@ impl Clearing {
         false
     }
 
-    /// Lists where the free bots are. Returns whether there are any.
-    fn list_free(&mut self, yard: &Yard) -> Result<bool, Memory> {
+    /// Lists the positions of the free bots. Returns whether there are any.
+    fn list_free(&mut self, air: &Airspace) -> Result<bool, Memory> {
         self.free.clear();
         for number in 0..MOST_BOTS {
-            let bot = yard.bot(number);
+            let bot = air.bot(number);
             if bot.active && !self.is_busy(number) {
                 self.free.push(bot.at).map_err(|_| Memory)?;
             }
@@ -319,30 +319,30 @@ impl Clearing {
     fn send_to(
         &mut self,
         alloc: Global,
-        yard: &mut Yard,
-        part: Part,
-        beside: Spot,
+        air: &mut Airspace,
+        part: PolePart,
+        beside: Position,
     ) -> Result<bool, Memory> {
-        if !yard.is_side_void(part, beside) || self.is_column_used(beside) {
+        if !air.is_side_void(part, beside) || self.is_column_used(beside) {
             return Ok(false);
         }
-        let stand = stand_at(part, beside);
+        let post = first_post(part, beside);
         let found = self.searcher.path_to(
             alloc,
-            &yard.site,
-            stand,
-            Goal::Listed,
+            &air.site,
+            post,
+            SearchGoal::Listed,
             self.free.as_slice(),
         )?;
         let Some(path) = found else {
             return Ok(false);
         };
-        let first = spot_of(path.as_slice(), 0);
-        let Some(bot) = yard.bot_at(first) else {
+        let first = position_of(path.as_slice(), 0);
+        let Some(bot) = air.bot_at(first) else {
             return Ok(false);
         };
         self.end_errand(bot);
-        yard.post(bot, true);
+        air.mark_posted(bot, true);
         let errand = Errand {
             bot,
             part,
@@ -357,13 +357,13 @@ impl Clearing {
     }
 
     /// Some bot gets a part of a pole, if it can come to one of its sides.
-    fn send(&mut self, alloc: Global, yard: &mut Yard, part: Part) -> Result<bool, Memory> {
-        if !self.list_free(yard)? {
+    fn send(&mut self, alloc: Global, air: &mut Airspace, part: PolePart) -> Result<bool, Memory> {
+        if !self.list_free(air)? {
             return Ok(false);
         }
         for (dx, dy, dz) in SIDES {
             let beside = part.pole.foot.plus(by(dx, dy, dz));
-            if self.send_to(alloc, yard, part, beside)? {
+            if self.send_to(alloc, air, part, beside)? {
                 return Ok(true);
             }
         }
@@ -371,7 +371,7 @@ impl Clearing {
     }
 
     /// All parts that no bot has had get one, as far as there are any. Returns how many are left.
-    fn send_all(&mut self, alloc: Global, yard: &mut Yard) -> Result<usize, Memory> {
+    fn send_all(&mut self, alloc: Global, air: &mut Airspace) -> Result<usize, Memory> {
         let mut left = 0usize;
         for i in 0..self.parts.len() {
             let Some(part) = self.part(i) else {
@@ -380,7 +380,7 @@ impl Clearing {
             if part.taken {
                 continue;
             }
-            let taken = self.send(alloc, yard, part)?;
+            let taken = self.send(alloc, air, part)?;
             if let Some(place) = self.parts.get_mut(i) {
                 place.taken = taken;
             }
@@ -390,11 +390,11 @@ impl Clearing {
     }
 
     /// A bot goes on along its path. One that is blocked again and again goes aside and looks for another path.
-    fn go_on(&mut self, alloc: Global, yard: &mut Yard, i: usize) -> Result<(), Memory> {
+    fn go_on(&mut self, alloc: Global, air: &mut Airspace, i: usize) -> Result<(), Memory> {
         let Some(errand) = self.errands.get_mut(i) else {
             return Ok(());
         };
-        let went = yard.go_along(errand.bot, errand.path.as_slice(), errand.at);
+        let went = air.go_along(errand.bot, errand.path.as_slice(), errand.at);
         errand.at = errand.at.saturating_add(went);
         if went > 0 {
             errand.blocked = 0;
@@ -409,14 +409,14 @@ impl Clearing {
             Some(end) => *end,
             None => return Ok(()),
         };
-        if !yard.step_aside(errand.bot) {
+        if !air.step_aside(errand.bot) {
             return Ok(());
         }
-        let at = yard.bot(errand.bot).at;
-        let none: [Spot; 0] = [];
+        let at = air.bot(errand.bot).at;
+        let none: [Position; 0] = [];
         let found = self
             .searcher
-            .path_to(alloc, &yard.site, end, Goal::At(at), &none)?;
+            .path_to(alloc, &air.site, end, SearchGoal::At(at), &none)?;
         if let Some(path) = found {
             errand.path = path;
             errand.at = 0;
@@ -425,27 +425,27 @@ impl Clearing {
     }
 
     /// A bot whose part is void goes back into the sky. Returns whether it can.
-    fn send_back(&mut self, alloc: Global, yard: &mut Yard, i: usize) -> Result<bool, Memory> {
+    fn send_back(&mut self, alloc: Global, air: &mut Airspace, i: usize) -> Result<bool, Memory> {
         let Some(errand) = self.errands.get_mut(i) else {
             return Ok(true);
         };
-        let at = yard.bot(errand.bot).at;
-        let none: [Spot; 0] = [];
+        let at = air.bot(errand.bot).at;
+        let none: [Position; 0] = [];
         let found = self
             .searcher
-            .path_to(alloc, &yard.site, at, Goal::Sky, &none)?;
+            .path_to(alloc, &air.site, at, SearchGoal::Sky, &none)?;
         let Some(path) = found else {
             return Ok(false);
         };
         errand.path = reversed(alloc, path.as_slice())?;
-        errand.at = yard.go_along(errand.bot, errand.path.as_slice(), 0);
+        errand.at = air.go_along(errand.bot, errand.path.as_slice(), 0);
         errand.home = true;
         errand.over = errand.path.len() < 2;
         Ok(true)
     }
 
     /// A bot does its part of an errand in this step. Returns whether all is well.
-    fn act(&mut self, alloc: Global, yard: &mut Yard, i: usize) -> Result<bool, Memory> {
+    fn act(&mut self, alloc: Global, air: &mut Airspace, i: usize) -> Result<bool, Memory> {
         let Some(errand) = self.errands.get_mut(i) else {
             return Ok(true);
         };
@@ -454,27 +454,27 @@ impl Clearing {
         }
         let (bot, part) = (errand.bot, errand.part);
         if errand.at.saturating_add(1) < errand.path.len() {
-            self.go_on(alloc, yard, i)?;
+            self.go_on(alloc, air, i)?;
             return Ok(true);
         }
         if errand.home {
             errand.over = true;
             return Ok(true);
         }
-        if yard.void_part(bot, part) {
+        if air.void_part(bot, part) {
             return Ok(true);
         }
-        match yard.next_voxel(part) {
-            Some(y) => yard.go_to_voxel(bot, part, y),
-            None => return self.send_back(alloc, yard, i),
+        match air.next_voxel(part) {
+            Some(y) => air.go_to_voxel(bot, part, y),
+            None => return self.send_back(alloc, air, i),
         }
         Ok(true)
     }
 
     /// All bots with errands act. Returns whether all is well.
-    fn act_all(&mut self, alloc: Global, yard: &mut Yard) -> Result<bool, Memory> {
+    fn act_all(&mut self, alloc: Global, air: &mut Airspace) -> Result<bool, Memory> {
         for i in 0..self.errands.len() {
-            if !self.act(alloc, yard, i)? {
+            if !self.act(alloc, air, i)? {
                 return Ok(false);
             }
         }
@@ -482,25 +482,25 @@ impl Clearing {
     }
 
     /// Keeps which bots have errands. Returns how many have none.
-    fn post_all(&self, yard: &mut Yard) -> usize {
+    fn post_all(&self, air: &mut Airspace) -> usize {
         let mut free = 0usize;
         for number in 0..MOST_BOTS {
             let posted = self.has_errand(number);
-            yard.post(number, posted);
-            free = free.saturating_add(usize::from(yard.bot(number).active && !posted));
+            air.mark_posted(number, posted);
+            free = free.saturating_add(usize::from(air.bot(number).active && !posted));
         }
         free
     }
 
     /// One step. Returns whether all is well.
-    fn step(&mut self, alloc: Global, yard: &mut Yard, left: usize) -> Result<bool, Memory> {
-        yard.begin_step();
-        if !self.act_all(alloc, yard)? {
+    fn step(&mut self, alloc: Global, air: &mut Airspace, left: usize) -> Result<bool, Memory> {
+        air.begin_step();
+        if !self.act_all(alloc, air)? {
             return Ok(false);
         }
-        let free = self.post_all(yard);
-        yard.retire_nearest(free.saturating_sub(left));
-        yard.end_step()?;
+        let free = self.post_all(air);
+        air.retire_nearest(free.saturating_sub(left));
+        air.end_step()?;
         Ok(true)
     }
 
@@ -516,19 +516,23 @@ impl Clearing {
 }
 
 /// All poles are taken away. Returns whether they are.
-pub(crate) fn clear_poles(alloc: Global, yard: &mut Yard, poles: &[Pole]) -> Result<bool, Memory> {
+pub(crate) fn clear_poles(
+    alloc: Global,
+    air: &mut Airspace,
+    poles: &[TemporaryPole],
+) -> Result<bool, Memory> {
     let mut clearing = Clearing {
         parts: parts_of(alloc, poles)?,
         errands: Vec::new(alloc),
-        searcher: Searcher::new(alloc, &yard.site)?,
+        searcher: Searcher::new(alloc, &air.site)?,
         free: Vec::new(alloc),
     };
     for _ in 0..MOST_STEPS {
-        let left = clearing.send_all(alloc, yard)?;
+        let left = clearing.send_all(alloc, air)?;
         if clearing.is_idle() {
             return Ok(left == 0);
         }
-        if clearing.searcher.work > MOST_SEARCHED || !clearing.step(alloc, yard, left)? {
+        if clearing.searcher.work > MOST_SEARCHED || !clearing.step(alloc, air, left)? {
             return Ok(false);
         }
     }

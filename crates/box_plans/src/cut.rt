@@ -2,12 +2,12 @@
 //!
 //! It is cut layer by layer from the floor. Of all boxes that begin in a layer, the one with the most weight for its price comes
 //! first. So in each column what is cut lies below what is not, and "after all that is below" is an order without circles.
-use crate::blocks::{Block, MOST_SIDE, Piece};
+use crate::blocks::{Block, CutBox, MOST_SIDE};
 use crate::heap::{Entry, Heap};
 use crate::manner::Prices;
 use crate::patch::best_box;
-use crate::site::Site;
-use crate::spots::{Spot, apart};
+use crate::positions::{Position, apart};
+use crate::site::BuildSite;
 use crate::weights::Weights;
 use std::alloc::Global;
 use vox_geom::Memory;
@@ -18,7 +18,7 @@ const MOST_TURNS: u32 = 100_000_000;
 /// In the first round only boxes of so much value are cut.
 const WORTH: u64 = 4915;
 
-/// The columns beside the lower corners of a thick box in which bots will stand, and how many of them are to be filled later.
+/// The columns beside the lower corners of a thick box with the posts of its team, and how many of them are filled later.
 #[derive(Clone, Copy, Debug)]
 struct Posts {
     columns: [Option<u32>; 4],
@@ -54,7 +54,7 @@ impl Posts {
     }
 }
 
-/// What is cut so far: the lowest voxel of each column that is not, where the sky begins above those that are, and how many voxels
+/// What is cut so far: the lowest voxel of each column that is not, the beginning of the sky above those that are, and how many voxels
 /// follow one another upward from each one.
 #[derive(Drop)]
 pub(crate) struct Cutter {
@@ -63,13 +63,13 @@ pub(crate) struct Cutter {
     next: Vec<i16>,
     tops: Vec<i16>,
     runs: Vec<u8>,
-    pieces: Vec<Piece>,
+    pieces: Vec<CutBox>,
     heap: Heap,
 }
 
 impl Cutter {
     /// Before the first box.
-    fn new(alloc: Global, site: &Site, prices: Prices) -> Result<Cutter, Memory> {
+    fn new(alloc: Global, site: &BuildSite, prices: Prices) -> Result<Cutter, Memory> {
         let mut cutter = Cutter {
             prices,
             weights: Weights::of(alloc, site, &prices)?,
@@ -88,12 +88,12 @@ impl Cutter {
     }
 
     /// Counts the voxels of a column that follow one another upward from each one.
-    fn count_runs(&mut self, site: &Site, x: i16, z: i16) {
+    fn count_runs(&mut self, site: &BuildSite, x: i16, z: i16) {
         let side = site.side();
         let mut run = 0u8;
         for k in 1..side.saturating_add(1) {
             let y = side.saturating_sub(k);
-            let c = Spot { x, y, z };
+            let c = Position { x, y, z };
             run = if site.is_goal(c) {
                 run.saturating_add(1).min(MOST_SIDE as u8)
             } else {
@@ -111,7 +111,7 @@ impl Cutter {
     }
 
     /// How many voxels follow one another upward from one.
-    pub(crate) fn run(&self, site: &Site, c: Spot) -> u8 {
+    pub(crate) fn run(&self, site: &BuildSite, c: Position) -> u8 {
         match site.index(c) {
             Some(index) => match self.runs.get(index) {
                 Some(run) => *run,
@@ -122,7 +122,7 @@ impl Cutter {
     }
 
     /// Keeps the lowest voxel of a column that is not cut.
-    fn set_next(&mut self, site: &Site, x: i16, z: i16, y: i16) {
+    fn set_next(&mut self, site: &BuildSite, x: i16, z: i16, y: i16) {
         if let Some(column) = site.column(x, z) {
             if let Some(place) = self.next.get_mut(column) {
                 *place = y;
@@ -131,7 +131,7 @@ impl Cutter {
     }
 
     /// Returns whether the lowest voxel of a column that is not cut is in a layer.
-    pub(crate) fn begins(&self, site: &Site, x: i16, z: i16, y: i16) -> bool {
+    pub(crate) fn begins(&self, site: &BuildSite, x: i16, z: i16, y: i16) -> bool {
         match site.column(x, z) {
             Some(column) => match self.next.get(column) {
                 Some(next) => *next == y,
@@ -146,8 +146,14 @@ impl Cutter {
         self.prices.thick
     }
 
-    /// Adds the best column beside a lower corner of a box in which a bot can stand. Returns whether there is one.
-    fn add_post(&self, site: &Site, block: Block, corner: Spot, posts: &mut Posts) -> bool {
+    /// Adds the best column for a post beside a lower corner of a box. Returns whether there is one.
+    fn add_post(
+        &self,
+        site: &BuildSite,
+        block: Block,
+        corner: Position,
+        posts: &mut Posts,
+    ) -> bool {
         let mut best: Option<(u32, bool)> = None;
         for dx in outward(corner.x, block.low.x, block.high.x) {
             for dz in outward(corner.z, block.low.z, block.high.z) {
@@ -173,36 +179,36 @@ impl Cutter {
         true
     }
 
-    /// The column beside a corner in which a bot can stand, and whether it is to be filled later.
+    /// The column for a post beside a corner, and whether it is filled later. None if it is not in the sky, or not allowed.
     fn post(
         &self,
-        site: &Site,
+        site: &BuildSite,
         block: Block,
-        corner: Spot,
+        corner: Position,
         dx: i16,
         dz: i16,
     ) -> Option<(u32, bool)> {
         let (x, z) = (corner.x.wrapping_add(dx), corner.z.wrapping_add(dz));
         let column = site.column(x, z)?;
-        let stand = if dx == 0 || dz == 0 {
+        let post = if dx == 0 || dz == 0 {
             block.low.y.saturating_add(1)
         } else {
             block.low.y
         };
         let top = self.tops.get(column)?;
-        if *top > stand {
+        if *top > post {
             return None;
         }
-        let later = site.has_goal_between(x, z, stand, block.high.y);
+        let later = site.has_goal_between(x, z, post, block.high.y);
         if later && self.prices.bare {
             return None;
         }
         Some((column.min(u32::MAX as usize) as u32, later))
     }
 
-    /// The columns in which bots will stand when a thick box is filled. None if a corner has none, or if what is to come there would
-    /// wait for a box with nothing below it.
-    fn posts(&self, site: &Site, block: Block) -> Option<Posts> {
+    /// The columns of the posts for a thick box. None if a corner has none, or if later boxes there would wait for one with nothing
+    /// below it.
+    fn posts(&self, site: &BuildSite, block: Block) -> Option<Posts> {
         let mut posts = NO_POSTS;
         if block.low.y == block.high.y || !self.prices.guarded {
             return Some(posts);
@@ -228,8 +234,8 @@ impl Cutter {
         Some(posts)
     }
 
-    /// The value of a box: its weight for its price. None if bots could not stand at its corners.
-    pub(crate) fn value(&self, site: &Site, block: Block) -> Option<u64> {
+    /// The value of a box: its weight for its price. None if a corner has no post.
+    pub(crate) fn value(&self, site: &BuildSite, block: Block) -> Option<u64> {
         let posts = self.posts(site, block)?;
         let price = match self.prices.of.get(block.dimensions()) {
             Some(price) => u64::from(*price),
@@ -245,7 +251,7 @@ impl Cutter {
     }
 
     /// Adds the best box for a voxel to the heap, at most as valuable as that.
-    fn offer(&mut self, site: &Site, seed: Spot, most: u64) -> Result<(), Memory> {
+    fn offer(&mut self, site: &BuildSite, seed: Position, most: u64) -> Result<(), Memory> {
         let (value, block) = best_box(self, site, seed);
         let entry = Entry {
             value: value.min(most),
@@ -256,7 +262,7 @@ impl Cutter {
     }
 
     /// Returns whether all columns of a box begin in its lowest layer.
-    fn is_uncut(&self, site: &Site, block: Block) -> bool {
+    fn is_uncut(&self, site: &BuildSite, block: Block) -> bool {
         for x in block.low.x..=block.high.x {
             for z in block.low.z..=block.high.z {
                 if !self.begins(site, x, z, block.low.y) {
@@ -268,10 +274,10 @@ impl Cutter {
     }
 
     /// The lowest voxel of the model in a column above a height.
-    fn next_above(&self, site: &Site, x: i16, z: i16, y: i16) -> i16 {
+    fn next_above(&self, site: &BuildSite, x: i16, z: i16, y: i16) -> i16 {
         let side = site.side();
         for next in y.saturating_add(1)..side {
-            if site.is_goal(Spot { x, y: next, z }) {
+            if site.is_goal(Position { x, y: next, z }) {
                 return next;
             }
         }
@@ -279,10 +285,10 @@ impl Cutter {
     }
 
     /// Cuts a box.
-    fn cut(&mut self, site: &Site, block: Block, posts: Posts) -> Result<(), Memory> {
+    fn cut(&mut self, site: &BuildSite, block: Block, posts: Posts) -> Result<(), Memory> {
         let guards = posts.columns;
         self.pieces
-            .push(Piece { block, guards })
+            .push(CutBox { block, guards })
             .map_err(|_| Memory)?;
         for x in block.low.x..=block.high.x {
             for z in block.low.z..=block.high.z {
@@ -294,8 +300,8 @@ impl Cutter {
         Ok(())
     }
 
-    /// Keeps where the sky begins above what is cut of a column.
-    fn set_top(&mut self, site: &Site, x: i16, z: i16, top: i16) {
+    /// Keeps the beginning of the sky above what is cut of a column.
+    fn set_top(&mut self, site: &BuildSite, x: i16, z: i16, top: i16) {
         if let Some(column) = site.column(x, z) {
             if let Some(place) = self.tops.get_mut(column) {
                 *place = top;
@@ -304,12 +310,12 @@ impl Cutter {
     }
 
     /// Offers the best boxes for the voxels of a layer, or for each fourth of them along both axes.
-    fn offer_layer(&mut self, site: &Site, y: i16, each: i16) -> Result<(), Memory> {
+    fn offer_layer(&mut self, site: &BuildSite, y: i16, each: i16) -> Result<(), Memory> {
         self.heap.clear();
         for x in 1..site.side() {
             for z in 1..site.side() {
                 if is_turn(x, z, each) && self.begins(site, x, z, y) {
-                    self.offer(site, Spot { x, y, z }, u64::MAX)?;
+                    self.offer(site, Position { x, y, z }, u64::MAX)?;
                 }
             }
         }
@@ -317,7 +323,7 @@ impl Cutter {
     }
 
     /// Cuts the boxes of a layer that are offered, the most valuable first, as long as they have so much value.
-    fn cut_layer(&mut self, site: &Site, least: u64) -> Result<(), Memory> {
+    fn cut_layer(&mut self, site: &BuildSite, least: u64) -> Result<(), Memory> {
         for _ in 0..MOST_TURNS {
             let Some(entry) = self.heap.pop() else {
                 break;
@@ -361,7 +367,11 @@ fn outward(at: i16, low: i16, high: i16) -> [i16; 3] {
 }
 
 /// The boxes of a model, in an order in which each comes after all those below it.
-pub(crate) fn cut_model(alloc: Global, site: &Site, prices: Prices) -> Result<Vec<Piece>, Memory> {
+pub(crate) fn cut_model(
+    alloc: Global,
+    site: &BuildSite,
+    prices: Prices,
+) -> Result<Vec<CutBox>, Memory> {
     let mut cutter = Cutter::new(alloc, site, prices)?;
     for y in 0..site.side() {
         cutter.offer_layer(site, y, 4)?;

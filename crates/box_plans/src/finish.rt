@@ -1,14 +1,14 @@
 //! The end of a plan: bots without work fly home, and fuse when they meet.
+use crate::airspace::{Airspace, CrewBot};
+use crate::positions::{HOME, NEAR, by, length};
 use crate::record::MOST_BOTS;
-use crate::spots::{HOME, NEAR, by, length};
-use crate::tasks::{Task, opposite};
-use crate::yard::{Bot, Yard};
+use crate::tasks::{BotTask, opposite};
 use vox_geom::{Diff, Memory};
 
 /// More steps than the way home takes.
 const MOST_STEPS: u32 = 2000;
 
-impl Yard {
+impl Airspace {
     /// The bot beside a bot that has no work either.
     fn partner(&self, number: u8, d: Diff) -> Option<u8> {
         let other = self.bot_at(self.bot(number).at.plus(d))?;
@@ -22,10 +22,10 @@ impl Yard {
 
     /// A bot takes another one up.
     fn fuse(&mut self, keeper: u8, joiner: u8, d: Diff) {
-        self.order(keeper, Task::Lead(d, joiner));
+        self.order(keeper, BotTask::Lead(d, joiner));
         let bot = self.bot(joiner);
-        let gone = Bot {
-            task: Task::Join(opposite(d)),
+        let gone = CrewBot {
+            task: BotTask::Join(opposite(d)),
             active: false,
             ..bot
         };
@@ -74,7 +74,7 @@ impl Yard {
         Some(number)
     }
 
-    /// So many bots without work fly home, those that are nearest first.
+    /// Sends `count` bots without work home, the nearest first.
     pub(crate) fn retire_nearest(&mut self, count: usize) {
         let mut had = [false; MOST_BOTS as usize];
         for _ in 0..count.min(usize::from(MOST_BOTS)) {

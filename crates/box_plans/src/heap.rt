@@ -1,6 +1,6 @@
 //! A priority queue of boxes: the most valuable comes first.
 use crate::blocks::Block;
-use crate::spots::Spot;
+use crate::positions::Position;
 use std::alloc::Global;
 use vox_geom::Memory;
 
@@ -11,7 +11,7 @@ const MOST_LEVELS: u32 = 64;
 #[derive(Clone, Copy, Debug)]
 pub(crate) struct Entry {
     pub(crate) value: u64,
-    pub(crate) seed: Spot,
+    pub(crate) seed: Position,
     pub(crate) block: Block,
 }
 

@@ -1,6 +1,6 @@
-//! Teams at work: which bots fill which box, and where each of them stands.
+//! Teams at work: which bots fill which box, and from which posts.
 use crate::blocks::{Block, MOST_TEAM};
-use crate::spots::{HOME, Spot};
+use crate::positions::{HOME, Position};
 
 /// The most boxes that a team takes at once.
 pub(crate) const MOST_BOXES: usize = 5;
@@ -9,17 +9,17 @@ pub(crate) const MOST_BOXES: usize = 5;
 #[derive(Clone, Copy, Debug)]
 pub(crate) struct Target {
     pub(crate) number: u32,
-    pub(crate) corners: [Spot; MOST_TEAM],
+    pub(crate) corners: [Position; MOST_TEAM],
 }
 
-/// A team, where its bots stand, and the boxes that it fills from there, one after the other.
+/// A team, the posts of its bots, and the boxes that it fills from there, one after the other.
 #[derive(Clone, Copy, Debug)]
-pub(crate) struct Job {
+pub(crate) struct TeamJob {
     pub(crate) active: bool,
     pub(crate) born: u32,
     pub(crate) members: usize,
     pub(crate) bots: [u8; MOST_TEAM],
-    pub(crate) stands: [Spot; MOST_TEAM],
+    pub(crate) posts: [Position; MOST_TEAM],
     targets: [Target; MOST_BOXES],
     count: usize,
     next: usize,
@@ -32,19 +32,19 @@ const NO_TARGET: Target = Target {
 };
 
 /// No job.
-pub(crate) const NO_JOB: Job = Job {
+pub(crate) const NO_JOB: TeamJob = TeamJob {
     active: false,
     born: 0,
     members: 0,
     bots: [0; MOST_TEAM],
-    stands: [HOME; MOST_TEAM],
+    posts: [HOME; MOST_TEAM],
     targets: [NO_TARGET; MOST_BOXES],
     count: 0,
     next: 0,
 };
 
 /// A position of a list, if there is one with that number.
-pub(crate) fn spot_of(spots: &[Spot], i: usize) -> Spot {
+pub(crate) fn position_of(spots: &[Position], i: usize) -> Position {
     match spots.get(i) {
         Some(spot) => *spot,
         None => HOME,
@@ -52,16 +52,16 @@ pub(crate) fn spot_of(spots: &[Spot], i: usize) -> Spot {
 }
 
 /// Changes a position of a list.
-pub(crate) fn put_spot(spots: &mut [Spot; MOST_TEAM], i: usize, c: Spot) {
+pub(crate) fn put_position(spots: &mut [Position; MOST_TEAM], i: usize, c: Position) {
     if let Some(spot) = spots.get_mut(i) {
         *spot = c;
     }
 }
 
-impl Job {
+impl TeamJob {
     /// A job for a box, with no bots yet.
-    pub(crate) fn new(born: u32) -> Job {
-        Job {
+    pub(crate) fn new(born: u32) -> TeamJob {
+        TeamJob {
             active: true,
             born,
             ..NO_JOB
@@ -76,9 +76,9 @@ impl Job {
         }
     }
 
-    /// Where a bot of the team stands.
-    pub(crate) fn stand(&self, i: usize) -> Spot {
-        spot_of(&self.stands, i)
+    /// The post of a bot of the team.
+    pub(crate) fn post(&self, i: usize) -> Position {
+        position_of(&self.posts, i)
     }
 
     /// Returns whether a bot is in the team.
@@ -91,20 +91,20 @@ impl Job {
         false
     }
 
-    /// Returns whether a bot of the team is to stand at a position.
-    pub(crate) fn has_stand(&self, c: Spot) -> bool {
+    /// Returns whether a position is a post of the team.
+    pub(crate) fn has_post(&self, c: Position) -> bool {
         for i in 0..self.members {
-            if self.stand(i) == c {
+            if self.post(i) == c {
                 return true;
             }
         }
         false
     }
 
-    /// Returns whether some bot of the team is to stand in a box or below it.
-    pub(crate) fn stands_under(&self, block: Block) -> bool {
+    /// Returns whether some post of the team is in a box or below it.
+    pub(crate) fn has_post_under(&self, block: Block) -> bool {
         for i in 0..self.members {
-            if block.is_over(self.stand(i)) {
+            if block.is_over(self.post(i)) {
                 return true;
             }
         }
@@ -112,11 +112,11 @@ impl Job {
     }
 
     /// Adds a bot with its position.
-    pub(crate) fn join(&mut self, bot: u8, stand: Spot) {
+    pub(crate) fn join(&mut self, bot: u8, post: Position) {
         if let Some(place) = self.bots.get_mut(self.members) {
             *place = bot;
         }
-        put_spot(&mut self.stands, self.members, stand);
+        put_position(&mut self.posts, self.members, post);
         self.members = self.members.saturating_add(1).min(MOST_TEAM);
     }
 

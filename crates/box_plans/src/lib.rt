@@ -1,8 +1,9 @@
 //! Proposals for plans of up to forty bots: the model is cut into boxes, and teams of one, two, four or eight bots fill one after the
-//! other, from above. What is proposed here promises nothing; it is judged where it is used.
+//! other, from above. What is proposed here promises nothing; `plan_choice` judges it.
 #![tactic(auto)]
 
 mod agenda;
+mod airspace;
 mod anchors;
 mod blocks;
 mod chains;
@@ -17,16 +18,15 @@ mod patch;
 mod paths;
 mod plans;
 mod poles;
+mod positions;
 mod record;
 mod schedule;
 mod search;
 mod site;
-mod spots;
 mod tasks;
 mod teams;
 mod tiles;
 mod weights;
-mod yard;
 
-pub use manner::{Cutting, Manner, Prices};
+pub use manner::{BoxManner, CutStyle, Prices};
 pub use plans::boxes;

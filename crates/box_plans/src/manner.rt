@@ -7,7 +7,7 @@ pub struct Prices {
     pub of: [u32; 4],
     /// Whether boxes may be thicker than a layer.
     pub thick: bool,
-    /// Whether thick boxes are cut only where bots are sure to have columns beside them.
+    /// Whether thick boxes are cut only if their teams are sure to have columns beside them.
     pub guarded: bool,
     /// What each layer of a column costs that has to wait for such a box.
     pub shaft: u32,
@@ -17,7 +17,7 @@ pub struct Prices {
 
 /// How a model is cut.
 #[derive(Clone, Copy, PartialEq, Eq, Debug)]
-pub enum Cutting {
+pub enum CutStyle {
     /// Into boxes of full voxels, the cheapest for their weight first.
     Exact(Prices),
     /// Into tiles of any content, at most so wide, with their borders moved by so much: only for taking a model down.
@@ -28,13 +28,13 @@ pub enum Cutting {
 
 /// How a model is cut, and how bots choose their boxes.
 #[derive(Clone, Copy, Debug)]
-pub struct Manner {
-    pub cutting: Cutting,
+pub struct BoxManner {
+    pub cutting: CutStyle,
     /// Only boxes are taken that begin so little above the lowest one.
     pub window: i16,
     /// How much more a box is worth for each doubling of its team, in tenths.
     pub big: i64,
-    /// How many more boxes a team takes that it can fill from where it stands.
+    /// How many more boxes a team takes that it can fill from its posts.
     pub extra: usize,
     /// Whether bots choose positions from which more boxes are in reach.
     pub look: bool,

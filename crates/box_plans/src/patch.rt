@@ -1,8 +1,8 @@
 //! The best box for a voxel: rectangles and lines of columns around it that all begin in its layer, as thick as all of them allow.
 use crate::blocks::{Block, MOST_SIDE};
 use crate::cut::Cutter;
-use crate::site::Site;
-use crate::spots::Spot;
+use crate::positions::Position;
+use crate::site::BuildSite;
 
 /// How many columns a patch has along an axis at most.
 const EDGE: usize = 31;
@@ -13,7 +13,7 @@ const FAR: i16 = 124;
 /// The thicknesses that are tried besides the greatest one.
 const LEVELS: [u8; 9] = [31, 23, 16, 11, 8, 5, 3, 2, 1];
 
-/// The columns around a voxel: how many voxels follow one another upward in each from its layer on, where the voxel is, and which
+/// The columns around a voxel: how many voxels follow one another upward in each from its layer on, the place of the voxel, and which
 /// thicknesses there are.
 #[derive(Clone, Copy)]
 struct Patch {
@@ -30,7 +30,7 @@ struct Patch {
 
 /// A rectangle of columns of a patch.
 #[derive(Clone, Copy, PartialEq, Eq)]
-struct Area {
+struct Rectangle {
     x: (usize, usize),
     z: (usize, usize),
 }
@@ -54,7 +54,7 @@ fn part_of(low: i16, high: i16, at: i16) -> (i16, i16) {
 }
 
 /// How far columns that begin in a layer follow one another from one in a direction.
-fn reach(cutter: &Cutter, site: &Site, from: Spot, dx: i16, dz: i16) -> i16 {
+fn reach(cutter: &Cutter, site: &BuildSite, from: Position, dx: i16, dz: i16) -> i16 {
     let mut count = 0i16;
     let (mut x, mut z) = (from.x, from.z);
     for _ in 0..FAR {
@@ -70,7 +70,7 @@ fn reach(cutter: &Cutter, site: &Site, from: Spot, dx: i16, dz: i16) -> i16 {
 
 impl Patch {
     /// The columns around a voxel.
-    fn around(cutter: &Cutter, site: &Site, seed: Spot) -> Patch {
+    fn around(cutter: &Cutter, site: &BuildSite, seed: Position) -> Patch {
         let left = seed.x.saturating_sub(reach(cutter, site, seed, -1, 0));
         let right = seed.x.saturating_add(reach(cutter, site, seed, 1, 0));
         let front = seed.z.saturating_sub(reach(cutter, site, seed, 0, -1));
@@ -105,8 +105,8 @@ impl Patch {
     }
 
     /// A column of the patch.
-    fn column(&self, i: usize, k: usize) -> Spot {
-        Spot {
+    fn column(&self, i: usize, k: usize) -> Position {
+        Position {
             x: self.x.saturating_add(i.min(EDGE) as i16),
             y: self.y,
             z: self.z.saturating_add(k.min(EDGE) as i16),
@@ -114,7 +114,7 @@ impl Patch {
     }
 
     /// Keeps how many voxels follow one another in a column.
-    fn read_column(&mut self, cutter: &Cutter, site: &Site, i: usize, k: usize) {
+    fn read_column(&mut self, cutter: &Cutter, site: &BuildSite, i: usize, k: usize) {
         let c = self.column(i, k);
         if !cutter.begins(site, c.x, c.z, c.y) {
             return;
@@ -145,7 +145,7 @@ impl Patch {
     }
 
     /// The thickness that all columns of a rectangle have.
-    fn thickness(&self, area: Area) -> u8 {
+    fn thickness(&self, area: Rectangle) -> u8 {
         let mut least = MOST_SIDE as u8;
         for i in area.x.0..area.x.1.saturating_add(1) {
             for k in area.z.0..area.z.1.saturating_add(1) {
@@ -186,9 +186,9 @@ impl Patch {
     }
 
     /// The rectangle with the row of the voxel between two columns, as deep as given.
-    fn area(&self, from: usize, to: usize, span: (usize, usize)) -> Area {
+    fn area(&self, from: usize, to: usize, span: (usize, usize)) -> Rectangle {
         let (before, behind) = span;
-        Area {
+        Rectangle {
             x: (from, to),
             z: (
                 self.own_z.saturating_sub(before),
@@ -197,13 +197,13 @@ impl Patch {
         }
     }
 
-    /// The largest rectangle of columns of a thickness from one column on to the right, and where the row of the voxel ends.
+    /// The largest rectangle of columns of a thickness from one column on to the right, with its size.
     fn rectangle_from(
         &self,
         spans: &[(usize, usize); 31],
         from: usize,
         least: (usize, usize),
-    ) -> (usize, Area) {
+    ) -> (usize, Rectangle) {
         let mut best = (0usize, self.area(from, from, (0, 1)));
         let mut span = least;
         for to in self.own_x..self.wide {
@@ -221,7 +221,7 @@ impl Patch {
     }
 
     /// The largest rectangle of columns of a thickness that has the voxel.
-    fn rectangle(&self, spans: &[(usize, usize); 31]) -> Area {
+    fn rectangle(&self, spans: &[(usize, usize); 31]) -> Rectangle {
         let mut best = (0usize, self.area(self.own_x, self.own_x, (0, 1)));
         let mut span = (EDGE, EDGE);
         for k in 0..self.own_x.saturating_add(1) {
@@ -240,7 +240,7 @@ impl Patch {
     }
 
     /// The line of columns of a thickness along x that has the voxel.
-    fn line(&self, spans: &[(usize, usize); 31]) -> Area {
+    fn line(&self, spans: &[(usize, usize); 31]) -> Rectangle {
         let (mut from, mut to) = (self.own_x, self.own_x);
         for k in 1..self.own_x.saturating_add(1) {
             let at = self.own_x.wrapping_sub(k);
@@ -259,7 +259,7 @@ impl Patch {
     }
 
     /// The box over a rectangle of columns.
-    fn block(&self, area: Area, thick: u8) -> Block {
+    fn block(&self, area: Rectangle, thick: u8) -> Block {
         let low = self.column(area.x.0, area.z.0);
         let high = self.column(area.x.1, area.z.1);
         let top = self.y.saturating_add(i16::from(thick)).saturating_sub(1);
@@ -281,10 +281,10 @@ fn span_of(spans: &[(usize, usize); 31], i: usize) -> (usize, usize) {
 /// The better of a box and the one over a rectangle, as thick as can be, or of one layer.
 fn better(
     cutter: &Cutter,
-    site: &Site,
+    site: &BuildSite,
     patch: &Patch,
     best: (u64, Block),
-    area: Area,
+    area: Rectangle,
 ) -> (u64, Block) {
     let thick = patch.thickness(area).max(1);
     let mut best = best;
@@ -305,7 +305,7 @@ fn better(
 /// The better of a box and those of at least a thickness.
 fn best_of_level(
     cutter: &Cutter,
-    site: &Site,
+    site: &BuildSite,
     patch: &Patch,
     best: (u64, Block),
     level: u8,
@@ -319,7 +319,7 @@ fn best_of_level(
     }
     let own = (patch.own_x, patch.own_x);
     let deep = patch.area(patch.own_x, patch.own_x, span_of(&spans, patch.own_x));
-    let alone = Area {
+    let alone = Rectangle {
         x: own,
         z: (patch.own_z, patch.own_z),
     };
@@ -331,7 +331,7 @@ fn best_of_level(
 }
 
 /// The most valuable box that has a voxel and begins in its layer, with its value.
-pub(crate) fn best_box(cutter: &Cutter, site: &Site, seed: Spot) -> (u64, Block) {
+pub(crate) fn best_box(cutter: &Cutter, site: &BuildSite, seed: Position) -> (u64, Block) {
     let patch = Patch::around(cutter, site, seed);
     let most = patch.run(patch.own_x, patch.own_z).max(1);
     let mut best = (

@@ -1,6 +1,6 @@
 //! Paths through the sky: up, across along x and z in either order, and down.
-use crate::spots::{LONG, NOWHERE, SHORT, Spot, apart, by, length};
-use crate::yard::{Bot, Yard};
+use crate::airspace::{Airspace, CrewBot};
+use crate::positions::{LONG, NOWHERE, Position, SHORT, apart, by, length};
 use vox_geom::Diff;
 
 /// The most paths between two positions that are compared.
@@ -8,13 +8,13 @@ const MOST_PATHS: usize = 4;
 
 /// A part of a path along one axis.
 #[derive(Clone, Copy, Debug)]
-struct Leg {
+struct PathLeg {
     axis: u8,
     way: i16,
 }
 
 /// No way.
-const STAY: Leg = Leg { axis: 0, way: 0 };
+const STAY: PathLeg = PathLeg { axis: 0, way: 0 };
 
 /// The first move of a path, in one or two legs, and how many moves it takes.
 #[derive(Clone, Copy, Debug)]
@@ -52,8 +52,8 @@ fn along(axis: u8, way: i16) -> Diff {
     }
 }
 
-/// The legs that lead somewhere, where two along one axis that follow one another are one. Returns also how many there are.
-fn joined(legs: [Leg; 4]) -> ([Leg; 4], usize) {
+/// The legs that are not empty, with neighbors along one axis joined, and how many there are.
+fn joined(legs: [PathLeg; 4]) -> ([PathLeg; 4], usize) {
     let mut joined = [STAY; 4];
     let mut count = 0usize;
     for leg in legs {
@@ -76,7 +76,7 @@ fn joined(legs: [Leg; 4]) -> ([Leg; 4], usize) {
 }
 
 /// A leg by its number.
-fn nth_leg(legs: &[Leg; 4], i: usize) -> Leg {
+fn nth_leg(legs: &[PathLeg; 4], i: usize) -> PathLeg {
     match legs.get(i) {
         Some(leg) => *leg,
         None => STAY,
@@ -90,7 +90,7 @@ fn parts_of(way: i16) -> (i16, i16) {
 }
 
 /// How many moves legs take: each at most 15 along one axis, or at most 5 along two axes that follow one another.
-fn count_moves(legs: &[Leg; 4], count: usize) -> i32 {
+fn count_moves(legs: &[PathLeg; 4], count: usize) -> i32 {
     let mut moves = 0i32;
     let mut covered = 0i16;
     for i in 0..count.min(4) {
@@ -110,7 +110,7 @@ fn count_moves(legs: &[Leg; 4], count: usize) -> i32 {
 }
 
 /// The path along some legs. None if they lead nowhere.
-fn path_along(legs: [Leg; 4]) -> Option<Path> {
+fn path_along(legs: [PathLeg; 4]) -> Option<Path> {
     let (legs, count) = joined(legs);
     let moves = count_moves(&legs, count);
     let (one, two) = (nth_leg(&legs, 0), nth_leg(&legs, 1));
@@ -165,7 +165,7 @@ impl Paths {
     }
 }
 
-impl Yard {
+impl Airspace {
     /// The highest beginning of the sky in a row of columns along x.
     fn highest_along_x(&self, from: i16, to: i16, z: i16) -> i16 {
         let mut highest = 0;
@@ -185,17 +185,20 @@ impl Yard {
     }
 
     /// Adds the path at a height, along x first or along z first.
-    fn add_path(&self, paths: &mut Paths, from: Spot, to: Spot, y: i16, z_first: bool) {
+    fn add_path(&self, paths: &mut Paths, from: Position, to: Position, y: i16, z_first: bool) {
         if y >= self.site.side() {
             return;
         }
         let d = from.to(to);
-        let (x, z) = (Leg { axis: 0, way: d.dx }, Leg { axis: 2, way: d.dz });
-        let up = Leg {
+        let (x, z) = (
+            PathLeg { axis: 0, way: d.dx },
+            PathLeg { axis: 2, way: d.dz },
+        );
+        let up = PathLeg {
             axis: 1,
             way: y.wrapping_sub(from.y),
         };
-        let down = Leg {
+        let down = PathLeg {
             axis: 1,
             way: to.y.wrapping_sub(y),
         };
@@ -210,7 +213,7 @@ impl Yard {
     }
 
     /// Adds the paths along x first or along z first: at the heights of both ends, if they are in the sky all along, else right above all.
-    fn add_paths(&self, paths: &mut Paths, from: Spot, to: Spot, z_first: bool) {
+    fn add_paths(&self, paths: &mut Paths, from: Position, to: Position, z_first: bool) {
         let highest = if z_first {
             self.highest_along_z(from.x, from.z, to.z)
                 .max(self.highest_along_x(from.x, to.x, to.z))
@@ -227,7 +230,7 @@ impl Yard {
     }
 
     /// The paths between two positions.
-    fn paths(&self, from: Spot, to: Spot) -> Paths {
+    fn paths(&self, from: Position, to: Position) -> Paths {
         let mut paths = Paths {
             paths: [NO_PATH; MOST_PATHS],
             count: 0,
@@ -282,7 +285,7 @@ impl Yard {
     }
 
     /// A bot flies toward a position. One that is blocked again and again dodges.
-    pub(crate) fn fly(&mut self, number: u8, to: Spot) {
+    pub(crate) fn fly(&mut self, number: u8, to: Position) {
         let bot = self.bot(number);
         if bot.at == to {
             return;
@@ -299,7 +302,7 @@ impl Yard {
             }
         }
         let blocked = bot.blocked.saturating_add(1);
-        self.put(number, Bot { blocked, ..bot });
+        self.put(number, CrewBot { blocked, ..bot });
         if blocked > 2 {
             self.dodge(number);
         }

@@ -1,17 +1,17 @@
 //! Poles under all parts of a layer that hang, so that everything can be built from below under Low.
-use crate::site::Site;
-use crate::spots::{HOME, NEIGHBORS, SIDES, Spot, by};
+use crate::positions::{HOME, NEIGHBORS, Position, SIDES, by};
+use crate::site::BuildSite;
 use std::alloc::Global;
 use vox_geom::Memory;
 
 /// Voxels in a column that are filled for the time being.
 #[derive(Clone, Copy, Debug)]
-pub(crate) struct Pole {
-    pub(crate) foot: Spot,
+pub(crate) struct TemporaryPole {
+    pub(crate) foot: Position,
     pub(crate) high: i16,
 }
 
-impl Pole {
+impl TemporaryPole {
     /// How many voxels it has.
     fn length(self) -> i16 {
         self.high.saturating_sub(self.foot.y).saturating_add(1)
@@ -22,12 +22,12 @@ impl Pole {
 #[derive(Drop)]
 struct Search {
     seen: Vec<bool>,
-    queue: Vec<Spot>,
+    queue: Vec<Position>,
 }
 
 impl Search {
     /// Nothing was seen.
-    fn new(alloc: Global, site: &Site) -> Result<Search, Memory> {
+    fn new(alloc: Global, site: &BuildSite) -> Result<Search, Memory> {
         Ok(Search {
             seen: vec![in alloc; false; site.volume()]?,
             queue: Vec::new(alloc),
@@ -35,7 +35,7 @@ impl Search {
     }
 
     /// Returns whether a voxel was seen.
-    fn has(&self, site: &Site, c: Spot) -> bool {
+    fn has(&self, site: &BuildSite, c: Position) -> bool {
         let Some(index) = site.index(c) else {
             return false;
         };
@@ -46,7 +46,7 @@ impl Search {
     }
 
     /// Adds a voxel that was not seen before.
-    fn add(&mut self, site: &Site, c: Spot) -> Result<(), Memory> {
+    fn add(&mut self, site: &BuildSite, c: Position) -> Result<(), Memory> {
         let Some(index) = site.index(c) else {
             return Ok(());
         };
@@ -61,7 +61,7 @@ impl Search {
     }
 
     /// Adds the void neighbors of a voxel.
-    fn add_void_neighbors(&mut self, site: &Site, at: Spot) -> Result<(), Memory> {
+    fn add_void_neighbors(&mut self, site: &BuildSite, at: Position) -> Result<(), Memory> {
         for (dx, dy, dz) in NEIGHBORS {
             let c = at.plus(by(dx, dy, dz));
             if !site.is_goal(c) {
@@ -72,7 +72,7 @@ impl Search {
     }
 
     /// Sees all that is void and open to the outside.
-    fn flood(&mut self, site: &Site) -> Result<(), Memory> {
+    fn flood(&mut self, site: &BuildSite) -> Result<(), Memory> {
         self.add(site, HOME)?;
         for _ in 0..site.volume() {
             let Some(at) = self.queue.pop() else {
@@ -84,7 +84,7 @@ impl Search {
     }
 
     /// Sees the part of a layer that has a voxel, if it was not seen. The queue has it then.
-    fn gather(&mut self, site: &Site, c: Spot) -> Result<(), Memory> {
+    fn gather(&mut self, site: &BuildSite, c: Position) -> Result<(), Memory> {
         self.queue.clear();
         self.add(site, c)?;
         for i in 0..site.volume() {
@@ -103,7 +103,7 @@ impl Search {
     }
 
     /// Returns whether the part in the queue has a voxel above another one of the model.
-    fn is_supported(&self, site: &Site) -> bool {
+    fn is_supported(&self, site: &BuildSite) -> bool {
         for c in self.queue.as_slice() {
             if site.is_goal(c.plus(by(0, -1, 0))) {
                 return true;
@@ -113,8 +113,8 @@ impl Search {
     }
 
     /// The shortest pole under the part in the queue with a side that is open to the outside.
-    fn best_pole(&self, site: &Site, open: &Search) -> Option<Pole> {
-        let mut best: Option<Pole> = None;
+    fn best_pole(&self, site: &BuildSite, open: &Search) -> Option<TemporaryPole> {
+        let mut best: Option<TemporaryPole> = None;
         for c in self.queue.as_slice() {
             let pole = pole_under(site, *c);
             let is_shorter = match best {
@@ -130,7 +130,7 @@ impl Search {
 }
 
 /// The voxels below one, down to the floor or to the model.
-fn pole_under(site: &Site, c: Spot) -> Pole {
+fn pole_under(site: &BuildSite, c: Position) -> TemporaryPole {
     let mut foot = c;
     for _ in 0..site.side() {
         let below = foot.plus(by(0, -1, 0));
@@ -139,14 +139,14 @@ fn pole_under(site: &Site, c: Spot) -> Pole {
         }
         foot = below;
     }
-    Pole {
+    TemporaryPole {
         foot,
         high: c.y.saturating_sub(1),
     }
 }
 
 /// Returns whether all voxels beside a pole on some side are open to the outside.
-fn has_open_side(site: &Site, open: &Search, pole: Pole) -> bool {
+fn has_open_side(site: &BuildSite, open: &Search, pole: TemporaryPole) -> bool {
     for (dx, dy, dz) in SIDES {
         if is_side_open(site, open, pole, pole.foot.plus(by(dx, dy, dz))) {
             return true;
@@ -156,7 +156,7 @@ fn has_open_side(site: &Site, open: &Search, pole: Pole) -> bool {
 }
 
 /// Returns whether all voxels of a column beside a pole are open to the outside.
-fn is_side_open(site: &Site, open: &Search, pole: Pole, beside: Spot) -> bool {
+fn is_side_open(site: &BuildSite, open: &Search, pole: TemporaryPole, beside: Position) -> bool {
     for y in pole.foot.y..=pole.high {
         let c = beside.at_height(y);
         if !open.has(site, c) {
@@ -167,7 +167,7 @@ fn is_side_open(site: &Site, open: &Search, pole: Pole, beside: Spot) -> bool {
 }
 
 /// Adds the voxels of a pole to the model.
-fn plant(site: &mut Site, pole: Pole) {
+fn plant(site: &mut BuildSite, pole: TemporaryPole) {
     for y in pole.foot.y..=pole.high {
         site.want(pole.foot.at_height(y));
     }
@@ -178,12 +178,12 @@ fn plant(site: &mut Site, pole: Pole) {
 struct Planting {
     parts: Search,
     open: Search,
-    poles: Vec<Pole>,
+    poles: Vec<TemporaryPole>,
 }
 
 impl Planting {
     /// Plants a pole under the part that has a voxel, if it hangs and was not seen. Returns whether it is held then.
-    fn hold(&mut self, site: &mut Site, c: Spot) -> Result<bool, Memory> {
+    fn hold(&mut self, site: &mut BuildSite, c: Position) -> Result<bool, Memory> {
         if self.parts.has(site, c) {
             return Ok(true);
         }
@@ -200,10 +200,10 @@ impl Planting {
     }
 
     /// Plants poles under all parts of a layer that hang. Returns whether all are held then.
-    fn hold_layer(&mut self, site: &mut Site, y: i16) -> Result<bool, Memory> {
+    fn hold_layer(&mut self, site: &mut BuildSite, y: i16) -> Result<bool, Memory> {
         for x in 0..site.side() {
             for z in 0..site.side() {
-                let c = Spot { x, y, z };
+                let c = Position { x, y, z };
                 if site.is_goal(c) && !self.hold(site, c)? {
                     return Ok(false);
                 }
@@ -214,7 +214,10 @@ impl Planting {
 }
 
 /// Plants poles under all parts that hang. None if a part can get none.
-pub(crate) fn plant_poles(alloc: Global, site: &mut Site) -> Result<Option<Vec<Pole>>, Memory> {
+pub(crate) fn plant_poles(
+    alloc: Global,
+    site: &mut BuildSite,
+) -> Result<Option<Vec<TemporaryPole>>, Memory> {
     let mut planting = Planting {
         parts: Search::new(alloc, site)?,
         open: Search::new(alloc, site)?,

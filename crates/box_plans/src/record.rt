@@ -2,7 +2,7 @@
 //!
 //! Bots have numbers here. Bids and seeds are dealt out only when the plan is written: a new bot gets the next seed of its parent,
 //! and as many more as bots come from it.
-use crate::tasks::{Task, command_of, opposite, undoing};
+use crate::tasks::{BotTask, command_of, opposite, undoing};
 use nano_spec::{Command, CommandList};
 use std::alloc::Global;
 use vox_geom::Memory;
@@ -12,15 +12,15 @@ pub(crate) const MOST_BOTS: u8 = 40;
 
 /// A task other than to wait, and the bot that had it.
 #[derive(Clone, Copy, Debug)]
-struct Doing {
+struct TaskNote {
     bot: u8,
-    task: Task,
+    task: BotTask,
 }
 
 /// The tasks of all steps, and how many there were after each step.
 #[derive(Drop)]
 pub(crate) struct Record {
-    doings: Vec<Doing>,
+    doings: Vec<TaskNote>,
     ends: Vec<usize>,
 }
 
@@ -39,11 +39,11 @@ impl Record {
     }
 
     /// Keeps the task of a bot in this step.
-    pub(crate) fn note(&mut self, bot: u8, task: Task) -> Result<(), Memory> {
-        if let Task::Wait = task {
+    pub(crate) fn note(&mut self, bot: u8, task: BotTask) -> Result<(), Memory> {
+        if let BotTask::Wait = task {
             return Ok(());
         }
-        self.doings.push(Doing { bot, task }).map_err(|_| Memory)
+        self.doings.push(TaskNote { bot, task }).map_err(|_| Memory)
     }
 
     /// Ends a step. One in which all bots wait is left out.
@@ -73,7 +73,7 @@ impl Record {
 struct Member {
     bid: u8,
     active: bool,
-    task: Task,
+    task: BotTask,
     seed: u8,
     size: u8,
 }
@@ -92,7 +92,7 @@ impl Writer {
         let none = Member {
             bid: 0,
             active: false,
-            task: Task::Wait,
+            task: BotTask::Wait,
             seed: 1,
             size: 1,
         };
@@ -116,15 +116,15 @@ impl Writer {
     }
 
     /// Gives a bot its task in this step.
-    fn order(&mut self, number: u8, task: Task) {
+    fn order(&mut self, number: u8, task: BotTask) {
         if let Some(member) = self.members.get_mut(usize::from(number)) {
             member.task = task;
         }
     }
 
     /// Counts the bots that come from a bot, if a task makes one. Tasks are counted from the last one on.
-    fn count_children(&mut self, bot: u8, task: Task) {
-        let Task::Split(_, child) = task else {
+    fn count_children(&mut self, bot: u8, task: BotTask) {
+        let BotTask::Split(_, child) = task else {
             return;
         };
         let Some(born) = self.member(child) else {
@@ -155,8 +155,8 @@ impl Writer {
     }
 
     /// The seeds that the child of a task gets.
-    fn seeds_of(&self, task: Task) -> u8 {
-        let Task::Split(_, child) = task else {
+    fn seeds_of(&self, task: BotTask) -> u8 {
+        let BotTask::Split(_, child) = task else {
             return 0;
         };
         match self.member(child) {
@@ -186,11 +186,11 @@ impl Writer {
             return;
         };
         if let Some(member) = self.members.get_mut(usize::from(number)) {
-            member.task = Task::Wait;
+            member.task = BotTask::Wait;
         }
         match member.task {
-            Task::Join(_) => self.leave(number),
-            Task::Split(_, child) => self.bear(number, child),
+            BotTask::Join(_) => self.leave(number),
+            BotTask::Split(_, child) => self.bear(number, child),
             _ => {}
         }
     }
@@ -228,12 +228,12 @@ impl Writer {
             let Some(doing) = record.doings.get(i) else {
                 break;
             };
-            let Doing { bot, task } = *doing;
+            let TaskNote { bot, task } = *doing;
             let task = undoing(task);
-            if let Task::Lead(d, child) = task {
-                self.order(child, Task::Join(opposite(d)));
+            if let BotTask::Lead(d, child) = task {
+                self.order(child, BotTask::Join(opposite(d)));
             }
-            if let Task::Wait = task {
+            if let BotTask::Wait = task {
                 continue;
             }
             self.order(bot, task);
@@ -246,7 +246,7 @@ impl Writer {
         for k in 0..count {
             let i = count.wrapping_sub(k).wrapping_sub(1);
             if let Some(doing) = record.doings.get(i) {
-                let Doing { bot, task } = *doing;
+                let TaskNote { bot, task } = *doing;
                 self.count_children(bot, task);
             }
         }
@@ -256,7 +256,7 @@ impl Writer {
     fn count_backwards(&mut self, record: &Record) {
         for i in 0..record.doings.len() {
             if let Some(doing) = record.doings.get(i) {
-                let Doing { bot, task } = *doing;
+                let TaskNote { bot, task } = *doing;
                 self.count_children(bot, undoing(task));
             }
         }

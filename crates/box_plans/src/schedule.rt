@@ -3,36 +3,36 @@
 //! A box may be filled once all boxes below it are full and it is attached, while no bot is in it or below it in its columns. So what
 //! is full is grounded, nobody is shut in, and every path leads through the sky.
 use crate::agenda::Agenda;
+use crate::airspace::{Airspace, CrewBot};
 use crate::anchors::Anchors;
-use crate::blocks::{Block, Piece};
+use crate::blocks::{Block, CutBox};
 use crate::claims::Owners;
-use crate::jobs::{Job, NO_JOB, spot_of};
-use crate::manner::Manner;
+use crate::jobs::{NO_JOB, TeamJob, position_of};
+use crate::manner::BoxManner;
+use crate::positions::{Position, by, length, moves_between};
 use crate::record::MOST_BOTS;
-use crate::site::Site;
-use crate::spots::{Spot, by, length, moves_between};
-use crate::tasks::Task;
-use crate::teams::Lists;
-use crate::yard::{Bot, Yard};
+use crate::site::BuildSite;
+use crate::tasks::BotTask;
+use crate::teams::SearchLists;
 use std::alloc::Global;
 use vox_geom::Memory;
 
-/// A team gives a job up after so many steps.
+/// The most steps after which a team gives a job up.
 const MOST_AGE: u32 = 40;
 
-/// All jobs are given up if nothing was filled for so many steps.
+/// The most steps without a filled box after which all jobs are given up.
 const MOST_PAUSE: u32 = 80;
 
-/// A plan is given up if nothing was filled for so many steps.
+/// The most steps without a filled box after which a plan is given up.
 const MOST_STILL: u32 = 250;
 
-/// If no team works for so many steps, boxes that are ready are halved: they wait for one another.
+/// The most steps without a job: then ready boxes wait for one another, and are halved.
 const MOST_STUCK: u32 = 12;
 
 /// More steps than any plan takes that is worth it.
 const MOST_STEPS: u64 = 200_000;
 
-/// Where bots make others, the most useful differences first.
+/// The differences to new bots, the most useful ones first.
 const SPREAD: [(i16, i16, i16); 14] = [
     (1, 1, 0),
     (0, 1, 1),
@@ -53,13 +53,13 @@ const SPREAD: [(i16, i16, i16); 14] = [
 /// Boxes and the bots that fill them.
 #[derive(Drop)]
 pub(crate) struct Schedule {
-    pub(crate) yard: Yard,
+    pub(crate) air: Airspace,
     pub(crate) agenda: Agenda,
     pub(crate) anchors: Anchors,
     pub(crate) owners: Owners,
-    pub(crate) manner: Manner,
+    pub(crate) manner: BoxManner,
     pub(crate) lowest: i16,
-    jobs: Vec<Job>,
+    jobs: Vec<TeamJob>,
     claims: Vec<i16>,
     any: bool,
     last_fill: u32,
@@ -72,7 +72,7 @@ pub(crate) struct Schedule {
 
 /// When a bot has its turn: those that have furthest to go come first.
 #[derive(Clone, Copy, Debug)]
-struct Turn {
+struct FlightTurn {
     key: i32,
     bot: u8,
 }
@@ -81,10 +81,10 @@ impl Schedule {
     /// Before the first step, with no bot: boxes that are full once they are filled, or of any content.
     pub(crate) fn new(
         alloc: Global,
-        site: Site,
-        pieces: &[Piece],
+        site: BuildSite,
+        pieces: &[CutBox],
         any: bool,
-        manner: Manner,
+        manner: BoxManner,
         kept: usize,
     ) -> Result<Schedule, Memory> {
         let agenda = Agenda::of(alloc, &site, pieces)?;
@@ -97,7 +97,7 @@ impl Schedule {
             lowest: 0,
             jobs: vec![in alloc; NO_JOB; usize::from(MOST_BOTS)]?,
             claims: vec![in alloc; 0i16; site.area()]?,
-            yard: Yard::new(alloc, site)?,
+            air: Airspace::new(alloc, site)?,
             any,
             last_fill: 0,
             progress: 0,
@@ -109,7 +109,7 @@ impl Schedule {
     }
 
     /// The job with a number.
-    pub(crate) fn job(&self, number: u8) -> Job {
+    pub(crate) fn job(&self, number: u8) -> TeamJob {
         match self.jobs.get(usize::from(number)) {
             Some(job) => *job,
             None => NO_JOB,
@@ -117,7 +117,7 @@ impl Schedule {
     }
 
     /// Changes a job.
-    pub(crate) fn put_job(&mut self, number: u8, job: Job) {
+    pub(crate) fn put_job(&mut self, number: u8, job: TeamJob) {
         if let Some(place) = self.jobs.get_mut(usize::from(number)) {
             *place = job;
         }
@@ -130,7 +130,7 @@ impl Schedule {
 
     /// The first position above what a team is going to fill in a column, or 0.
     pub(crate) fn claimed(&self, x: i16, z: i16) -> i16 {
-        let Some(column) = self.yard.site.column(x, z) else {
+        let Some(column) = self.air.site.column(x, z) else {
             return 0;
         };
         match self.claims.get(column) {
@@ -143,7 +143,7 @@ impl Schedule {
     pub(crate) fn claim(&mut self, block: Block, height: i16) {
         for x in block.low.x..=block.high.x {
             for z in block.low.z..=block.high.z {
-                if let Some(column) = self.yard.site.column(x, z) {
+                if let Some(column) = self.air.site.column(x, z) {
                     if let Some(claim) = self.claims.get_mut(column) {
                         *claim = height;
                     }
@@ -153,7 +153,7 @@ impl Schedule {
     }
 
     /// A job begins: its bots and its boxes are taken.
-    pub(crate) fn start(&mut self, number: u8, job: Job) {
+    pub(crate) fn start(&mut self, number: u8, job: TeamJob) {
         for i in 0..job.count() {
             if let Some(target) = job.target(i) {
                 let block = self.agenda.get(target.number).block;
@@ -162,15 +162,15 @@ impl Schedule {
             }
         }
         for i in 0..job.members {
-            let bot = self.yard.bot(job.bot(i));
-            let stand = job.stand(i);
-            let busy = Bot {
+            let bot = self.air.bot(job.bot(i));
+            let post = job.post(i);
+            let busy = CrewBot {
                 job: Some(number),
-                stand,
+                post,
                 patience: 0,
                 ..bot
             };
-            self.yard.put(job.bot(i), busy);
+            self.air.put(job.bot(i), busy);
         }
         self.put_job(number, job);
     }
@@ -186,8 +186,8 @@ impl Schedule {
             }
         }
         for i in 0..job.members {
-            let bot = self.yard.bot(job.bot(i));
-            self.yard.put(job.bot(i), Bot { job: None, ..bot });
+            let bot = self.air.bot(job.bot(i));
+            self.air.put(job.bot(i), CrewBot { job: None, ..bot });
         }
         self.put_job(number, NO_JOB);
     }
@@ -196,7 +196,7 @@ impl Schedule {
     fn end_old(&mut self, age: u32) {
         for number in 0..MOST_BOTS {
             let job = self.job(number);
-            if job.active && self.yard.step.saturating_sub(job.born) >= age {
+            if job.active && self.air.step.saturating_sub(job.born) >= age {
                 self.end(number);
             }
         }
@@ -205,36 +205,36 @@ impl Schedule {
     /// Ends jobs that take too long. If nothing was filled for long, ends all of them, and some bots dodge.
     fn give_up_jobs(&mut self) {
         self.end_old(MOST_AGE);
-        if self.yard.step.saturating_sub(self.last_fill) <= MOST_PAUSE {
+        if self.air.step.saturating_sub(self.last_fill) <= MOST_PAUSE {
             return;
         }
         self.end_old(0);
-        self.last_fill = self.yard.step;
+        self.last_fill = self.air.step;
         for number in 0..MOST_BOTS {
-            if self.yard.bot(number).is_idle() && self.yard.draw(2) == 0 {
-                self.yard.dodge(number);
+            if self.air.bot(number).is_idle() && self.air.draw(2) == 0 {
+                self.air.dodge(number);
             }
         }
     }
 
     /// A bot with seeds makes another one beside it, which gets half of them.
     fn multiply(&mut self, number: u8) {
-        let bot = self.yard.bot(number);
+        let bot = self.air.bot(number);
         for (dx, dy, dz) in SPREAD {
             let d = by(dx, dy, dz);
             let at = bot.at.plus(d);
-            if !self.yard.site.is_sky(at) || self.yard.is_reserved(at) {
+            if !self.air.site.is_sky(at) || self.air.is_reserved(at) {
                 continue;
             }
             let given = (bot.seeds / 2).min(bot.seeds.saturating_sub(1));
-            self.yard.reserve(at);
-            self.yard.arrive(bot.seed, at, given);
+            self.air.reserve(at);
+            self.air.arrive(bot.seed, at, given);
             let seeds = bot.seeds.saturating_sub(1).saturating_sub(given);
             let seed = bot.seed.saturating_add(1).saturating_add(given);
-            let task = Task::Split(d, bot.seed);
-            self.yard.put(
+            let task = BotTask::Split(d, bot.seed);
+            self.air.put(
                 number,
-                Bot {
+                CrewBot {
                     task,
                     seed,
                     seeds,
@@ -249,7 +249,7 @@ impl Schedule {
     fn spread(&mut self) {
         self.spreads = false;
         for number in 0..MOST_BOTS {
-            let bot = self.yard.bot(number);
+            let bot = self.air.bot(number);
             if bot.active && bot.seeds > 0 {
                 self.spreads = true;
                 if bot.is_idle() {
@@ -262,7 +262,7 @@ impl Schedule {
     /// Returns whether some bot has seeds.
     pub(crate) fn is_spreading(&self) -> bool {
         for number in 0..MOST_BOTS {
-            let bot = self.yard.bot(number);
+            let bot = self.air.bot(number);
             if bot.active && bot.seeds > 0 {
                 return true;
             }
@@ -283,19 +283,19 @@ impl Schedule {
         self.stuck = 0;
         for number in 0..self.agenda.count() {
             if self.agenda.can_halve(number) {
-                self.agenda.halve(number, &self.yard.site)?;
+                self.agenda.halve(number, &self.air.site)?;
             }
         }
         Ok(())
     }
 
     /// All free bots look for boxes.
-    fn choose(&mut self, lists: &mut Lists) -> Result<(), Memory> {
-        if self.manner.window < self.yard.site.side() && self.yard.step % 4 == 0 {
+    fn choose(&mut self, lists: &mut SearchLists) -> Result<(), Memory> {
+        if self.manner.window < self.air.site.side() && self.air.step % 4 == 0 {
             self.lowest = self.agenda.lowest();
         }
         for number in 0..MOST_BOTS {
-            let bot = self.yard.bot(number);
+            let bot = self.air.bot(number);
             if bot.is_idle() && bot.job.is_none() && bot.seeds == 0 && self.agenda.ready() > 0 {
                 self.find_job(lists, number)?;
             }
@@ -303,11 +303,11 @@ impl Schedule {
         Ok(())
     }
 
-    /// Returns whether all bots of a team are where they are to stand, with no task yet.
-    fn is_team_there(&self, job: &Job) -> bool {
+    /// Returns whether all bots of a team are at their posts, with no task yet.
+    fn is_team_there(&self, job: &TeamJob) -> bool {
         for i in 0..job.members {
-            let bot = self.yard.bot(job.bot(i));
-            if !bot.is_idle() || bot.at != job.stand(i) {
+            let bot = self.air.bot(job.bot(i));
+            if !bot.is_idle() || bot.at != job.post(i) {
                 return false;
             }
         }
@@ -317,7 +317,7 @@ impl Schedule {
     /// Returns whether some bot is in a box or below it.
     fn is_someone_under(&self, block: Block) -> bool {
         for number in 0..MOST_BOTS {
-            let bot = self.yard.bot(number);
+            let bot = self.air.bot(number);
             if bot.active && block.is_over(bot.at) {
                 return true;
             }
@@ -328,7 +328,7 @@ impl Schedule {
     /// Returns whether some voxel in a column of a box is reserved in this step.
     fn is_column_reserved(&self, block: Block, x: i16, z: i16) -> bool {
         for y in block.low.y..=block.high.y {
-            if self.yard.is_reserved(Spot { x, y, z }) {
+            if self.air.is_reserved(Position { x, y, z }) {
                 return true;
             }
         }
@@ -350,9 +350,9 @@ impl Schedule {
     /// Fills and reserves a column of a box.
     fn fill_column(&mut self, block: Block, x: i16, z: i16) {
         for y in block.low.y..=block.high.y {
-            let c = Spot { x, y, z };
-            self.yard.reserve(c);
-            self.yard.site.fill(c);
+            let c = Position { x, y, z };
+            self.air.reserve(c);
+            self.air.site.fill(c);
         }
     }
 
@@ -366,16 +366,16 @@ impl Schedule {
     }
 
     /// Gives each bot of a team its command for a box.
-    fn order_fill(&mut self, job: &Job, block: Block, corners: &[Spot]) {
+    fn order_fill(&mut self, job: &TeamJob, block: Block, corners: &[Position]) {
         for i in 0..job.members {
-            let corner = spot_of(corners, i);
-            let near = job.stand(i).to(corner);
+            let corner = position_of(corners, i);
+            let near = job.post(i).to(corner);
             let task = if job.members > 1 {
-                Task::Group(near, corner.to(block.opposite(corner)))
+                BotTask::Group(near, corner.to(block.opposite(corner)))
             } else {
-                Task::Fill(near)
+                BotTask::Fill(near)
             };
-            self.yard.order(job.bot(i), task);
+            self.air.order(job.bot(i), task);
         }
     }
 
@@ -389,7 +389,7 @@ impl Schedule {
             return Ok(());
         }
         let block = self.agenda.get(target.number).block;
-        let floats = !self.any && !self.yard.site.is_attached(block);
+        let floats = !self.any && !self.air.site.is_attached(block);
         if floats || self.is_someone_under(block) || self.is_reserved(block) {
             return Ok(());
         }
@@ -397,8 +397,8 @@ impl Schedule {
         self.claim(block, 0);
         self.order_fill(&job, block, &target.corners);
         self.agenda.finish(target.number)?;
-        self.last_fill = self.yard.step;
-        self.progress = self.yard.step;
+        self.last_fill = self.air.step;
+        self.progress = self.air.step;
         let is_last = job.advance();
         self.put_job(number, job);
         if is_last {
@@ -415,14 +415,14 @@ impl Schedule {
         Ok(())
     }
 
-    /// Two bots of a team that stand in one column change their parts, so that the lower one gets the lower position.
+    /// Two bots of a team with posts in one column change their parts, so that the lower one gets the lower post.
     fn order_pair(&mut self, number: u8, i: usize, k: usize) {
         let mut job = self.job(number);
-        let (one, other) = (job.stand(i), job.stand(k));
+        let (one, other) = (job.post(i), job.post(k));
         if !one.is_above_or_below(other) {
             return;
         }
-        let (a, b) = (self.yard.bot(job.bot(i)), self.yard.bot(job.bot(k)));
+        let (a, b) = (self.air.bot(job.bot(i)), self.air.bot(job.bot(k)));
         let (a_in, b_in) = (a.at.is_above_or_below(one), b.at.is_above_or_below(one));
         let is_lower = one.y < other.y;
         let changes = if a_in && b_in {
@@ -431,8 +431,8 @@ impl Schedule {
             (a_in && !is_lower) || (b_in && is_lower)
         };
         if changes {
-            self.yard.put(job.bot(i), Bot { stand: other, ..a });
-            self.yard.put(job.bot(k), Bot { stand: one, ..b });
+            self.air.put(job.bot(i), CrewBot { post: other, ..a });
+            self.air.put(job.bot(k), CrewBot { post: one, ..b });
             job.exchange(i, k);
             self.put_job(number, job);
         }
@@ -470,29 +470,29 @@ impl Schedule {
             .bots_needed()
             .saturating_add(2)
             .saturating_add(self.kept);
-        needed <= self.yard.count_free()
+        needed <= self.air.count_free()
     }
 
     /// When a bot has its turn.
-    fn turn_of(&self, number: u8) -> Turn {
-        let bot = self.yard.bot(number);
+    fn turn_of(&self, number: u8) -> FlightTurn {
+        let bot = self.air.bot(number);
         let Some(job) = bot.job else {
-            return Turn {
+            return FlightTurn {
                 key: 0,
                 bot: number,
             };
         };
-        let far = moves_between(bot.at, bot.stand).wrapping_mul(4);
-        let age = self.yard.step.saturating_sub(self.job(job).born).min(40) / 10;
+        let far = moves_between(bot.at, bot.post).wrapping_mul(4);
+        let age = self.air.step.saturating_sub(self.job(job).born).min(40) / 10;
         let key = 0i32.wrapping_sub(far).wrapping_sub(age as i32);
-        Turn { key, bot: number }
+        FlightTurn { key, bot: number }
     }
 
     /// All bots without a task have their turns.
-    fn fly_all(&mut self, turns: &mut Vec<Turn>) -> Result<(), Memory> {
+    fn fly_all(&mut self, turns: &mut Vec<FlightTurn>) -> Result<(), Memory> {
         turns.clear();
         for number in 0..MOST_BOTS {
-            if self.yard.bot(number).is_idle() {
+            if self.air.bot(number).is_idle() {
                 turns.push(self.turn_of(number)).map_err(|_| Memory)?;
                 sift_last(turns);
             }
@@ -504,43 +504,43 @@ impl Schedule {
         Ok(())
     }
 
-    /// A bot flies to where it is to stand, or home, or out of the way.
+    /// A bot flies to its post, or home, or out of the way.
     fn have_turn(&mut self, number: u8) {
-        let bot = self.yard.bot(number);
+        let bot = self.air.bot(number);
         if !bot.is_idle() {
             return;
         }
         if bot.job.is_some() {
-            self.yard.fly(number, bot.stand);
+            self.air.fly(number, bot.post);
         } else if self.rests {
-            self.yard.retire(number);
+            self.air.retire(number);
         } else {
             self.make_way(number);
         }
     }
 
     /// The highest beginning of the sky in a column and around it.
-    fn top_around(&self, c: Spot) -> i16 {
+    fn top_around(&self, c: Position) -> i16 {
         let mut top = 0;
         for dx in -1..=1i16 {
             for dz in -1..=1i16 {
                 let around = c.plus(by(dx, 0, dz));
-                if self.yard.site.column(around.x, around.z).is_some() {
-                    top = top.max(self.yard.site.top(around.x, around.z));
+                if self.air.site.column(around.x, around.z).is_some() {
+                    top = top.max(self.air.site.top(around.x, around.z));
                 }
             }
         }
         top
     }
 
-    /// Returns whether some bot is to stand in this column no higher than a position.
-    fn is_stand_under(&self, c: Spot) -> bool {
+    /// Returns whether some post is in this column, no higher than a position.
+    fn is_post_under(&self, c: Position) -> bool {
         for number in 0..MOST_BOTS {
-            let bot = self.yard.bot(number);
+            let bot = self.air.bot(number);
             if bot.active
                 && bot.job.is_some()
-                && bot.stand.is_above_or_below(c)
-                && bot.stand.y <= c.y
+                && bot.post.is_above_or_below(c)
+                && bot.post.y <= c.y
             {
                 return true;
             }
@@ -549,9 +549,9 @@ impl Schedule {
     }
 
     /// Returns whether some bot near a position is blocked.
-    fn is_someone_blocked(&self, c: Spot) -> bool {
+    fn is_someone_blocked(&self, c: Position) -> bool {
         for number in 0..MOST_BOTS {
-            let bot = self.yard.bot(number);
+            let bot = self.air.bot(number);
             let is_blocked = bot.active && bot.job.is_some() && bot.blocked >= 2;
             if is_blocked && length(bot.at.to(c)) <= 12 {
                 return true;
@@ -562,12 +562,12 @@ impl Schedule {
 
     /// A bot without a job leaves columns that others need, and rises above what is full around it.
     fn make_way(&mut self, number: u8) {
-        let at = self.yard.bot(number).at;
+        let at = self.air.bot(number).at;
         let top = self.top_around(at);
-        let is_bad = at.y < self.claimed(at.x, at.z) || self.is_stand_under(at);
+        let is_bad = at.y < self.claimed(at.x, at.z) || self.is_post_under(at);
         let is_high = at.y > top.saturating_add(1);
         if (is_bad && is_high) || (!is_bad && self.is_someone_blocked(at)) {
-            self.yard.dodge(number);
+            self.air.dodge(number);
             return;
         }
         if !is_bad && at.y >= top {
@@ -578,19 +578,23 @@ impl Schedule {
         } else {
             top.saturating_add(1).saturating_sub(at.y)
         };
-        let room = self.yard.site.side().saturating_sub(1).saturating_sub(at.y);
+        let room = self.air.site.side().saturating_sub(1).saturating_sub(at.y);
         let up = up.min(15).min(room);
         let rises = up > 0
-            && (self.yard.go_straight(number, by(0, up, 0))
-                || self.yard.go_straight(number, by(0, 1, 0)));
+            && (self.air.go_straight(number, by(0, up, 0))
+                || self.air.go_straight(number, by(0, 1, 0)));
         if !rises {
-            self.yard.dodge(number);
+            self.air.dodge(number);
         }
     }
 
     /// One step: bots spread, choose boxes, fill them and fly.
-    fn work_step(&mut self, lists: &mut Lists, turns: &mut Vec<Turn>) -> Result<(), Memory> {
-        self.yard.begin_step();
+    fn work_step(
+        &mut self,
+        lists: &mut SearchLists,
+        turns: &mut Vec<FlightTurn>,
+    ) -> Result<(), Memory> {
+        self.air.begin_step();
         self.give_up_jobs();
         self.spread();
         self.halve_if_stuck()?;
@@ -598,19 +602,19 @@ impl Schedule {
         self.fill_all()?;
         self.order_teams();
         self.fly_all(turns)?;
-        self.yard.end_step()
+        self.air.end_step()
     }
 
-    /// All boxes are filled. Returns whether they are, within so many steps and the work that is allowed.
+    /// All boxes are filled. Returns whether they are, within `most` steps and the work that is allowed.
     pub(crate) fn work(&mut self, alloc: Global, most: u64) -> Result<bool, Memory> {
         let mut turns = Vec::new(alloc);
-        let mut lists = Lists::new(alloc);
+        let mut lists = SearchLists::new(alloc);
         for _ in 0..most.min(MOST_STEPS) {
             if self.agenda.left() == 0 && !self.is_spreading() {
                 return Ok(true);
             }
-            let pause = self.yard.step.saturating_sub(self.progress);
-            if pause > MOST_STILL || self.yard.is_over() {
+            let pause = self.air.step.saturating_sub(self.progress);
+            if pause > MOST_STILL || self.air.is_over() {
                 return Ok(false);
             }
             self.work_step(&mut lists, &mut turns)?;
@@ -620,7 +624,7 @@ impl Schedule {
 }
 
 /// The last of some turns moves forward to its place.
-fn sift_last(turns: &mut Vec<Turn>) {
+fn sift_last(turns: &mut Vec<FlightTurn>) {
     let count = turns.len();
     for k in 1..count {
         let at = count.wrapping_sub(k);
@@ -637,7 +641,7 @@ fn sift_last(turns: &mut Vec<Turn>) {
 }
 
 /// A turn by its number.
-fn turn_at(turns: &Vec<Turn>, i: usize) -> Option<Turn> {
+fn turn_at(turns: &Vec<FlightTurn>, i: usize) -> Option<FlightTurn> {
     match turns.get(i) {
         Some(turn) => Some(*turn),
         None => None,
@@ -645,7 +649,7 @@ fn turn_at(turns: &Vec<Turn>, i: usize) -> Option<Turn> {
 }
 
 /// Changes a turn.
-fn put_turn(turns: &mut Vec<Turn>, i: usize, turn: Turn) {
+fn put_turn(turns: &mut Vec<FlightTurn>, i: usize, turn: FlightTurn) {
     if let Some(place) = turns.get_mut(i) {
         *place = turn;
     }

@@ -1,11 +1,11 @@
 //! Shortest paths through void voxels, found by breadth-first search: below overhangs there is no sky.
-use crate::site::Site;
-use crate::spots::{NEIGHBORS, NOWHERE, Spot, by};
+use crate::positions::{NEIGHBORS, NOWHERE, Position, by};
+use crate::site::BuildSite;
 use crate::tasks::opposite;
 use std::alloc::Global;
 use vox_geom::{Diff, Memory};
 
-/// The direction of the voxel where a search begins.
+/// The direction of the first voxel of a search.
 const START: u32 = 6;
 
 /// How many marks a search uses.
@@ -13,9 +13,9 @@ const EACH: u32 = 8;
 
 /// What a search looks for.
 #[derive(Clone, Copy, Debug)]
-pub(crate) enum Goal {
+pub(crate) enum SearchGoal {
     /// A position.
-    At(Spot),
+    At(Position),
     /// One of the positions of a list.
     Listed,
     /// The sky.
@@ -26,7 +26,7 @@ pub(crate) enum Goal {
 #[derive(Drop)]
 pub(crate) struct Searcher {
     marks: Vec<u32>,
-    queue: Vec<Spot>,
+    queue: Vec<Position>,
     number: u32,
     pub(crate) work: u64,
 }
@@ -41,7 +41,7 @@ fn neighbor(direction: u32) -> Diff {
 
 impl Searcher {
     /// Before the first search.
-    pub(crate) fn new(alloc: Global, site: &Site) -> Result<Searcher, Memory> {
+    pub(crate) fn new(alloc: Global, site: &BuildSite) -> Result<Searcher, Memory> {
         Ok(Searcher {
             marks: vec![in alloc; 0u32; site.volume()]?,
             queue: Vec::new(alloc),
@@ -51,7 +51,7 @@ impl Searcher {
     }
 
     /// The direction in which this search found a voxel.
-    fn direction(&self, site: &Site, c: Spot) -> Option<u32> {
+    fn direction(&self, site: &BuildSite, c: Position) -> Option<u32> {
         let index = site.index(c)?;
         match self.marks.get(index) {
             Some(mark) if *mark / EACH == self.number => Some(*mark % EACH),
@@ -60,7 +60,7 @@ impl Searcher {
     }
 
     /// Keeps a voxel that is void, if it was not found before.
-    fn add(&mut self, site: &Site, c: Spot, direction: u32) -> Result<(), Memory> {
+    fn add(&mut self, site: &BuildSite, c: Position, direction: u32) -> Result<(), Memory> {
         if !site.is_open(c) || self.direction(site, c).is_some() {
             return Ok(());
         }
@@ -74,7 +74,7 @@ impl Searcher {
     }
 
     /// Keeps the void neighbors of a voxel: first the one straight on, so that paths have few turns.
-    fn add_neighbors(&mut self, site: &Site, at: Spot) -> Result<(), Memory> {
+    fn add_neighbors(&mut self, site: &BuildSite, at: Position) -> Result<(), Memory> {
         if let Some(direction) = self.direction(site, at) {
             if direction < START {
                 self.add(site, at.plus(neighbor(direction)), direction)?;
@@ -86,8 +86,13 @@ impl Searcher {
         Ok(())
     }
 
-    /// The voxels from one back to where this search began.
-    fn path_back(&self, alloc: Global, site: &Site, found: Spot) -> Result<Vec<Spot>, Memory> {
+    /// The voxels from one back to the first one of this search.
+    fn path_back(
+        &self,
+        alloc: Global,
+        site: &BuildSite,
+        found: Position,
+    ) -> Result<Vec<Position>, Memory> {
         let mut path = Vec::new(alloc);
         let mut at = found;
         for _ in 0..site.volume() {
@@ -106,11 +111,11 @@ impl Searcher {
     pub(crate) fn path_to(
         &mut self,
         alloc: Global,
-        site: &Site,
-        to: Spot,
-        goal: Goal,
-        listed: &[Spot],
-    ) -> Result<Option<Vec<Spot>>, Memory> {
+        site: &BuildSite,
+        to: Position,
+        goal: SearchGoal,
+        listed: &[Position],
+    ) -> Result<Option<Vec<Position>>, Memory> {
         self.number = self.number.wrapping_add(1);
         self.queue.clear();
         self.add(site, to, START)?;
@@ -121,9 +126,9 @@ impl Searcher {
             };
             self.work = self.work.saturating_add(1);
             let is_found = match goal {
-                Goal::At(spot) => spot == at,
-                Goal::Listed => listed.contains(&at),
-                Goal::Sky => site.is_sky(at),
+                SearchGoal::At(spot) => spot == at,
+                SearchGoal::Listed => listed.contains(&at),
+                SearchGoal::Sky => site.is_sky(at),
             };
             if is_found {
                 return Ok(Some(self.path_back(alloc, site, at)?));
@@ -135,7 +140,7 @@ impl Searcher {
 }
 
 /// A path from its other end.
-pub(crate) fn reversed(alloc: Global, path: &[Spot]) -> Result<Vec<Spot>, Memory> {
+pub(crate) fn reversed(alloc: Global, path: &[Position]) -> Result<Vec<Position>, Memory> {
     let mut other = Vec::with_capacity(alloc, path.len())?;
     let count = path.len();
     for k in 0..count {

@@ -1,9 +1,9 @@
-//! The voxels of a model that is being built, and where its sky begins.
+//! The voxels of a model that is being built, and the beginning of its sky.
 //!
 //! The sky of a column is what lies above its highest full voxel. All bots stay in the sky, so each of them can always rise and fly
 //! home, and paths need no search: up, across, down.
 use crate::blocks::Block;
-use crate::spots::{NEIGHBORS, Spot, by};
+use crate::positions::{NEIGHBORS, Position, by};
 use std::alloc::Global;
 use vox_geom::{Coord, Memory};
 use vox_planes::Planes;
@@ -14,7 +14,7 @@ const MOST_SIDE: u16 = 1000;
 
 /// The states of a voxel.
 #[derive(Clone, Copy, PartialEq, Eq, Debug)]
-pub(crate) enum Cell {
+pub(crate) enum VoxelState {
     /// It stays void.
     Void,
     /// It is to be filled.
@@ -27,18 +27,18 @@ pub(crate) enum Cell {
 
 /// A cube of voxels. A column lies in one piece: x first, then z, then y.
 #[derive(Drop)]
-pub(crate) struct Site {
+pub(crate) struct BuildSite {
     side: i16,
-    cells: Vec<Cell>,
+    cells: Vec<VoxelState>,
     tops: Vec<i16>,
 }
 
-impl Site {
+impl BuildSite {
     /// The voxels of a model, all of which are to be filled.
-    pub(crate) fn of(alloc: Global, model: &Planes) -> Result<Site, Memory> {
+    pub(crate) fn of(alloc: Global, model: &Planes) -> Result<BuildSite, Memory> {
         let side = model.resolution().min(MOST_SIDE);
         let n = usize::from(side);
-        let mut site = Site {
+        let mut site = BuildSite {
             side: side as i16,
             cells: Vec::with_capacity(alloc, n * n * n)?,
             tops: vec![in alloc; 0i16; n * n]?,
@@ -62,7 +62,11 @@ impl Site {
         let r = model.resolution();
         for y in 0..r.min(MOST_SIDE) {
             let wanted = x < r && z < r && is_full(model, Coord { x, y, z });
-            let cell = if wanted { Cell::Wanted } else { Cell::Void };
+            let cell = if wanted {
+                VoxelState::Wanted
+            } else {
+                VoxelState::Void
+            };
             self.cells.push(cell).map_err(|_| Memory)?;
         }
         Ok(())
@@ -94,7 +98,7 @@ impl Site {
     }
 
     /// The index of a voxel, if it is in space.
-    pub(crate) fn index(&self, c: Spot) -> Option<usize> {
+    pub(crate) fn index(&self, c: Position) -> Option<usize> {
         let n = self.side;
         if c.x < 0 || c.y < 0 || c.z < 0 || c.x >= n || c.y >= n || c.z >= n {
             return None;
@@ -105,10 +109,10 @@ impl Site {
     }
 
     /// The voxel with an index.
-    pub(crate) fn spot(&self, index: u32) -> Spot {
+    pub(crate) fn spot(&self, index: u32) -> Position {
         let side = (self.side.max(1) as u32).max(1);
         let column = index / side;
-        Spot {
+        Position {
             x: (column / side).min(1000) as i16,
             y: (index % side).min(1000) as i16,
             z: (column % side).min(1000) as i16,
@@ -116,18 +120,18 @@ impl Site {
     }
 
     /// The state of a voxel; out of space all is void.
-    fn cell(&self, c: Spot) -> Cell {
+    fn cell(&self, c: Position) -> VoxelState {
         let Some(index) = self.index(c) else {
-            return Cell::Void;
+            return VoxelState::Void;
         };
         match self.cells.get(index) {
             Some(cell) => *cell,
-            None => Cell::Void,
+            None => VoxelState::Void,
         }
     }
 
     /// Changes the state of a voxel.
-    fn set(&mut self, c: Spot, to: Cell) {
+    fn set(&mut self, c: Position, to: VoxelState) {
         let Some(index) = self.index(c) else {
             return;
         };
@@ -137,19 +141,19 @@ impl Site {
     }
 
     /// Returns whether a voxel belongs to the model.
-    pub(crate) fn is_goal(&self, c: Spot) -> bool {
-        self.cell(c) != Cell::Void
+    pub(crate) fn is_goal(&self, c: Position) -> bool {
+        self.cell(c) != VoxelState::Void
     }
 
     /// Returns whether a voxel is full.
-    pub(crate) fn is_full(&self, c: Spot) -> bool {
-        self.cell(c) == Cell::Full
+    pub(crate) fn is_full(&self, c: Position) -> bool {
+        self.cell(c) == VoxelState::Full
     }
 
     /// Returns whether the voxel with an index is full.
     pub(crate) fn is_index_full(&self, index: u32) -> bool {
         match self.cells.get(index as usize) {
-            Some(cell) => *cell == Cell::Full,
+            Some(cell) => *cell == VoxelState::Full,
             None => false,
         }
     }
@@ -157,34 +161,34 @@ impl Site {
     /// Returns whether the voxel with an index belongs to the model.
     pub(crate) fn is_index_goal(&self, index: usize) -> bool {
         match self.cells.get(index) {
-            Some(cell) => *cell != Cell::Void,
+            Some(cell) => *cell != VoxelState::Void,
             None => false,
         }
     }
 
     /// Returns whether a bot may be at a position, now or later: it is in space and not full.
-    pub(crate) fn is_open(&self, c: Spot) -> bool {
+    pub(crate) fn is_open(&self, c: Position) -> bool {
         self.index(c).is_some() && !self.is_full(c)
     }
 
     /// Adds a voxel to the model before any is full.
-    pub(crate) fn want(&mut self, c: Spot) {
-        self.set(c, Cell::Wanted);
+    pub(crate) fn want(&mut self, c: Position) {
+        self.set(c, VoxelState::Wanted);
     }
 
     /// Marks a voxel that is to be filled as seen. Returns whether it was not.
-    pub(crate) fn see(&mut self, c: Spot) -> bool {
-        let is_new = self.cell(c) == Cell::Wanted;
+    pub(crate) fn see(&mut self, c: Position) -> bool {
+        let is_new = self.cell(c) == VoxelState::Wanted;
         if is_new {
-            self.set(c, Cell::Seen);
+            self.set(c, VoxelState::Seen);
         }
         is_new
     }
 
     /// Takes the mark of a voxel that was seen away.
-    pub(crate) fn forget(&mut self, c: Spot) {
-        if self.cell(c) == Cell::Seen {
-            self.set(c, Cell::Wanted);
+    pub(crate) fn forget(&mut self, c: Position) {
+        if self.cell(c) == VoxelState::Seen {
+            self.set(c, VoxelState::Wanted);
         }
     }
 
@@ -200,16 +204,16 @@ impl Site {
     }
 
     /// Returns whether a position is in the sky.
-    pub(crate) fn is_sky(&self, c: Spot) -> bool {
+    pub(crate) fn is_sky(&self, c: Position) -> bool {
         self.index(c).is_some() && c.y >= self.top(c.x, c.z)
     }
 
     /// Fills a voxel of the model.
-    pub(crate) fn fill(&mut self, c: Spot) {
+    pub(crate) fn fill(&mut self, c: Position) {
         if !self.is_goal(c) {
             return;
         }
-        self.set(c, Cell::Full);
+        self.set(c, VoxelState::Full);
         let Some(column) = self.column(c.x, c.z) else {
             return;
         };
@@ -219,18 +223,18 @@ impl Site {
     }
 
     /// Voids a voxel, to stay so.
-    pub(crate) fn void(&mut self, c: Spot) {
-        self.set(c, Cell::Void);
+    pub(crate) fn void(&mut self, c: Position) {
+        self.set(c, VoxelState::Void);
     }
 
     /// Returns whether some voxel of the model in a column between two heights is there.
     pub(crate) fn has_goal_between(&self, x: i16, z: i16, low: i16, high: i16) -> bool {
-        let Some(from) = self.index(Spot { x, y: low, z }) else {
+        let Some(from) = self.index(Position { x, y: low, z }) else {
             return false;
         };
         for k in 0..high.wrapping_sub(low).wrapping_add(1).max(0) {
             if let Some(cell) = self.cells.get(from.wrapping_add(k as usize)) {
-                if *cell != Cell::Void {
+                if *cell != VoxelState::Void {
                     return true;
                 }
             }
@@ -251,7 +255,7 @@ impl Site {
     }
 
     /// Returns whether a neighbor of a voxel is full.
-    fn has_full_neighbor(&self, c: Spot) -> bool {
+    fn has_full_neighbor(&self, c: Position) -> bool {
         for (dx, dy, dz) in NEIGHBORS {
             let d = by(dx, dy, dz);
             if self.is_full(c.plus(d)) {
@@ -268,12 +272,12 @@ impl Site {
             || z == block.low.z
             || z == block.high.z;
         if !is_side {
-            let below = Spot {
+            let below = Position {
                 x,
                 y: block.low.y.wrapping_sub(1),
                 z,
             };
-            let above = Spot {
+            let above = Position {
                 x,
                 y: block.high.y.wrapping_add(1),
                 z,
@@ -281,7 +285,7 @@ impl Site {
             return self.is_full(below) || self.is_full(above);
         }
         for y in block.low.y..=block.high.y {
-            if self.has_full_neighbor(Spot { x, y, z }) {
+            if self.has_full_neighbor(Position { x, y, z }) {
                 return true;
             }
         }

@@ -1,11 +1,11 @@
 //! What a bot does in a step, and the command for it.
-use crate::spots::by;
+use crate::positions::by;
 use nano_spec::Command;
 use vox_geom::{Diff, Far, Long, Near, Short};
 
 /// What a bot does in a step. Differences lead from the bot.
 #[derive(Clone, Copy, Debug)]
-pub(crate) enum Task {
+pub(crate) enum BotTask {
     /// Nothing.
     Wait,
     /// A move along one axis.
@@ -38,39 +38,39 @@ pub(crate) fn opposite(d: Diff) -> Diff {
 }
 
 /// What undoes a task. A bot that was taken up is made anew by the one that took it up, so it does nothing.
-pub(crate) fn undoing(task: Task) -> Task {
+pub(crate) fn undoing(task: BotTask) -> BotTask {
     match task {
-        Task::Wait => Task::Wait,
-        Task::Move(d) => Task::Move(opposite(d)),
-        Task::Bend(d, e) => Task::Bend(opposite(e), opposite(d)),
-        Task::Fill(d) => Task::Void(d),
-        Task::Void(d) => Task::Fill(d),
-        Task::Group(d, far) => Task::GroupVoid(d, far),
-        Task::GroupVoid(d, far) => Task::Group(d, far),
-        Task::Split(d, child) => Task::Lead(d, child),
-        Task::Lead(d, child) => Task::Split(d, child),
-        Task::Join(_) => Task::Wait,
+        BotTask::Wait => BotTask::Wait,
+        BotTask::Move(d) => BotTask::Move(opposite(d)),
+        BotTask::Bend(d, e) => BotTask::Bend(opposite(e), opposite(d)),
+        BotTask::Fill(d) => BotTask::Void(d),
+        BotTask::Void(d) => BotTask::Fill(d),
+        BotTask::Group(d, far) => BotTask::GroupVoid(d, far),
+        BotTask::GroupVoid(d, far) => BotTask::Group(d, far),
+        BotTask::Split(d, child) => BotTask::Lead(d, child),
+        BotTask::Lead(d, child) => BotTask::Split(d, child),
+        BotTask::Join(_) => BotTask::Wait,
     }
 }
 
-/// The command for a task; a new bot gets so many seeds. None if a difference is too long for it.
-fn command_if_near(task: Task, seeds: u8) -> Option<Command> {
+/// The command for a task; a new bot gets `seeds` seeds. None if a difference is too long for it.
+fn command_if_near(task: BotTask, seeds: u8) -> Option<Command> {
     match task {
-        Task::Wait => Some(Command::Wait),
-        Task::Move(d) => Some(Command::SMove(Long::of(d)?)),
-        Task::Bend(d, e) => Some(Command::LMove(Short::of(d)?, Short::of(e)?)),
-        Task::Fill(d) => Some(Command::Fill(Near::of(d)?)),
-        Task::Void(d) => Some(Command::Void(Near::of(d)?)),
-        Task::Group(d, far) => Some(Command::GFill(Near::of(d)?, Far::of(far)?)),
-        Task::GroupVoid(d, far) => Some(Command::GVoid(Near::of(d)?, Far::of(far)?)),
-        Task::Split(d, _) => Some(Command::Fission(Near::of(d)?, seeds)),
-        Task::Lead(d, _) => Some(Command::FusionP(Near::of(d)?)),
-        Task::Join(d) => Some(Command::FusionS(Near::of(d)?)),
+        BotTask::Wait => Some(Command::Wait),
+        BotTask::Move(d) => Some(Command::SMove(Long::of(d)?)),
+        BotTask::Bend(d, e) => Some(Command::LMove(Short::of(d)?, Short::of(e)?)),
+        BotTask::Fill(d) => Some(Command::Fill(Near::of(d)?)),
+        BotTask::Void(d) => Some(Command::Void(Near::of(d)?)),
+        BotTask::Group(d, far) => Some(Command::GFill(Near::of(d)?, Far::of(far)?)),
+        BotTask::GroupVoid(d, far) => Some(Command::GVoid(Near::of(d)?, Far::of(far)?)),
+        BotTask::Split(d, _) => Some(Command::Fission(Near::of(d)?, seeds)),
+        BotTask::Lead(d, _) => Some(Command::FusionP(Near::of(d)?)),
+        BotTask::Join(d) => Some(Command::FusionS(Near::of(d)?)),
     }
 }
 
 /// The command for a task: a Wait if a difference is too long for it.
-pub(crate) fn command_of(task: Task, seeds: u8) -> Command {
+pub(crate) fn command_of(task: BotTask, seeds: u8) -> Command {
     match command_if_near(task, seeds) {
         Some(command) => command,
         None => Command::Wait,

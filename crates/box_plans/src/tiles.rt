@@ -2,9 +2,9 @@
 //!
 //! Each tile of columns is cut from the floor up into boxes as thick as 31 layers if bots have columns beside its lower corners (a team
 //! of eight), else into layers (a team of four right above). The schedule builds the model with such boxes, and its steps are undone.
-use crate::blocks::{Block, MOST_SIDE, Piece};
-use crate::site::Site;
-use crate::spots::{HOME, Spot};
+use crate::blocks::{Block, CutBox, MOST_SIDE};
+use crate::positions::{HOME, Position};
+use crate::site::BuildSite;
 use std::alloc::Global;
 use vox_geom::Memory;
 
@@ -27,7 +27,7 @@ const LARGE: i16 = 130;
 /// dearest one, and all.
 #[derive(Drop)]
 struct Tiling {
-    pieces: Vec<Piece>,
+    pieces: Vec<CutBox>,
     rows: Vec<bool>,
     chain: u64,
     longest: u64,
@@ -35,9 +35,9 @@ struct Tiling {
 }
 
 /// The extent of a model.
-fn extent(site: &Site) -> Option<Block> {
+fn extent(site: &BuildSite) -> Option<Block> {
     let last = site.side().saturating_sub(1);
-    let high = Spot {
+    let high = Position {
         x: last,
         y: last,
         z: last,
@@ -46,7 +46,7 @@ fn extent(site: &Site) -> Option<Block> {
 }
 
 /// The part of a box along x and z that has voxels of the model. None if it has none.
-fn tight(site: &Site, block: Block) -> Option<Block> {
+fn tight(site: &BuildSite, block: Block) -> Option<Block> {
     let Block { low, high } = block;
     let mut found: Option<Block> = None;
     for x in low.x..=high.x {
@@ -63,12 +63,12 @@ fn tight(site: &Site, block: Block) -> Option<Block> {
 fn widened(part: Option<Block>, block: Block, x: i16, z: i16) -> Block {
     let Some(part) = part else {
         return Block {
-            low: Spot {
+            low: Position {
                 x,
                 z,
                 y: block.low.y,
             },
-            high: Spot {
+            high: Position {
                 x,
                 z,
                 y: block.high.y,
@@ -77,12 +77,12 @@ fn widened(part: Option<Block>, block: Block, x: i16, z: i16) -> Block {
     };
     let Block { low, high } = part;
     Block {
-        low: Spot {
+        low: Position {
             x: low.x.min(x),
             z: low.z.min(z),
             y: low.y,
         },
-        high: Spot {
+        high: Position {
             x: high.x.max(x),
             z: high.z.max(z),
             y: high.y,
@@ -90,13 +90,13 @@ fn widened(part: Option<Block>, block: Block, x: i16, z: i16) -> Block {
     }
 }
 
-/// Returns whether a bot can stand in a column from one height to another, as far as the model is concerned.
-fn is_void(site: &Site, x: i16, z: i16, low: i16, high: i16) -> bool {
+/// Returns whether a column has no voxel of the model between two heights.
+fn is_void(site: &BuildSite, x: i16, z: i16, low: i16, high: i16) -> bool {
     site.column(x, z).is_some() && !site.has_goal_between(x, z, low, high)
 }
 
-/// Returns whether a bot can stand beside a corner of a box, on the outer side given by one direction along each axis.
-fn is_corner_open(site: &Site, block: Block, x: i16, z: i16, dx: i16, dz: i16) -> bool {
+/// Returns whether a corner of a box has a column for a post, on the outer side given by one direction along each axis.
+fn is_corner_open(site: &BuildSite, block: Block, x: i16, z: i16, dx: i16, dz: i16) -> bool {
     let (low, high) = (block.low.y, block.high.y);
     let above = low.saturating_add(1);
     is_void(site, x.wrapping_add(dx), z, above, high)
@@ -105,7 +105,7 @@ fn is_corner_open(site: &Site, block: Block, x: i16, z: i16, dx: i16, dz: i16) -
 }
 
 /// Returns whether bots have columns beside all lower corners of a box.
-fn is_open(site: &Site, block: Block) -> bool {
+fn is_open(site: &BuildSite, block: Block) -> bool {
     let Block { low, high } = block;
     is_corner_open(site, block, low.x, low.z, -1, -1)
         && is_corner_open(site, block, low.x, high.z, -1, 1)
@@ -113,7 +113,7 @@ fn is_open(site: &Site, block: Block) -> bool {
         && is_corner_open(site, block, high.x, high.z, 1, 1)
 }
 
-/// Where a part of a side begins.
+/// The component at which a part of a side begins.
 fn cut_at(from: i16, width: i16, part: i16, parts: i16) -> i16 {
     let offset = i32::from(width).wrapping_mul(i32::from(part)) / i32::from(parts.max(1));
     from.saturating_add(offset.max(0).min(1000) as i16)
@@ -121,7 +121,7 @@ fn cut_at(from: i16, width: i16, part: i16, parts: i16) -> i16 {
 
 impl Tiling {
     /// No box.
-    fn empty(alloc: Global, site: &Site) -> Result<Tiling, Memory> {
+    fn empty(alloc: Global, site: &BuildSite) -> Result<Tiling, Memory> {
         Ok(Tiling {
             pieces: Vec::new(alloc),
             rows: vec![in alloc; false; site.side().max(0) as usize]?,
@@ -140,7 +140,7 @@ impl Tiling {
     }
 
     /// Finds the layers of a tile that have voxels of the model. Returns the highest one.
-    fn find_rows(&mut self, site: &Site, tile: Block) -> i16 {
+    fn find_rows(&mut self, site: &BuildSite, tile: Block) -> i16 {
         let mut highest = -1;
         for y in 0..site.side() {
             let layer = Block {
@@ -168,7 +168,7 @@ impl Tiling {
         self.chain = self.chain.saturating_add(chain);
         self.longest = self.longest.max(self.chain);
         self.all = self.all.saturating_add(all);
-        self.pieces.push(Piece::plain(block)).map_err(|_| Memory)
+        self.pieces.push(CutBox::plain(block)).map_err(|_| Memory)
     }
 
     /// The highest layer with voxels of the model among some from a layer on.
@@ -183,7 +183,7 @@ impl Tiling {
     }
 
     /// The thickest box of a tile from a layer on beside which bots have columns.
-    fn thick_box(&self, site: &Site, tile: Block, y: i16, most: i16) -> Option<Block> {
+    fn thick_box(&self, site: &BuildSite, tile: Block, y: i16, most: i16) -> Option<Block> {
         for thick in THICK {
             let last = self.last_row(y, thick, most);
             if last.saturating_sub(y) < 3 {
@@ -206,7 +206,7 @@ impl Tiling {
     }
 
     /// Cuts a tile into boxes.
-    fn cut_tile(&mut self, site: &Site, tile: Block) -> Result<(), Memory> {
+    fn cut_tile(&mut self, site: &BuildSite, tile: Block) -> Result<(), Memory> {
         let Some(tile) = tight(site, tile) else {
             return Ok(());
         };
@@ -233,18 +233,18 @@ impl Tiling {
     }
 
     /// Cuts the tiles of a strip along z.
-    fn cut_strip(&mut self, site: &Site, strip: Block, width: i16) -> Result<(), Memory> {
+    fn cut_strip(&mut self, site: &BuildSite, strip: Block, width: i16) -> Result<(), Memory> {
         let deep = strip.high.z.saturating_sub(strip.low.z).saturating_add(1);
         let parts = deep.saturating_add(width).saturating_sub(1) / width.max(1);
         for part in 0..parts {
             let from = cut_at(strip.low.z, deep, part, parts);
             let to = cut_at(strip.low.z, deep, part.saturating_add(1), parts).saturating_sub(1);
             let tile = Block {
-                low: Spot {
+                low: Position {
                     z: from,
                     ..strip.low
                 },
-                high: Spot {
+                high: Position {
                     z: to,
                     ..strip.high
                 },
@@ -255,18 +255,18 @@ impl Tiling {
     }
 
     /// Cuts the extent of a model.
-    fn cut(&mut self, site: &Site, extent: Block, width: i16) -> Result<(), Memory> {
+    fn cut(&mut self, site: &BuildSite, extent: Block, width: i16) -> Result<(), Memory> {
         let wide = extent.high.x.saturating_sub(extent.low.x).saturating_add(1);
         let parts = wide.saturating_add(width).saturating_sub(1) / width.max(1);
         for part in 0..parts {
             let from = cut_at(extent.low.x, wide, part, parts);
             let to = cut_at(extent.low.x, wide, part.saturating_add(1), parts).saturating_sub(1);
             let strip = Block {
-                low: Spot {
+                low: Position {
                     x: from,
                     ..extent.low
                 },
-                high: Spot {
+                high: Position {
                     x: to,
                     ..extent.high
                 },
@@ -283,12 +283,12 @@ impl Tiling {
 }
 
 /// The boxes of a model in tiles at most so wide, with borders moved by so much.
-fn tile_model(alloc: Global, site: &Site, width: i16, shift: i16) -> Result<Tiling, Memory> {
+fn tile_model(alloc: Global, site: &BuildSite, width: i16, shift: i16) -> Result<Tiling, Memory> {
     let mut tiling = Tiling::empty(alloc, site)?;
     let Some(extent) = extent(site) else {
         return Ok(tiling);
     };
-    let low = Spot {
+    let low = Position {
         x: extent.low.x.saturating_sub(shift).max(1),
         z: extent.low.z.saturating_sub(shift).max(1),
         y: extent.low.y,
@@ -306,19 +306,19 @@ fn tile_model(alloc: Global, site: &Site, width: i16, shift: i16) -> Result<Tili
 }
 
 /// The boxes of a model in tiles at most so wide, with borders moved by so much.
-pub(crate) fn tiles(
+pub(crate) fn cut_tiles(
     alloc: Global,
-    site: &Site,
+    site: &BuildSite,
     width: i16,
     shift: i16,
-) -> Result<Vec<Piece>, Memory> {
+) -> Result<Vec<CutBox>, Memory> {
     Ok(tile_model(alloc, site, width, shift)?.pieces)
 }
 
 /// The better of some boxes and those of tiles at most so wide.
 fn better(
     alloc: Global,
-    site: &Site,
+    site: &BuildSite,
     best: Tiling,
     width: i16,
     shifts: &[i16],
@@ -334,7 +334,7 @@ fn better(
 }
 
 /// The boxes of a model in tiles of the size that promises the fewest steps.
-pub(crate) fn best_tiles(alloc: Global, site: &Site) -> Result<Vec<Piece>, Memory> {
+pub(crate) fn cut_best_tiles(alloc: Global, site: &BuildSite) -> Result<Vec<CutBox>, Memory> {
     let mut best = tile_model(alloc, site, MOST_SIDE, 0)?;
     if site.side() > LARGE {
         for width in FEW_WIDTHS {

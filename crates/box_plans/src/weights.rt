@@ -1,7 +1,7 @@
 //! The weight of each voxel of a model, and their sums over boxes: what it costs to fill by the best line through it.
 use crate::blocks::{Block, MOST_SIDE};
 use crate::manner::Prices;
-use crate::site::Site;
+use crate::site::BuildSite;
 use std::alloc::Global;
 use vox_geom::Memory;
 
@@ -25,7 +25,7 @@ fn mark_run(best: &mut Vec<u8>, from: usize, stride: usize, count: usize) {
 }
 
 /// Marks the runs of a line of voxels.
-fn mark_line(best: &mut Vec<u8>, site: &Site, from: usize, stride: usize) {
+fn mark_line(best: &mut Vec<u8>, site: &BuildSite, from: usize, stride: usize) {
     let mut count = 0usize;
     let mut start = from;
     let mut at = from;
@@ -45,7 +45,7 @@ fn mark_line(best: &mut Vec<u8>, site: &Site, from: usize, stride: usize) {
 }
 
 /// Marks the runs of all lines along an axis, given by three strides: along it, and along the others.
-fn mark_axis(best: &mut Vec<u8>, site: &Site, strides: (usize, usize, usize)) {
+fn mark_axis(best: &mut Vec<u8>, site: &BuildSite, strides: (usize, usize, usize)) {
     let (along, one, other) = strides;
     let side = site.side().max(0) as usize;
     for i in 0..side {
@@ -67,7 +67,7 @@ fn weight_of(length: u8, prices: &Prices) -> u32 {
 
 impl Weights {
     /// The weights of a model.
-    pub(crate) fn of(alloc: Global, site: &Site, prices: &Prices) -> Result<Weights, Memory> {
+    pub(crate) fn of(alloc: Global, site: &BuildSite, prices: &Prices) -> Result<Weights, Memory> {
         let side = site.side().max(0) as usize;
         let mut best = vec![in alloc; 0u8; site.volume()]?;
         let layer = side.wrapping_mul(side);

@@ -2,10 +2,10 @@
 //!
 //! A step is free of collisions because each position of a bot, each voxel that is filled and each voxel of a move is reserved in it
 //! once: first all bots' positions, then what each task needs. A task that would need a reserved voxel is not given.
+use crate::positions::{HOME, Position, by, length, sign};
 use crate::record::{MOST_BOTS, Record};
-use crate::site::Site;
-use crate::spots::{HOME, Spot, by, length, sign};
-use crate::tasks::Task;
+use crate::site::BuildSite;
+use crate::tasks::BotTask;
 use std::alloc::Global;
 use vox_geom::{Diff, Memory};
 
@@ -15,16 +15,16 @@ const WORK_EACH: u64 = 100;
 /// The most work besides.
 const MOST_WORK: u64 = 1_000_000_000;
 
-/// A bot: where it is after its task, and its task. Its job, and where it is to stand for it. How often it was blocked, how long it
-/// waited for a good box, and the first of its seeds and their number.
+/// A bot: its position after its task, its job with its post, how often it was blocked, how long it waited for a good box, and its first
+/// seed with the number of its seeds.
 #[derive(Clone, Copy, Debug)]
-pub(crate) struct Bot {
-    pub(crate) at: Spot,
+pub(crate) struct CrewBot {
+    pub(crate) at: Position,
     pub(crate) active: bool,
     pub(crate) fresh: bool,
-    pub(crate) task: Task,
+    pub(crate) task: BotTask,
     pub(crate) job: Option<u8>,
-    pub(crate) stand: Spot,
+    pub(crate) post: Position,
     pub(crate) blocked: u8,
     pub(crate) patience: u8,
     pub(crate) posted: bool,
@@ -33,13 +33,13 @@ pub(crate) struct Bot {
 }
 
 /// A bot that is not there.
-const NOBODY: Bot = Bot {
+const NOBODY: CrewBot = CrewBot {
     at: HOME,
     active: false,
     fresh: false,
-    task: Task::Wait,
+    task: BotTask::Wait,
     job: None,
-    stand: HOME,
+    post: HOME,
     blocked: 0,
     patience: 0,
     posted: false,
@@ -47,11 +47,11 @@ const NOBODY: Bot = Bot {
     seeds: 0,
 };
 
-impl Bot {
+impl CrewBot {
     /// Returns whether a bot was there when the step began and has no task yet.
     pub(crate) fn is_idle(&self) -> bool {
         let waits = match self.task {
-            Task::Wait => true,
+            BotTask::Wait => true,
             _ => false,
         };
         self.active && !self.fresh && waits
@@ -65,20 +65,20 @@ impl Bot {
 
 /// The voxels, the bots, the reservations, and the steps so far.
 #[derive(Drop)]
-pub(crate) struct Yard {
-    pub(crate) site: Site,
+pub(crate) struct Airspace {
+    pub(crate) site: BuildSite,
     pub(crate) record: Record,
     pub(crate) step: u32,
     pub(crate) work: u64,
-    bots: Vec<Bot>,
+    bots: Vec<CrewBot>,
     stamps: Vec<u32>,
     random: u64,
 }
 
-impl Yard {
+impl Airspace {
     /// Before the first step, with no bot.
-    pub(crate) fn new(alloc: Global, site: Site) -> Result<Yard, Memory> {
-        Ok(Yard {
+    pub(crate) fn new(alloc: Global, site: BuildSite) -> Result<Airspace, Memory> {
+        Ok(Airspace {
             record: Record::new(alloc),
             step: 0,
             work: 0,
@@ -90,7 +90,7 @@ impl Yard {
     }
 
     /// A bot.
-    pub(crate) fn bot(&self, number: u8) -> Bot {
+    pub(crate) fn bot(&self, number: u8) -> CrewBot {
         match self.bots.get(usize::from(number)) {
             Some(bot) => *bot,
             None => NOBODY,
@@ -98,15 +98,15 @@ impl Yard {
     }
 
     /// Changes a bot.
-    pub(crate) fn put(&mut self, number: u8, bot: Bot) {
+    pub(crate) fn put(&mut self, number: u8, bot: CrewBot) {
         if let Some(place) = self.bots.get_mut(usize::from(number)) {
             *place = bot;
         }
     }
 
-    /// A bot is there from the next step on, with so many seeds.
-    pub(crate) fn arrive(&mut self, number: u8, at: Spot, seeds: u8) {
-        let bot = Bot {
+    /// Adds a bot with its seeds: it is there from the next step on.
+    pub(crate) fn arrive(&mut self, number: u8, at: Position, seeds: u8) {
+        let bot = CrewBot {
             at,
             active: true,
             fresh: true,
@@ -146,7 +146,7 @@ impl Yard {
     }
 
     /// The bot at a position, if there is one.
-    pub(crate) fn bot_at(&self, at: Spot) -> Option<u8> {
+    pub(crate) fn bot_at(&self, at: Position) -> Option<u8> {
         for number in 0..MOST_BOTS {
             let bot = self.bot(number);
             if bot.active && bot.at == at {
@@ -157,9 +157,9 @@ impl Yard {
     }
 
     /// Gives a bot its task.
-    pub(crate) fn order(&mut self, number: u8, task: Task) {
+    pub(crate) fn order(&mut self, number: u8, task: BotTask) {
         let bot = self.bot(number);
-        self.put(number, Bot { task, ..bot });
+        self.put(number, CrewBot { task, ..bot });
     }
 
     /// Returns whether more work was done than is worth it.
@@ -177,8 +177,8 @@ impl Yard {
             if bot.active {
                 self.reserve(bot.at);
             }
-            let now = Bot {
-                task: Task::Wait,
+            let now = CrewBot {
+                task: BotTask::Wait,
                 fresh: false,
                 ..bot
             };
@@ -196,7 +196,7 @@ impl Yard {
     }
 
     /// Reserves a voxel in this step.
-    pub(crate) fn reserve(&mut self, c: Spot) {
+    pub(crate) fn reserve(&mut self, c: Position) {
         let Some(index) = self.site.index(c) else {
             return;
         };
@@ -206,7 +206,7 @@ impl Yard {
     }
 
     /// Returns whether a voxel is reserved in this step.
-    pub(crate) fn is_reserved(&self, c: Spot) -> bool {
+    pub(crate) fn is_reserved(&self, c: Position) -> bool {
         let Some(index) = self.site.index(c) else {
             return true;
         };
@@ -226,7 +226,7 @@ impl Yard {
     }
 
     /// Returns whether a leg of a move leads through the sky, and through no reserved voxel.
-    fn is_leg_clear(&self, from: Spot, d: Diff) -> bool {
+    fn is_leg_clear(&self, from: Position, d: Diff) -> bool {
         let one = by(sign(d.dx), sign(d.dy), sign(d.dz));
         let mut c = from;
         for _ in 0..length(d).min(15) {
@@ -239,7 +239,7 @@ impl Yard {
     }
 
     /// Reserves the voxels of a leg of a move.
-    pub(crate) fn reserve_leg(&mut self, from: Spot, d: Diff) {
+    pub(crate) fn reserve_leg(&mut self, from: Position, d: Diff) {
         let one = by(sign(d.dx), sign(d.dy), sign(d.dz));
         let mut c = from;
         for _ in 0..length(d).min(15) {
@@ -258,11 +258,11 @@ impl Yard {
         self.reserve_leg(bot.at, first);
         self.reserve_leg(bend, second);
         let task = if length(second) == 0 {
-            Task::Move(first)
+            BotTask::Move(first)
         } else {
-            Task::Bend(first, second)
+            BotTask::Bend(first, second)
         };
-        let moved = Bot {
+        let moved = CrewBot {
             at: bend.plus(second),
             task,
             blocked: 0,

@@ -56,19 +56,19 @@ pub(crate) fn by(dx: i16, dy: i16, dz: i16) -> Diff {
 
 /// A position, in space or not.
 #[derive(Clone, Copy, PartialEq, Eq, Debug)]
-pub(crate) struct Spot {
+pub(crate) struct Position {
     pub(crate) x: i16,
     pub(crate) y: i16,
     pub(crate) z: i16,
 }
 
-/// Where every run begins and ends.
-pub(crate) const HOME: Spot = Spot { x: 0, y: 0, z: 0 };
+/// The position at which every run begins and ends.
+pub(crate) const HOME: Position = Position { x: 0, y: 0, z: 0 };
 
-impl Spot {
+impl Position {
     /// The position that a difference leads to.
-    pub(crate) fn plus(self, d: Diff) -> Spot {
-        Spot {
+    pub(crate) fn plus(self, d: Diff) -> Position {
+        Position {
             x: self.x.wrapping_add(d.dx),
             y: self.y.wrapping_add(d.dy),
             z: self.z.wrapping_add(d.dz),
@@ -76,7 +76,7 @@ impl Spot {
     }
 
     /// The difference that leads to another position.
-    pub(crate) fn to(self, other: Spot) -> Diff {
+    pub(crate) fn to(self, other: Position) -> Diff {
         Diff {
             dx: other.x.wrapping_sub(self.x),
             dy: other.y.wrapping_sub(self.y),
@@ -85,12 +85,12 @@ impl Spot {
     }
 
     /// The position at another height.
-    pub(crate) fn at_height(self, y: i16) -> Spot {
-        Spot { y, ..self }
+    pub(crate) fn at_height(self, y: i16) -> Position {
+        Position { y, ..self }
     }
 
     /// Returns whether two positions are in the same column.
-    pub(crate) fn is_above_or_below(self, other: Spot) -> bool {
+    pub(crate) fn is_above_or_below(self, other: Position) -> bool {
         self.x == other.x && self.z == other.z
     }
 }
@@ -133,7 +133,7 @@ fn moves_along(way: i16) -> (i32, i32) {
 }
 
 /// The least number of moves between two positions if nothing is in the way.
-pub(crate) fn moves_between(from: Spot, to: Spot) -> i32 {
+pub(crate) fn moves_between(from: Position, to: Position) -> i32 {
     let d = from.to(to);
     let (x, short_x) = moves_along(d.dx);
     let (y, short_y) = moves_along(d.dy);
