@@ -148,16 +148,20 @@ impl Schedule {
         Ok(holds)
     }
 
-    /// How near a box is to a position.
+    /// How near a box is to a position; of two that are equally near the lower one comes first.
     fn key_of(&self, at: Position, number: u32) -> i64 {
-        let corner = self.agenda.get(number).block.nearest_corner(at);
+        let block = self.agenda.get(number).block;
+        let corner = block.nearest_corner(at);
         let far = i64::from(length(at.to(corner)));
-        if is_near(at.to(corner)) {
-            return far;
-        }
         let above = corner.at_height(corner.y.saturating_add(1));
-        let moves = i64::from(moves_between(at, above)).saturating_add(1);
-        moves.saturating_mul(1000).saturating_add(far)
+        let moves = if is_near(at.to(corner)) {
+            0
+        } else {
+            i64::from(moves_between(at, above)).saturating_add(1)
+        };
+        let near = moves.saturating_mul(1000).saturating_add(far);
+        near.saturating_mul(512)
+            .saturating_add(i64::from(block.low.y))
     }
 
     /// Adds those of the boxes that were found which may be taken.

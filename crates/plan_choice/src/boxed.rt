@@ -16,8 +16,11 @@ use vox_planes::Planes;
 /// Up to this resolution all ways are tried.
 const SMALL: u16 = 100;
 
-/// Up to this resolution some ways are tried, and above it few.
-const MEDIUM: u16 = 180;
+/// Up to this resolution some ways are tried.
+const MEDIUM: u16 = 160;
+
+/// Up to this resolution a few ways are tried, and above it two.
+const LARGE: u16 = 210;
 
 /// Boxes of one layer.
 const FLAT: Prices = Prices {
@@ -61,6 +64,13 @@ const CLAIMS: BoxManner = BoxManner {
 const BY_GUARDS: BoxManner = BoxManner {
     cutting: CutStyle::Exact(GUARDED),
     ..PLAIN
+};
+
+/// The same with several from one stop.
+const BY_GUARDED_CLAIMS: BoxManner = BoxManner {
+    extra: 3,
+    look: true,
+    ..BY_GUARDS
 };
 
 /// Thick boxes anywhere, low ones first.
@@ -126,11 +136,7 @@ const SMALL_UP: [Trial; 10] = [
         look: false,
         ..BY_MANY
     }),
-    Trial::Boxes(BoxManner {
-        extra: 3,
-        look: true,
-        ..BY_GUARDS
-    }),
+    Trial::Boxes(BY_GUARDED_CLAIMS),
     Trial::Boxes(BoxManner {
         look: true,
         ..PLAIN
@@ -138,8 +144,9 @@ const SMALL_UP: [Trial; 10] = [
 ];
 
 /// Ways to build a model of medium size.
-const MEDIUM_UP: [Trial; 5] = [
+const MEDIUM_UP: [Trial; 6] = [
     Trial::Boxes(BY_GUARDS),
+    Trial::Boxes(BY_GUARDED_CLAIMS),
     Trial::Boxes(CLAIMS),
     Trial::Boxes(BY_FREE),
     Trial::Boxes(BY_MANY),
@@ -147,7 +154,14 @@ const MEDIUM_UP: [Trial; 5] = [
 ];
 
 /// Ways to build a large model.
-const LARGE_UP: [Trial; 2] = [Trial::Boxes(CLAIMS), Trial::Boxes(BY_GUARDS)];
+const LARGE_UP: [Trial; 3] = [
+    Trial::Boxes(BY_MANY),
+    Trial::Boxes(CLAIMS),
+    Trial::Boxes(BY_GUARDS),
+];
+
+/// Ways to build a model of the greatest size.
+const HUGE_UP: [Trial; 2] = [Trial::Boxes(CLAIMS), Trial::Boxes(BY_MANY)];
 
 /// Tiles as wide as they can be.
 const TILES: BoxManner = BoxManner {
@@ -192,8 +206,9 @@ const SMALL_DOWN: [Trial; 8] = [
 ];
 
 /// Ways to take a model of medium size down.
-const MEDIUM_DOWN: [Trial; 5] = [
+const MEDIUM_DOWN: [Trial; 6] = [
     Trial::Boxes(TILES),
+    Trial::Boxes(BEST_TILES),
     Trial::Boxes(BoxManner {
         window: 12,
         ..TILES
@@ -211,13 +226,17 @@ const MEDIUM_DOWN: [Trial; 5] = [
 ];
 
 /// Ways to take a large model down.
-const LARGE_DOWN: [Trial; 2] = [
+const LARGE_DOWN: [Trial; 3] = [
     Trial::Boxes(TILES),
+    Trial::Boxes(BEST_TILES),
     Trial::Boxes(BoxManner {
         window: 12,
         ..TILES
     }),
 ];
+
+/// Ways to take a model of the greatest size down.
+const HUGE_DOWN: [Trial; 2] = [Trial::Boxes(TILES), Trial::Boxes(BEST_TILES)];
 
 /// The plan, or one of a crew by boxes that builds from nothing or takes all down, if that is cheaper and within the bounds. A plan of
 /// one command, which is a Halt alone, stays.
@@ -247,10 +266,14 @@ pub(crate) fn by_boxes(
         MEDIUM_UP.as_slice()
     } else if r <= MEDIUM {
         MEDIUM_DOWN.as_slice()
-    } else if up {
+    } else if r <= LARGE && up {
         LARGE_UP.as_slice()
-    } else {
+    } else if r <= LARGE {
         LARGE_DOWN.as_slice()
+    } else if up {
+        HUGE_UP.as_slice()
+    } else {
+        HUGE_DOWN.as_slice()
     };
     let profile = Profile::full();
     cheapest(alloc, source, target, profile, plan, trials, most, ceiling)
