@@ -108,17 +108,6 @@ impl BuildSite {
         Some(column.wrapping_mul(side).wrapping_add(c.y as u32) as usize)
     }
 
-    /// The voxel with an index.
-    pub(crate) fn spot(&self, index: u32) -> Position {
-        let side = (self.side.max(1) as u32).max(1);
-        let column = index / side;
-        Position {
-            x: (column / side).min(1000) as i16,
-            y: (index % side).min(1000) as i16,
-            z: (column % side).min(1000) as i16,
-        }
-    }
-
     /// The state of a voxel; out of space all is void.
     fn cell(&self, c: Position) -> VoxelState {
         let Some(index) = self.index(c) else {
