@@ -10,7 +10,7 @@ use box_plans::{BoxManner, CutStyle, Prices};
 use nano_spec::Profile;
 use plan_tape::Plan;
 use std::alloc::Global;
-use vox_geom::Memory;
+use vox_geom::{MOST_R, Memory};
 use vox_planes::Planes;
 
 /// Up to this resolution all ways are tried.
@@ -153,15 +153,20 @@ const MEDIUM_UP: [Trial; 6] = [
     Trial::Boxes(BY_LARGE),
 ];
 
-/// Ways to build a large model.
-const LARGE_UP: [Trial; 3] = [
+/// Ways to build a large model. Squads of four are the best for a box, and give up at once on any other model.
+const LARGE_UP: [Trial; 4] = [
+    Trial::Fours(MOST_R, false),
     Trial::Boxes(BY_MANY),
     Trial::Boxes(CLAIMS),
     Trial::Boxes(BY_GUARDS),
 ];
 
 /// Ways to build a model of the greatest size.
-const HUGE_UP: [Trial; 2] = [Trial::Boxes(CLAIMS), Trial::Boxes(BY_MANY)];
+const HUGE_UP: [Trial; 3] = [
+    Trial::Fours(MOST_R, false),
+    Trial::Boxes(CLAIMS),
+    Trial::Boxes(BY_MANY),
+];
 
 /// Tiles as wide as they can be.
 const TILES: BoxManner = BoxManner {
