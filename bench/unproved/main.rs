@@ -17,6 +17,7 @@ mod voxel_reads;
 mod run_progress;
 mod shim;
 mod squad_plans;
+mod box_plans;
 mod step_groups;
 mod step_machine;
 mod step_order;

@@ -14,7 +14,7 @@ import sys
 CRATES = """
     counter_permit vox_geom nano_spec step_order run_progress energy_sum brick_arena trace_codec bot_crew
     vox_planes model_file step_groups system_state support_forest step_machine trace_judge voxel_reads plan_tape
-    layer_planner group_planner void_planner low_planner swarm_planner squad_plans plan_choice model_forge
+    layer_planner group_planner void_planner low_planner swarm_planner squad_plans box_plans plan_choice model_forge
     vox_depot trace_text nanobot_words debug_script step_debugger nanobot_rows nanobot_app kept_machine
     nanobot_c machine_c
 """.split()
