@@ -73,7 +73,7 @@ fn assert_energy(rt: &impl Abort, tape: &Tape, energy: i64) {
     assert!(rt; tape.energy() == energy);
 }
 
-/// The bot with this bid stands at a coordinate.
+/// The bot with this bid is at a coordinate.
 fn assert_stands(rt: &impl Abort, tape: &Tape, c: Coord, bid: u8) {
     assert_eq!(rt; tape.crew().at(c), Some(bid));
 }

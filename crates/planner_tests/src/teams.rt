@@ -26,7 +26,7 @@ fn bend(d: Diff, e: Diff) -> Option<Command> {
     Some(Command::LMove(Short::of(d)?, Short::of(e)?))
 }
 
-/// A new bot with so many seeds.
+/// A new bot with this many seeds.
 fn fission(d: Diff, seeds: u8) -> Option<Command> {
     Some(Command::Fission(Near::of(d)?, seeds))
 }
