@@ -4,6 +4,7 @@
 //! home, and paths need no search: up, across, down.
 use crate::blocks::Block;
 use crate::positions::{NEIGHBORS, Position, by};
+use crate::weights::index_of;
 use std::alloc::Global;
 use vox_geom::{Coord, Memory};
 use vox_planes::Planes;
@@ -106,17 +107,6 @@ impl BuildSite {
         let side = n as u32;
         let column = (c.x as u32).wrapping_mul(side).wrapping_add(c.z as u32);
         Some(column.wrapping_mul(side).wrapping_add(c.y as u32) as usize)
-    }
-
-    /// The voxel with an index.
-    pub(crate) fn spot(&self, index: u32) -> Position {
-        let side = (self.side.max(1) as u32).max(1);
-        let column = index / side;
-        Position {
-            x: (column / side).min(1000) as i16,
-            y: (index % side).min(1000) as i16,
-            z: (column % side).min(1000) as i16,
-        }
     }
 
     /// The state of a voxel; out of space all is void.
@@ -232,8 +222,8 @@ impl BuildSite {
         let Some(from) = self.index(Position { x, y: low, z }) else {
             return false;
         };
-        for k in 0..high.wrapping_sub(low).wrapping_add(1).max(0) {
-            if let Some(cell) = self.cells.get(from.wrapping_add(k as usize)) {
+        for k in 0..index_of(high.wrapping_sub(low).wrapping_add(1)) {
+            if let Some(cell) = self.cells.get(from.wrapping_add(k)) {
                 if *cell != VoxelState::Void {
                     return true;
                 }

@@ -148,16 +148,20 @@ impl Schedule {
         Ok(holds)
     }
 
-    /// How near a box is to a position.
+    /// How near a box is to a position; of two that are equally near the lower one comes first.
     fn key_of(&self, at: Position, number: u32) -> i64 {
-        let corner = self.agenda.get(number).block.nearest_corner(at);
+        let block = self.agenda.get(number).block;
+        let corner = block.nearest_corner(at);
         let far = i64::from(length(at.to(corner)));
-        if is_near(at.to(corner)) {
-            return far;
-        }
         let above = corner.at_height(corner.y.saturating_add(1));
-        let moves = i64::from(moves_between(at, above)).saturating_add(1);
-        moves.saturating_mul(1000).saturating_add(far)
+        let moves = if is_near(at.to(corner)) {
+            0
+        } else {
+            i64::from(moves_between(at, above)).saturating_add(1)
+        };
+        let near = moves.saturating_mul(1000).saturating_add(far);
+        near.saturating_mul(512)
+            .saturating_add(i64::from(block.low.y))
     }
 
     /// Adds those of the boxes that were found which may be taken.
@@ -349,7 +353,9 @@ impl Schedule {
                 .saturating_add(count)
                 .max(1);
             let far = i64::from(length(at.to(post)));
-            let value = worth(count, time).saturating_sub(far.saturating_mul(1000));
+            let value = worth(count.saturating_mul(10), time).saturating_sub(far.saturating_mul(
+                1000,
+            ));
             let is_better = match best {
                 Some(other) => value > other.value,
                 None => true,
@@ -374,9 +380,9 @@ impl Schedule {
             return self.offer_alone(lists, from, number, item);
         }
         let (bots, time) = self.team_for(number, block)?;
-        let doublings = block.dimensions() as i64;
-        let worth = self.manner.big.saturating_mul(doublings).saturating_add(10);
-        let value = worth.saturating_mul(200_000) / time.saturating_add(1).max(1);
+        let doublings = block.dimensions().min(3) as i64;
+        let tenths = self.manner.big.saturating_mul(doublings).saturating_add(10);
+        let value = worth(tenths, time.saturating_add(1));
         Some(BoxOffer {
             value: value.max(0),
             number: item,
@@ -570,9 +576,9 @@ fn has_bit(bits: u64, number: u8) -> bool {
     bits / bit(number).max(1) % 2 == 1
 }
 
-/// What `count` boxes are worth that take `time` steps.
-fn worth(count: i64, time: i64) -> i64 {
-    count.saturating_mul(2_000_000) / time.max(1)
+/// The value of a team's work, in tenths of a box, that takes `time` steps.
+fn worth(tenths: i64, time: i64) -> i64 {
+    tenths.saturating_mul(200_000) / time.max(1)
 }
 
 /// The bit of a bot.

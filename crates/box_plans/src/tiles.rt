@@ -3,7 +3,7 @@
 //! Each tile of columns is cut from the floor up into boxes as thick as 31 layers if bots have columns beside its lower corners (a team
 //! of eight), else into layers (a team of four right above). The schedule builds the model with such boxes, and its steps are undone.
 use crate::blocks::{Block, CutBox, MOST_SIDE};
-use crate::positions::{HOME, Position};
+use crate::positions::{HOME, Position, apart};
 use crate::site::BuildSite;
 use std::alloc::Global;
 use vox_geom::Memory;
@@ -45,49 +45,53 @@ fn extent(site: &BuildSite) -> Option<Block> {
     tight(site, Block { low: HOME, high })
 }
 
+/// The voxels of a box with one x or, across, with one z.
+fn wall(block: Block, across: bool, at: i16) -> Block {
+    let Block { low, high } = block;
+    if across {
+        return Block {
+            low: Position { z: at, ..low },
+            high: Position { z: at, ..high },
+        };
+    }
+    Block {
+        low: Position { x: at, ..low },
+        high: Position { x: at, ..high },
+    }
+}
+
+/// The first wall of a box with voxels of the model, between two components.
+fn first_wall(site: &BuildSite, block: Block, across: bool, from: i16, to: i16) -> Option<i16> {
+    let step = if from <= to { 1 } else { -1 };
+    let mut at = from;
+    for _ in 0..apart(from, to).saturating_add(1) {
+        if site.has_goal_in(wall(block, across, at)) {
+            return Some(at);
+        }
+        at = at.saturating_add(step);
+    }
+    None
+}
+
 /// The part of a box along x and z that has voxels of the model. None if it has none.
 fn tight(site: &BuildSite, block: Block) -> Option<Block> {
     let Block { low, high } = block;
-    let mut found: Option<Block> = None;
-    for x in low.x..=high.x {
-        for z in low.z..=high.z {
-            if site.has_goal_between(x, z, low.y, high.y) {
-                found = Some(widened(found, block, x, z));
-            }
-        }
-    }
-    found
-}
-
-/// A part of a box, made as wide as to have a column.
-fn widened(part: Option<Block>, block: Block, x: i16, z: i16) -> Block {
-    let Some(part) = part else {
-        return Block {
-            low: Position {
-                x,
-                z,
-                y: block.low.y,
-            },
-            high: Position {
-                x,
-                z,
-                y: block.high.y,
-            },
-        };
-    };
-    let Block { low, high } = part;
-    Block {
+    let left = first_wall(site, block, false, low.x, high.x)?;
+    let right = first_wall(site, block, false, high.x, low.x)?;
+    let front = first_wall(site, block, true, low.z, high.z)?;
+    let back = first_wall(site, block, true, high.z, low.z)?;
+    Some(Block {
         low: Position {
-            x: low.x.min(x),
-            z: low.z.min(z),
+            x: left,
+            z: front,
             y: low.y,
         },
         high: Position {
-            x: high.x.max(x),
-            z: high.z.max(z),
+            x: right,
+            z: back,
             y: high.y,
         },
-    }
+    })
 }
 
 /// Returns whether a column has no voxel of the model between two heights.
@@ -115,8 +119,9 @@ fn is_open(site: &BuildSite, block: Block) -> bool {
 
 /// The component at which a part of a side begins.
 fn cut_at(from: i16, width: i16, part: i16, parts: i16) -> i16 {
-    let offset = i32::from(width).wrapping_mul(i32::from(part)) / i32::from(parts.max(1));
-    from.saturating_add(offset.max(0).min(1000) as i16)
+    let before = (width.max(0) as u32).wrapping_mul(part.max(0) as u32);
+    let offset = before / (parts.max(1) as u32).max(1);
+    from.saturating_add(offset.min(1000) as i16)
 }
 
 impl Tiling {
