@@ -4,6 +4,7 @@
 
 mod alone;
 mod bounds;
+mod boxed;
 mod builder;
 mod choice;
 mod crew;

@@ -7,8 +7,9 @@ ghost use Rattle.plan_choice.specs.Better.{CanImprove, MayStandFor};
 
 use crate::alone::is_void;
 use crate::bounds::Bounds;
+use crate::boxed::by_boxes;
 use crate::trials::{Trial, cheapest};
-use nano_spec::Profile;
+use nano_spec::{Command, Profile};
 use plan_tape::Plan;
 use squad_plans::Manner;
 use std::alloc::Global;
@@ -168,9 +169,9 @@ pub fn by_few(
     cheapest(alloc, source, target, profile, plan, trials, most, ceiling)
 }
 
-/// The plan, or one of a crew of as many bots as the bounds allow that builds from nothing or takes all down, where that is cheaper and
-/// within the bounds. A plan of one command, which is a Halt alone, stands.
-pub(crate) fn by_crew(
+/// The plan, or one of a crew of squads that builds from nothing or takes all down, if that is cheaper and within the bounds. A plan of
+/// one command, which is a Halt alone, stays.
+fn by_strips(
     alloc: Global,
     source: &Planes,
     target: &Planes,
@@ -198,4 +199,47 @@ pub(crate) fn by_crew(
     )?;
     let plan = cheapest(alloc, source, target, profile, plan, &CREWS, most, ceiling)?;
     Ok(plan)
+}
+
+/// Up to this resolution squads are tried, whatever the plan by boxes is like.
+const SMALL: u16 = 100;
+
+/// From this number of bots that fill or void in a step, on average, a plan is not better by squads.
+const BUSY: u64 = 2;
+
+/// Returns whether some bots fill or void in each step of a plan, on average. In a maze few do: a box waits until it is attached.
+fn is_busy(plan: &Plan) -> bool {
+    let mut count = 0u64;
+    for command in plan.commands.as_slice() {
+        let acts = match command {
+            Command::Fill(_) => true,
+            Command::Void(_) => true,
+            Command::GFill(_, _) => true,
+            Command::GVoid(_, _) => true,
+            _ => false,
+        };
+        count = count.saturating_add(u64::from(acts));
+    }
+    count >= u64::from(plan.steps).saturating_mul(BUSY)
+}
+
+/// The plan, or one of a crew of as many bots as the bounds allow that builds from nothing or takes all down, if that is cheaper and
+/// within the bounds: by boxes, and by squads if boxes keep few bots busy. A plan of one command, which is a Halt alone, stays.
+pub(crate) fn by_crew(
+    alloc: Global,
+    source: &Planes,
+    target: &Planes,
+    plan: Plan,
+    most: Bounds,
+) -> Result<Plan, Memory>
+    requires { CanImprove source.now target.now full_profile plan }
+    ensures stands { IfOk result (λ it. MayStandFor source.now target.now full_profile most plan it) }
+    ensures alone { length plan.commands ≡ 1 → IfOk result (λ it. it.commands ≡ plan.commands) }
+{
+    let boxed = by_boxes(alloc, source, target, plan, most)?;
+    if source.resolution() > SMALL && is_busy(&boxed) {
+        return Ok(boxed);
+    }
+    let squads = by_strips(alloc, source, target, boxed, most)?;
+    Ok(squads)
 }

@@ -9,6 +9,7 @@ use crate::extent::{extent_of, is_full_at};
 use crate::flips::{Work, lower_commands};
 use crate::rebuild::join;
 use crate::slabs::slabs;
+use box_plans::{BoxManner, boxes};
 use nano_spec::{CommandList, Profile};
 use plan_tape::Plan;
 use squad_plans::{Manner, Poled, Slabs, slabs_by_squads, squads, with_poles};
@@ -29,6 +30,8 @@ pub(crate) enum Trial {
     /// Squads of four that take all of the source down by slabs of so many layers, or build the target by the same backwards, with x and z
     /// as they are or exchanged.
     Fours(u16, bool),
+    /// Boxes, each filled by a team that is found anew, that build the target from nothing, or take all of the source down.
+    Boxes(BoxManner),
 }
 
 /// The most work of all trials besides as much as a model's space has voxels.
@@ -132,6 +135,7 @@ fn by_trial(
             };
             slabs_by_squads(alloc, if up { target } else { source }, manner)
         }
+        Trial::Boxes(_) => Ok(None),
     }
 }
 
@@ -159,6 +163,16 @@ fn propose(
     if let Trial::Squads(manner) = trial {
         return by_manner(alloc, source, target, manner, steps, bots);
     }
+    if let Trial::Boxes(manner) = trial {
+        let down = !is_void(source);
+        return boxes(
+            alloc,
+            if down { source } else { target },
+            down,
+            manner,
+            steps,
+        );
+    }
     let Some(commands) = by_trial(alloc, source, target, poled, trial, steps)? else {
         return Ok(None);
     };
@@ -172,6 +186,7 @@ fn is_turned(trial: Trial) -> bool {
         Trial::Slabs(_, _) => false,
         Trial::PoledSlabs(_, _) => false,
         Trial::Fours(_, turned) => turned,
+        Trial::Boxes(_) => false,
     }
 }
 

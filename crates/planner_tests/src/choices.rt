@@ -18,7 +18,7 @@ use vox_geom::Memory;
 use vox_planes::Planes;
 
 /// The model, if it is legal.
-fn checked(alloc: Global, model: Planes) -> Result<Planes, Memory>
+pub(crate) fn checked(alloc: Global, model: Planes) -> Result<Planes, Memory>
     ensures { IfOk result IsLegal }
 {
     match legal(alloc, &model) {
@@ -27,7 +27,7 @@ fn checked(alloc: Global, model: Planes) -> Result<Planes, Memory>
     }
 }
 
-fn costs(rt: &impl Abort, plan: &Plan, energy: i64, steps: u32) {
+pub(crate) fn costs(rt: &impl Abort, plan: &Plan, energy: i64, steps: u32) {
     assert_eq!(rt; plan.energy, energy);
     assert_eq!(rt; plan.steps, steps);
 }

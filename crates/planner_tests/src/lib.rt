@@ -14,3 +14,5 @@ mod low;
 mod models;
 #[cfg(test)]
 mod tapes;
+#[cfg(test)]
+mod teams;
