@@ -32,13 +32,15 @@ impl Airspace {
         self.put(joiner, gone);
     }
 
-    /// A bot without work flies home, or fuses with one that it meets: the one that is nearer to home stays.
+    /// A bot without work flies home, or fuses with one that it meets: the first bot stays, otherwise the one that is nearer to home. So
+    /// a plan begins and ends with the first bot, and another plan may follow.
     pub(crate) fn retire(&mut self, number: u8) {
         let at = self.bot(number).at;
         for (dx, dy, dz) in NEAR {
             let d = by(dx, dy, dz);
             if let Some(other) = self.partner(number, d) {
-                if length(HOME.to(at)) <= length(HOME.to(at.plus(d))) {
+                let is_nearer = length(HOME.to(at)) <= length(HOME.to(at.plus(d)));
+                if number == 0 || (other != 0 && is_nearer) {
                     self.fuse(number, other, d);
                 } else {
                     self.fuse(other, number, opposite(d));

@@ -3,6 +3,7 @@ use crate::blocks::{Block, MOST_SIDE};
 use crate::cut::Cutter;
 use crate::positions::Position;
 use crate::site::BuildSite;
+use crate::weights::index_of;
 
 /// How many columns a patch has along an axis at most.
 const EDGE: usize = 31;
@@ -40,15 +41,27 @@ fn width(from: usize, to: usize) -> usize {
     to.saturating_sub(from).saturating_add(1)
 }
 
+/// How many columns there are between two, with both.
+fn columns_between(from: i16, to: i16) -> usize {
+    index_of(to.saturating_sub(from))
+        .saturating_add(1)
+        .min(EDGE)
+}
+
+/// A part of a whole.
+fn share(whole: i16, parts: i16) -> i16 {
+    whole / parts.max(1)
+}
+
 /// The part of a row of columns that has one of them: parts are about equal, and at most 31 wide.
 fn part_of(low: i16, high: i16, at: i16) -> (i16, i16) {
     let count = high.saturating_sub(low).saturating_add(1).max(1);
     if count <= MOST_SIDE {
         return (low, high);
     }
-    let parts = count.saturating_add(MOST_SIDE - 1) / MOST_SIDE;
-    let size = (count.saturating_add(parts).saturating_sub(1) / parts.max(1)).max(1);
-    let skipped = (at.saturating_sub(low) / size).saturating_mul(size);
+    let parts = share(count.saturating_add(MOST_SIDE - 1), MOST_SIDE);
+    let size = share(count.saturating_add(parts).saturating_sub(1), parts).max(1);
+    let skipped = share(at.saturating_sub(low), size).saturating_mul(size);
     let from = low.saturating_add(skipped);
     (from, from.saturating_add(size).saturating_sub(1).min(high))
 }
@@ -81,18 +94,10 @@ impl Patch {
             x,
             z,
             y: seed.y,
-            wide: last_x
-                .saturating_sub(x)
-                .saturating_add(1)
-                .max(1)
-                .min(MOST_SIDE) as usize,
-            deep: last_z
-                .saturating_sub(z)
-                .saturating_add(1)
-                .max(1)
-                .min(MOST_SIDE) as usize,
-            own_x: seed.x.saturating_sub(x).max(0) as usize,
-            own_z: seed.z.saturating_sub(z).max(0) as usize,
+            wide: columns_between(x, last_x),
+            deep: columns_between(z, last_z),
+            own_x: index_of(seed.x.saturating_sub(x)),
+            own_z: index_of(seed.z.saturating_sub(z)),
             runs: [0; 961],
             seen: [false; 32],
         };

@@ -4,6 +4,7 @@
 //! home, and paths need no search: up, across, down.
 use crate::blocks::Block;
 use crate::positions::{NEIGHBORS, Position, by};
+use crate::weights::index_of;
 use std::alloc::Global;
 use vox_geom::{Coord, Memory};
 use vox_planes::Planes;
@@ -221,8 +222,8 @@ impl BuildSite {
         let Some(from) = self.index(Position { x, y: low, z }) else {
             return false;
         };
-        for k in 0..high.wrapping_sub(low).wrapping_add(1).max(0) {
-            if let Some(cell) = self.cells.get(from.wrapping_add(k as usize)) {
+        for k in 0..index_of(high.wrapping_sub(low).wrapping_add(1)) {
+            if let Some(cell) = self.cells.get(from.wrapping_add(k)) {
                 if *cell != VoxelState::Void {
                     return true;
                 }

@@ -353,7 +353,9 @@ impl Schedule {
                 .saturating_add(count)
                 .max(1);
             let far = i64::from(length(at.to(post)));
-            let value = worth(count, time).saturating_sub(far.saturating_mul(1000));
+            let value = worth(count.saturating_mul(10), time).saturating_sub(far.saturating_mul(
+                1000,
+            ));
             let is_better = match best {
                 Some(other) => value > other.value,
                 None => true,
@@ -378,9 +380,9 @@ impl Schedule {
             return self.offer_alone(lists, from, number, item);
         }
         let (bots, time) = self.team_for(number, block)?;
-        let doublings = block.dimensions() as i64;
-        let worth = self.manner.big.saturating_mul(doublings).saturating_add(10);
-        let value = worth.saturating_mul(200_000) / time.saturating_add(1).max(1);
+        let doublings = block.dimensions().min(3) as i64;
+        let tenths = self.manner.big.saturating_mul(doublings).saturating_add(10);
+        let value = worth(tenths, time.saturating_add(1));
         Some(BoxOffer {
             value: value.max(0),
             number: item,
@@ -574,9 +576,9 @@ fn has_bit(bits: u64, number: u8) -> bool {
     bits / bit(number).max(1) % 2 == 1
 }
 
-/// What `count` boxes are worth that take `time` steps.
-fn worth(count: i64, time: i64) -> i64 {
-    count.saturating_mul(2_000_000) / time.max(1)
+/// The value of a team's work, in tenths of a box, that takes `time` steps.
+fn worth(tenths: i64, time: i64) -> i64 {
+    tenths.saturating_mul(200_000) / time.max(1)
 }
 
 /// The bit of a bot.

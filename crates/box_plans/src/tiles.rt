@@ -117,10 +117,17 @@ fn is_open(site: &BuildSite, block: Block) -> bool {
         && is_corner_open(site, block, high.x, high.z, 1, 1)
 }
 
+/// How many parts of at most a width a side is cut into.
+fn parts_of(side: i16, width: i16) -> i16 {
+    let rounded = side.saturating_add(width).saturating_sub(1);
+    rounded.checked_div(width).unwrap_or(0)
+}
+
 /// The component at which a part of a side begins.
 fn cut_at(from: i16, width: i16, part: i16, parts: i16) -> i16 {
-    let offset = i32::from(width).wrapping_mul(i32::from(part)) / i32::from(parts.max(1));
-    from.saturating_add(offset.max(0).min(1000) as i16)
+    let before = (width.max(0) as u32).wrapping_mul(part.max(0) as u32);
+    let offset = before / (parts.max(1) as u32).max(1);
+    from.saturating_add(offset.min(1000) as i16)
 }
 
 impl Tiling {
@@ -239,7 +246,7 @@ impl Tiling {
     /// Cuts the tiles of a strip along z.
     fn cut_strip(&mut self, site: &BuildSite, strip: Block, width: i16) -> Result<(), Memory> {
         let deep = strip.high.z.saturating_sub(strip.low.z).saturating_add(1);
-        let parts = deep.saturating_add(width).saturating_sub(1) / width.max(1);
+        let parts = parts_of(deep, width);
         for part in 0..parts {
             let from = cut_at(strip.low.z, deep, part, parts);
             let to = cut_at(strip.low.z, deep, part.saturating_add(1), parts).saturating_sub(1);
@@ -261,7 +268,7 @@ impl Tiling {
     /// Cuts the extent of a model.
     fn cut(&mut self, site: &BuildSite, extent: Block, width: i16) -> Result<(), Memory> {
         let wide = extent.high.x.saturating_sub(extent.low.x).saturating_add(1);
-        let parts = wide.saturating_add(width).saturating_sub(1) / width.max(1);
+        let parts = parts_of(wide, width);
         for part in 0..parts {
             let from = cut_at(extent.low.x, wide, part, parts);
             let to = cut_at(extent.low.x, wide, part.saturating_add(1), parts).saturating_sub(1);

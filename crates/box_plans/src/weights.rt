@@ -143,7 +143,7 @@ impl Weights {
 }
 
 /// A component as an index.
-fn index_of(at: i16) -> usize {
+pub(crate) fn index_of(at: i16) -> usize {
     at.max(0) as usize
 }
 
