@@ -111,32 +111,18 @@ const BY_LARGE: BoxManner = BoxManner {
     ..PLAIN
 };
 
-/// Thick boxes at no price for what waits for them.
-const BY_SHAFTS: BoxManner = BoxManner {
-    cutting: CutStyle::Exact(Prices {
-        of: [2000, 5000, 22000, 30000],
-        shaft: 0,
-        ..GUARDED
-    }),
-    ..PLAIN
-};
-
 /// Ways to build a small model.
-const SMALL_UP: [Trial; 10] = [
+const SMALL_UP: [Trial; 6] = [
     Trial::Boxes(CLAIMS),
     Trial::Boxes(BY_GUARDS),
     Trial::Boxes(BY_FREE),
     Trial::Boxes(BY_SIDES),
-    Trial::Boxes(BY_MANY),
-    Trial::Boxes(BY_LARGE),
-    Trial::Boxes(BY_SHAFTS),
     Trial::Boxes(BoxManner {
         window: 30,
         extra: 0,
         look: false,
         ..BY_MANY
     }),
-    Trial::Boxes(BY_GUARDED_CLAIMS),
     Trial::Boxes(BoxManner {
         look: true,
         ..PLAIN
@@ -182,7 +168,7 @@ const BEST_TILES: BoxManner = BoxManner {
 };
 
 /// Ways to take a small model down.
-const SMALL_DOWN: [Trial; 8] = [
+const SMALL_DOWN: [Trial; 5] = [
     Trial::Boxes(TILES),
     Trial::Boxes(BEST_TILES),
     Trial::Boxes(BY_GUARDS),
@@ -193,19 +179,6 @@ const SMALL_DOWN: [Trial; 8] = [
     Trial::Boxes(BoxManner {
         cutting: CutStyle::Tiles(31, 1),
         big: 3,
-        ..PLAIN
-    }),
-    Trial::Boxes(BoxManner {
-        window: 12,
-        big: 0,
-        ..BEST_TILES
-    }),
-    Trial::Boxes(BoxManner {
-        cutting: CutStyle::Tiles(24, 0),
-        ..PLAIN
-    }),
-    Trial::Boxes(BoxManner {
-        cutting: CutStyle::Tiles(18, 0),
         ..PLAIN
     }),
 ];
