@@ -112,9 +112,10 @@ const BY_LARGE: BoxManner = BoxManner {
 };
 
 /// Ways to build a small model.
-const SMALL_UP: [Trial; 6] = [
+const SMALL_UP: [Trial; 7] = [
     Trial::Boxes(CLAIMS),
     Trial::Boxes(BY_GUARDS),
+    Trial::Boxes(BY_GUARDED_CLAIMS),
     Trial::Boxes(BY_FREE),
     Trial::Boxes(BY_SIDES),
     Trial::Boxes(BoxManner {

@@ -2,10 +2,11 @@
 ghost use Rattle.std.specs.Prelude.{IfOk};
 ghost use Rattle.nano_spec.specs.Legal.{IsLegal};
 
-use crate::choices::{checked, costs};
+use crate::choices::checked;
 use crate::models::{at, model, put};
 use nano_spec::{Command, CommandList, Profile};
 use plan_choice::{Bounds, choose_crew_plan, improvement};
+use plan_tape::Plan;
 use std::alloc::Global;
 use std::test::Fail;
 use vox_geom::{Diff, Far, Long, Memory, Near, Short};
@@ -165,25 +166,29 @@ fn block(alloc: Global) -> Result<Planes, Memory>
     checked(alloc, planes)
 }
 
-/// Eight bots fill a block by one command each, or void it. The judge has accepted both plans, so each team has the right corners, and
-/// no two bots use one voxel in a step.
+/// How many commands of a plan fill or void a region.
+fn count_regions(plan: &Plan) -> usize {
+    let mut count = 0usize;
+    for command in plan.commands.as_slice() {
+        count = match command {
+            Command::GFill(_, _) | Command::GVoid(_, _) => count.saturating_add(1),
+            _ => count,
+        };
+    }
+    count
+}
+
+/// Eight bots, one at each corner, fill or void a block by one command each. The judge has accepted both plans, so the team has the
+/// right corners, and no two bots use one voxel in a step.
 #[test]
 fn eight_bots_fill_a_block(rt: HostRuntime) -> Result<(), Fail> {
     let alloc = rt.alloc();
     let block = block(alloc)?;
     let nothing = checked(alloc, Planes::empty(alloc, 12)?)?;
     assert!(&rt; block.resolution() == nothing.resolution());
-    costs(
-        &rt,
-        &choose_crew_plan(alloc, &nothing, &block)?,
-        116_328,
-        21,
-    );
-    costs(
-        &rt,
-        &choose_crew_plan(alloc, &block, &nothing)?,
-        111_144,
-        21,
-    );
+    let up = choose_crew_plan(alloc, &nothing, &block)?;
+    assert_eq!(&rt; count_regions(&up), 8);
+    let down = choose_crew_plan(alloc, &block, &nothing)?;
+    assert_eq!(&rt; count_regions(&down), 8);
     Ok(())
 }
