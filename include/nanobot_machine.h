@@ -1,7 +1,7 @@
 /* nanobot's machine as a static library: a machine that the caller keeps between steps, for planners and searches.
  *
  * A handle keeps a machine on the heap. Each call is proved to do what docs/FORMATS.md says of a step, a level or a model; the
- * contracts stand in crates/machine_c/src. What nobody checks is what a caller in C owes:
+ * contracts are in crates/machine_c/src. What nobody checks is what a caller in C owes:
  *
  * - A handle begins as `nanobot_machine m = {0};` and is passed on as the last call left it. Nobody writes `at`, or through it.
  * - Never are two copies of a handle alive that has a machine: each would free it. Use nanobot_machine_copy for a second machine. To
@@ -10,7 +10,7 @@
  *   Calls that only read write to the handle too. Two handles that are passed are different ones.
  * - One thread at a time uses a handle. It may be another thread than the one that started it. Calls on different handles may run at
  *   the same time.
- * - What stands at the head of nanobot.h: pointers that are never null, also with a length of 0 (NANOBOT_NONE), and the program's malloc.
+ * - What the head of nanobot.h says: pointers that are never null, also with a length of 0 (NANOBOT_NONE), and the program's malloc.
  * - The thread has 64 KB of stack for the two starts and a copy, and 32 KB of stack for each other call. That is measured, too.
  *
  * A call that is refused, for whatever reason, leaves the machine as it was, and the next call finds it so. That holds after rule 12
@@ -133,8 +133,8 @@ typedef struct nanobot_step {
     uint32_t high, changed;
 } nanobot_step;
 
-/* How far a trace was played: the steps that were `made`, of the first `used` bytes, and where the machine stands after them, as
- * nanobot_state tells it. `offset` and `broken` are those of the step that was refused, as in nanobot_step, with `offset` counted from
+/* How far a trace was played: the steps that were `made`, of the first `used` bytes, and the machine's state after them, as in
+ * nanobot_state. `offset` and `broken` are those of the step that was refused, as in nanobot_step, with `offset` counted from
  * the beginning of the trace. */
 typedef struct nanobot_played {
     int64_t energy;
@@ -169,7 +169,7 @@ typedef struct nanobot_bot {
 /* Starts a machine over the legal model of these bytes, by the light profile or the full one. The last `notes` steps can be taken
  * back, at most 4096. A noted step keeps 6 bytes for each voxel that it changed: 722 MB were measured for 4096 steps that each fill or
  * void a box of 31 by 31 by 31 voxels, and 3.7 GB for five such boxes a step. A machine that the handle has is freed. NANOBOT_MODEL:
- * the model is refused, as *refusal tells.
+ * the model is refused, as *refusal says.
  *
  *     nanobot_machine machine = {0};
  *     nanobot_refusal refusal;
@@ -237,7 +237,7 @@ uint32_t nanobot_machine_copy(nanobot_machine *machine, nanobot_machine *copy);
  */
 uint32_t nanobot_machine_tell(nanobot_machine *machine, nanobot_state *state);
 
-/* Tells the active bots, in rising order of their bids. There are 40 at most. *count is how many there are; where they are more
+/* Writes the active bots, in rising order of their bids. There are 40 at most. *count is how many there are; if they are more
  * than `room` the status is NANOBOT_TOO_SMALL, and the buffer is as it was.
  *
  *     nanobot_bot bots[40];
@@ -274,8 +274,8 @@ uint32_t nanobot_machine_count(nanobot_machine *machine, uint32_t *count);
  */
 uint32_t nanobot_machine_model(nanobot_machine *machine, uint8_t *model, size_t room, size_t *size);
 
-/* Tells whether the matrix is the model of these bytes, which need not be legal. NANOBOT_DIFFERS: *place is the least coordinate
- * at which they differ. NANOBOT_RESOLUTION: they are of two resolutions. NANOBOT_MODEL: the bytes are no model, as *refusal tells.
+/* Compares the matrix with the model of these bytes, which need not be legal. NANOBOT_DIFFERS: *place is the least coordinate
+ * at which they differ. NANOBOT_RESOLUTION: they are of two resolutions. NANOBOT_MODEL: the bytes are no model, as *refusal says.
  * What does not belong to the status is 0.
  *
  *     nanobot_place place;
@@ -317,7 +317,7 @@ uint32_t nanobot_machine_remaining(nanobot_machine *machine, uint32_t *count);
  */
 uint32_t nanobot_machine_keep(nanobot_machine *machine);
 
-/* Gives the trace, if it is kept (else NANOBOT_NO_TRACE): its commands lead from the source to where the machine stands.
+/* Gives the trace, if it is kept (else NANOBOT_NO_TRACE): its commands lead from the source to the machine's state.
  *
  *     uint8_t made[1000];
  *     if (nanobot_machine_trace(&machine, made, sizeof made, &size) == NANOBOT_DONE) fwrite(made, 1, size, stdout);
@@ -331,7 +331,7 @@ uint32_t nanobot_machine_trace(nanobot_machine *machine, uint8_t *trace, size_t 
  */
 void nanobot_machine_end(nanobot_machine *machine);
 
-/* Counts the commands of a trace; nanobot_cost tells its energy and steps. NANOBOT_TRACE: *offset is the first byte
+/* Counts the commands of a trace; nanobot_cost returns its energy and steps. NANOBOT_TRACE: *offset is the first byte
  * of a command that is bad or cut. What does not belong to the status is 0.
  *
  *     uint64_t commands, offset;

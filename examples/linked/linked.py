@@ -37,12 +37,12 @@ def load(path):
 
 
 def lend(data):
-    """A pointer and a length. None would be a null pointer, which no call takes, also where the length is 0."""
+    """A pointer and a length. None would be a null pointer, which no call takes, also if the length is 0."""
     return (ctypes.c_uint8 * (len(data) + 1)).from_buffer_copy(data + b"\0"), len(data)
 
 
 def given(call, *lent):
-    """The status and the bytes that a call gives, whose buffer is made larger where it is too small."""
+    """The status and the bytes that a call gives, whose buffer is made larger if it is too small."""
     room = LINE
     while True:
         buffer = (ctypes.c_uint8 * room)()

@@ -31,7 +31,7 @@ def score(machine):
 
 
 def accepts(machine, commands):
-    """What the step would come to; None where it is refused."""
+    """The outcome of the step; None if it is refused."""
     try:
         return machine.judge(commands)
     except NanobotError:
@@ -39,7 +39,7 @@ def accepts(machine, commands):
 
 
 def search(machine, depth):
-    """The best score that so many moves lead to, and the first of them."""
+    """The best score after `depth` moves, and the first of them."""
     if depth == 0:
         return score(machine), None
     best = (2**32, 0), None
@@ -56,7 +56,7 @@ def search(machine, depth):
 
 
 def check(made, scout, trace):
-    """Both machines stand alike, and the trace is that of its own text."""
+    """Both machines are alike, and the trace is that of its own text."""
     assert made.state[:5] == scout.state[:5] and made.count() == scout.count() and nanobot.version() >= "0.9.0"
     assert all(made.full((x, 0, 1)) == (made.level((x, 0, 1)) is not None) for x in range(made.state.resolution))
     assert nanobot.asm(nanobot.dis(trace)) == trace and nanobot.count_commands(trace) == made.steps

@@ -16,7 +16,7 @@ fn bytes_of(name: &str) -> std::io::Result<Vec<u8>> {
     std::fs::read(name)
 }
 
-/// What is told of a run of these files.
+/// The status and the line of a run of these files.
 fn judge(source: &str, target: &str, trace: &str, light: bool) -> std::io::Result<nanobot::Told> {
     Ok(nanobot::judge(&bytes_of(source)?, &bytes_of(target)?, &bytes_of(trace)?, light))
 }
@@ -28,7 +28,7 @@ fn cost(source: &str, target: &str, trace: &str, light: bool) -> std::io::Result
     Ok((status, line.into_bytes()))
 }
 
-/// Stores a plan, and tells what it costs.
+/// Stores a plan, and returns what it costs.
 fn plan(planner: Planner, source: &str, target: &str, trace: &str) -> std::io::Result<nanobot::Told> {
     let (source, target) = (bytes_of(source)?, bytes_of(target)?);
     let (status, made) = nanobot::plan(planner, &source, &target);

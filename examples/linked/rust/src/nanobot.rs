@@ -73,7 +73,7 @@ mod sys {
     }
 }
 
-/// The status where all is well.
+/// The status if all is well.
 pub const DONE: u32 = 0;
 
 /// The status of a buffer that is too small.
@@ -93,7 +93,7 @@ pub enum Planner {
     Swarm,
 }
 
-/// What a call gives into a buffer, which is made larger where it is too small.
+/// What a call gives into a buffer, which is made larger if it is too small.
 fn given(call: impl Fn(&mut [u8], &mut usize) -> u32) -> Told {
     let mut buffer = vec![0; 200];
     loop {
@@ -137,7 +137,7 @@ pub fn judge(source: &[u8], target: &[u8], trace: &[u8], light: bool) -> Told {
     })
 }
 
-/// Judges as `judge` does: the status, the energy and the steps, both 0 where the run is not accepted.
+/// Judges as `judge` does: the status, the energy and the steps, both 0 if the run is not accepted.
 pub fn cost(source: &[u8], target: &[u8], trace: &[u8], light: bool) -> (u32, i64, u32) {
     let (mut energy, mut steps) = (0, 0);
     // SAFETY: as above, and both numbers are borrowed for the call alone.
