@@ -9,11 +9,8 @@ use crate::tasks::BotTask;
 use std::alloc::Global;
 use vox_geom::{Diff, Memory};
 
-/// The most work for each voxel of a model's space.
-const WORK_EACH: u64 = 100;
-
-/// The most work besides.
-const MOST_WORK: u64 = 1_000_000_000;
+/// The most work of a schedule.
+const MOST_WORK: u64 = 800_000_000;
 
 /// A bot: its position after its task, its job with its post, how often it was blocked, how long it waited for a good box, and its first
 /// seed with the number of its seeds.
@@ -164,8 +161,7 @@ impl Airspace {
 
     /// Returns whether more work was done than is worth it.
     pub(crate) fn is_over(&self) -> bool {
-        let voxels = self.site.volume() as u64;
-        self.work > voxels.saturating_mul(WORK_EACH).saturating_add(MOST_WORK)
+        self.work > MOST_WORK
     }
 
     /// Begins a step: all positions of bots are reserved.

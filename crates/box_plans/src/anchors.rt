@@ -122,7 +122,7 @@ impl Anchors {
                 return false;
             };
             if *anchor != END {
-                held = held || site.is_index_full(*anchor);
+                held = held || site.is_index_full(*anchor as usize);
             } else if held {
                 held = false;
             } else {

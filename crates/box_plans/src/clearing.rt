@@ -3,7 +3,7 @@
 use crate::airspace::{Airspace, CrewBot};
 use crate::jobs::position_of;
 use crate::poles::TemporaryPole;
-use crate::positions::{LONG, NEIGHBORS, Position, SIDES, apart, by};
+use crate::positions::{HOME, LONG, NEIGHBORS, Position, SIDES, apart, by, moves_between};
 use crate::record::MOST_BOTS;
 use crate::search::{SearchGoal, Searcher, reversed};
 use crate::tasks::BotTask;
@@ -16,8 +16,8 @@ const LONG_POLE: i16 = 8;
 /// More steps than all poles take.
 const MOST_STEPS: u32 = 6000;
 
-/// The most voxels that are searched for paths.
-const MOST_SEARCHED: u64 = 100_000_000;
+/// The work to send a bot to a part of a pole, in voxels that a search finds.
+const WORK_TO_SEND: u64 = 10;
 
 /// A part of a pole: whether it is voided upward, and whether a bot has it or had it.
 #[derive(Clone, Copy, Debug)]
@@ -39,13 +39,12 @@ struct Errand {
     over: bool,
 }
 
-/// All parts of poles, and the bots that void them.
+/// All parts of poles, and the last errand of each bot.
 #[derive(Drop)]
 struct Clearing {
     parts: Vec<PolePart>,
     errands: Vec<Errand>,
     searcher: Searcher,
-    free: Vec<Position>,
 }
 
 /// The parts of some poles.
@@ -74,6 +73,33 @@ fn parts_of(alloc: Global, poles: &[TemporaryPole]) -> Result<Vec<PolePart>, Mem
         parts.push(part).map_err(|_| Memory)?;
     }
     Ok(parts)
+}
+
+/// An errand of each bot that is over.
+fn no_errands(alloc: Global) -> Result<Vec<Errand>, Memory> {
+    let pole = TemporaryPole {
+        foot: HOME,
+        high: 0,
+    };
+    let part = PolePart {
+        pole,
+        up: false,
+        taken: true,
+    };
+    let mut errands = Vec::new(alloc);
+    for bot in 0..MOST_BOTS {
+        let errand = Errand {
+            bot,
+            part,
+            path: Vec::new(alloc),
+            at: 0,
+            blocked: 0,
+            home: false,
+            over: true,
+        };
+        errands.push(errand).map_err(|_| Memory)?;
+    }
+    Ok(errands)
 }
 
 /// The first post of a bot beside a part of a pole.
@@ -260,18 +286,24 @@ impl Clearing {
 
     /// Returns whether a bot is on its way to a pole or at one.
     fn is_busy(&self, bot: u8) -> bool {
-        for errand in self.errands.as_slice() {
-            if errand.bot == bot && !errand.over && !errand.home {
-                return true;
-            }
+        match self.errands.get(usize::from(bot)) {
+            Some(errand) => !errand.over && !errand.home,
+            None => false,
         }
-        false
     }
 
     /// Returns whether a bot has an errand, be it on its way back.
     fn has_errand(&self, bot: u8) -> bool {
-        for errand in self.errands.as_slice() {
-            if errand.bot == bot && !errand.over {
+        match self.errands.get(usize::from(bot)) {
+            Some(errand) => !errand.over,
+            None => false,
+        }
+    }
+
+    /// Returns whether some bot is free for an errand.
+    fn has_free(&self, air: &Airspace) -> bool {
+        for number in 0..MOST_BOTS {
+            if air.bot(number).active && !self.is_busy(number) {
                 return true;
             }
         }
@@ -292,27 +324,19 @@ impl Clearing {
         false
     }
 
-    /// Lists the positions of the free bots. Returns whether there are any.
-    fn list_free(&mut self, air: &Airspace) -> Result<bool, Memory> {
-        self.free.clear();
+    /// The free bot that is nearest to a position, if there is one; of those that are equally near, the first one.
+    fn nearest_free(&self, air: &Airspace, post: Position) -> Option<u8> {
+        let mut nearest = None;
+        let mut least = i32::MAX;
         for number in 0..MOST_BOTS {
             let bot = air.bot(number);
-            if bot.active && !self.is_busy(number) {
-                self.free.push(bot.at).map_err(|_| Memory)?;
+            let moves = moves_between(bot.at, post);
+            if bot.active && !self.is_busy(number) && moves < least {
+                least = moves;
+                nearest = Some(number);
             }
         }
-        Ok(!self.free.is_empty())
-    }
-
-    /// Ends the errand of a bot.
-    fn end_errand(&mut self, bot: u8) {
-        for i in 0..self.errands.len() {
-            if let Some(errand) = self.errands.get_mut(i) {
-                if errand.bot == bot {
-                    errand.over = true;
-                }
-            }
-        }
+        nearest
     }
 
     /// The nearest free bot gets a part of a pole, which it voids from a column. Returns whether one does.
@@ -327,40 +351,31 @@ impl Clearing {
             return Ok(false);
         }
         let post = first_post(part, beside);
-        let found = self.searcher.path_to(
-            alloc,
-            &air.site,
-            post,
-            SearchGoal::Listed,
-            self.free.as_slice(),
-        )?;
-        let Some(path) = found else {
+        let Some(bot) = self.nearest_free(air, post) else {
             return Ok(false);
         };
-        let first = position_of(path.as_slice(), 0);
-        let Some(bot) = air.bot_at(first) else {
+        let at = air.bot(bot).at;
+        let Some(path) = self.searcher.route(alloc, &air.site, at, post)? else {
             return Ok(false);
         };
-        self.end_errand(bot);
         air.mark_posted(bot, true);
-        let errand = Errand {
-            bot,
-            part,
-            path,
-            at: 0,
-            blocked: 0,
-            home: false,
-            over: false,
-        };
-        self.errands.push(errand).map_err(|_| Memory)?;
+        if let Some(errand) = self.errands.get_mut(usize::from(bot)) {
+            *errand = Errand {
+                bot,
+                part,
+                path,
+                at: 0,
+                blocked: 0,
+                home: false,
+                over: false,
+            };
+        }
         Ok(true)
     }
 
     /// Some bot gets a part of a pole, if it can come to one of its sides.
     fn send(&mut self, alloc: Global, air: &mut Airspace, part: PolePart) -> Result<bool, Memory> {
-        if !self.list_free(air)? {
-            return Ok(false);
-        }
+        self.searcher.count(WORK_TO_SEND);
         for (dx, dy, dz) in SIDES {
             let beside = part.pole.foot.plus(by(dx, dy, dz));
             if self.send_to(alloc, air, part, beside)? {
@@ -373,6 +388,7 @@ impl Clearing {
     /// All parts that no bot has had get one, as far as there are any. Returns how many are left.
     fn send_all(&mut self, alloc: Global, air: &mut Airspace) -> Result<usize, Memory> {
         let mut left = 0usize;
+        let mut free = self.has_free(air);
         for i in 0..self.parts.len() {
             let Some(part) = self.part(i) else {
                 break;
@@ -380,11 +396,14 @@ impl Clearing {
             if part.taken {
                 continue;
             }
-            let taken = self.send(alloc, air, part)?;
-            if let Some(place) = self.parts.get_mut(i) {
-                place.taken = taken;
+            if !free || !self.send(alloc, air, part)? {
+                left = left.saturating_add(1);
+                continue;
             }
-            left = left.saturating_add(usize::from(!taken));
+            if let Some(place) = self.parts.get_mut(i) {
+                place.taken = true;
+            }
+            free = self.has_free(air);
         }
         Ok(left)
     }
@@ -413,10 +432,7 @@ impl Clearing {
             return Ok(());
         }
         let at = air.bot(errand.bot).at;
-        let none: [Position; 0] = [];
-        let found = self
-            .searcher
-            .path_to(alloc, &air.site, end, SearchGoal::At(at), &none)?;
+        let found = self.searcher.route(alloc, &air.site, at, end)?;
         if let Some(path) = found {
             errand.path = path;
             errand.at = 0;
@@ -430,10 +446,9 @@ impl Clearing {
             return Ok(true);
         };
         let at = air.bot(errand.bot).at;
-        let none: [Position; 0] = [];
         let found = self
             .searcher
-            .path_to(alloc, &air.site, at, SearchGoal::Sky, &none)?;
+            .path_to(alloc, &air.site, at, SearchGoal::Sky)?;
         let Some(path) = found else {
             return Ok(false);
         };
@@ -523,16 +538,15 @@ pub(crate) fn clear_poles(
 ) -> Result<bool, Memory> {
     let mut clearing = Clearing {
         parts: parts_of(alloc, poles)?,
-        errands: Vec::new(alloc),
+        errands: no_errands(alloc)?,
         searcher: Searcher::new(alloc, &air.site)?,
-        free: Vec::new(alloc),
     };
     for _ in 0..MOST_STEPS {
         let left = clearing.send_all(alloc, air)?;
         if clearing.is_idle() {
             return Ok(left == 0);
         }
-        if clearing.searcher.work > MOST_SEARCHED || !clearing.step(alloc, air, left)? {
+        if clearing.searcher.is_over() || !clearing.step(alloc, air, left)? {
             return Ok(false);
         }
     }

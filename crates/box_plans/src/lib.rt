@@ -20,6 +20,7 @@ mod plans;
 mod poles;
 mod positions;
 mod record;
+mod routes;
 mod schedule;
 mod search;
 mod site;

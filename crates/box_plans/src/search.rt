@@ -11,15 +11,16 @@ const START: u32 = 6;
 /// How many marks a search uses.
 const EACH: u32 = 8;
 
+/// The most voxels that all searches find.
+const MOST_FOUND: u64 = 30_000_000;
+
 /// What a search looks for.
 #[derive(Clone, Copy, Debug)]
 pub(crate) enum SearchGoal {
-    /// A position.
-    At(Position),
-    /// One of the positions of a list.
-    Listed,
     /// The sky.
     Sky,
+    /// A position, or the sky.
+    SkyOr(Position),
 }
 
 /// In which direction each voxel was found, with the number of the search that found it.
@@ -28,7 +29,7 @@ pub(crate) struct Searcher {
     marks: Vec<u32>,
     queue: Vec<Position>,
     number: u32,
-    pub(crate) work: u64,
+    found: u64,
 }
 
 /// The difference to a neighbor.
@@ -46,7 +47,7 @@ impl Searcher {
             marks: vec![in alloc; 0u32; site.volume()]?,
             queue: Vec::new(alloc),
             number: 0,
-            work: 0,
+            found: 0,
         })
     }
 
@@ -61,15 +62,16 @@ impl Searcher {
 
     /// Keeps a voxel that is void, if it was not found before.
     fn add(&mut self, site: &BuildSite, c: Position, direction: u32) -> Result<(), Memory> {
-        if !site.is_open(c) || self.direction(site, c).is_some() {
-            return Ok(());
-        }
         let Some(index) = site.index(c) else {
             return Ok(());
         };
-        if let Some(mark) = self.marks.get_mut(index) {
-            *mark = self.number.wrapping_mul(EACH).wrapping_add(direction);
+        let Some(mark) = self.marks.get_mut(index) else {
+            return Ok(());
+        };
+        if *mark / EACH == self.number || site.is_index_full(index) {
+            return Ok(());
         }
+        *mark = self.number.wrapping_mul(EACH).wrapping_add(direction);
         self.queue.push(c).map_err(|_| Memory)
     }
 
@@ -107,15 +109,27 @@ impl Searcher {
         Ok(path)
     }
 
-    /// The shortest path from the nearest goal to a position, with both. None if there is none.
+    /// Counts work that takes as long as finding that number of voxels.
+    pub(crate) fn count(&mut self, voxels: u64) {
+        self.found = self.found.saturating_add(voxels);
+    }
+
+    /// Returns whether more voxels were found than is worth it.
+    pub(crate) fn is_over(&self) -> bool {
+        self.found > MOST_FOUND
+    }
+
+    /// The shortest path from the nearest goal to a position, with both. None if there is none, or too many voxels were found.
     pub(crate) fn path_to(
         &mut self,
         alloc: Global,
         site: &BuildSite,
         to: Position,
         goal: SearchGoal,
-        listed: &[Position],
     ) -> Result<Option<Vec<Position>>, Memory> {
+        if self.is_over() {
+            return Ok(None);
+        }
         self.number = self.number.wrapping_add(1);
         self.queue.clear();
         self.add(site, to, START)?;
@@ -124,13 +138,12 @@ impl Searcher {
                 Some(at) => *at,
                 None => break,
             };
-            self.work = self.work.saturating_add(1);
-            let is_found = match goal {
-                SearchGoal::At(spot) => spot == at,
-                SearchGoal::Listed => listed.contains(&at),
-                SearchGoal::Sky => site.is_sky(at),
+            self.count(1);
+            let is_other = match goal {
+                SearchGoal::Sky => false,
+                SearchGoal::SkyOr(spot) => spot == at,
             };
-            if is_found {
+            if is_other || site.is_sky(at) {
                 return Ok(Some(self.path_back(alloc, site, at)?));
             }
             self.add_neighbors(site, at)?;

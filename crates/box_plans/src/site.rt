@@ -141,8 +141,8 @@ impl BuildSite {
     }
 
     /// Returns whether the voxel with an index is full.
-    pub(crate) fn is_index_full(&self, index: u32) -> bool {
-        match self.cells.get(index as usize) {
+    pub(crate) fn is_index_full(&self, index: usize) -> bool {
+        match self.cells.get(index) {
             Some(cell) => *cell == VoxelState::Full,
             None => false,
         }

@@ -1,34 +1,34 @@
-//! What a bot does in a step, and the command for it.
+//! A bot's task in a step, and the command for it.
 use crate::positions::by;
 use nano_spec::Command;
 use vox_geom::{Diff, Far, Long, Near, Short};
 
-/// What a bot does in a step. Differences lead from the bot.
+/// A bot's task in a step. Differences start at the bot.
 #[derive(Clone, Copy, Debug)]
 pub(crate) enum BotTask {
-    /// Nothing.
+    /// Does nothing.
     Wait,
-    /// A move along one axis.
+    /// Moves along one axis.
     Move(Diff),
-    /// A move along two axes, one after the other.
+    /// Moves along one axis, and then along another.
     Bend(Diff, Diff),
     /// Fills a voxel.
     Fill(Diff),
     /// Voids a voxel.
     Void(Diff),
-    /// Fills a box together with others: from the corner near this bot to the opposite one.
+    /// Fills a box together with other bots. The box spans from the corner near this bot to the opposite one.
     Group(Diff, Diff),
     /// Voids a box in the same way.
     GroupVoid(Diff, Diff),
-    /// Makes the bot with this number there.
+    /// Splits: the new bot, of this number, is at the difference.
     Split(Diff, u8),
-    /// Takes the bot with this number up, which is there.
+    /// Fuses, as the primary, with the bot of this number at the difference.
     Lead(Diff, u8),
-    /// Is taken up by the bot that is there.
+    /// Fuses, as the secondary, with the bot at the difference.
     Join(Diff),
 }
 
-/// The difference that leads back.
+/// Returns the difference that leads back.
 pub(crate) fn opposite(d: Diff) -> Diff {
     by(
         d.dx.wrapping_neg(),
@@ -37,7 +37,7 @@ pub(crate) fn opposite(d: Diff) -> Diff {
     )
 }
 
-/// What undoes a task. A bot that was taken up is made anew by the one that took it up, so it does nothing.
+/// Returns the task that undoes a task. For `Join` that is `Wait`, because the primary makes the bot anew.
 pub(crate) fn undoing(task: BotTask) -> BotTask {
     match task {
         BotTask::Wait => BotTask::Wait,
@@ -53,7 +53,7 @@ pub(crate) fn undoing(task: BotTask) -> BotTask {
     }
 }
 
-/// The command for a task; a new bot gets `seeds` seeds. None if a difference is too long for it.
+/// Returns the command for a task, or `None` if a difference is too long for it. A new bot gets `seeds` seeds.
 fn command_if_near(task: BotTask, seeds: u8) -> Option<Command> {
     match task {
         BotTask::Wait => Some(Command::Wait),
@@ -69,7 +69,7 @@ fn command_if_near(task: BotTask, seeds: u8) -> Option<Command> {
     }
 }
 
-/// The command for a task: a Wait if a difference is too long for it.
+/// Returns the command for a task, or a Wait if a difference is too long for it.
 pub(crate) fn command_of(task: BotTask, seeds: u8) -> Command {
     match command_if_near(task, seeds) {
         Some(command) => command,

@@ -1,4 +1,4 @@
--- A proposal that is better than a plan may stand in its place.
+-- A proposal that is better than a plan may replace it.
 use Rattle.std.proofs.Common.{◌≡◌, ◌∙◌, ap, arith, subst, sym, List, [], ◌∷◌, length}
 use Rattle.std.specs.Prelude.{ℤ}
 use Rattle.std.proofs.lemmas.Int.{ints}
@@ -13,7 +13,7 @@ use Rattle.plan_choice.specs.declared.bounds.Bounds.{Bounds}
 use Rattle.plan_choice.specs.declared.choice.Price.{Price}
 use Rattle.plan_choice.specs.Better.{IsBetter, MayStandFor}
 
--- a plan may stand for itself
+-- a plan may replace itself
 pub stays : (source target : Matrix) (profile : Profile) (most : Bounds) (plan : Plan)
     → IsAccepted source target plan.commands profile plan.energy plan.steps
     → MayStandFor source target profile most plan plan
@@ -26,7 +26,7 @@ stays source target profile most plan accepted = record {
   bots = λ h. h;
 }
 
--- the proposal of this cost, where it was found better
+-- the proposal of this cost, if it was found better
 pub taken : (source target : Matrix) (profile : Profile) (most : Bounds) (plan : Plan) (proposal : List Command)
     (cost : Price) (energy : ℤ) → energy ≡ cost.energy
     → IsAccepted source target proposal profile cost.energy cost.steps
@@ -41,7 +41,7 @@ taken source target profile most plan proposal cost energy same accepted within 
   bots = λ _. few_at_most source profile proposal most.bots (let few = within.fissions_are in omega (arith, few));
 }
 
--- what may stand for a plan that may stand for another one may stand for that one
+-- the relation is transitive
 pub in_turn : (source target : Matrix) (profile : Profile) (most : Bounds) (plan first it : Plan)
     → MayStandFor source target profile most plan first → MayStandFor source target profile most first it
     → MayStandFor source target profile most plan it

@@ -16,7 +16,7 @@ use Rattle.plan_choice.specs.Crew.{IsForCrew, IsLeast, IsNoMoreThan, Replaces}
 use Rattle.plan_choice.proofs.Lengths.{few_commands, four_each, layer_fits, low_fits, swarm_fits, two_each, void_fits, volume_most}
 use Rattle.plan_choice.specs.Planners.{crew_limit, IsGroupPlan, IsLayerPlan, IsLowPlan, IsNoDearer, IsSwarmPlan, IsVoidPlan, PlanFacts}
 
--- ---- the one of two plans that stands
+-- ---- the cheaper one of two plans
 
 pub either_crew : (source target : Matrix) (first second it : Plan) → IsForCrew source target first
     → IsForCrew source target second → Replaces first second it → IsForCrew source target it
@@ -26,18 +26,18 @@ either_crew source target first second it a b h = by h.either
     by (inl e) = subst (λ (p : Plan). IsForCrew source target p) (sym e) a
     by (inr e) = subst (λ (p : Plan). IsForCrew source target p) (sym e) b
 
--- what costs no more than another planner's plan
+-- an energy that is at most another planner's plan's
 pub no_dearer : (Is : PlanFacts) (source target : Matrix) (other : Plan) (energy : ℤ)
     → Is source target other.commands other.energy other.steps → energy ≤ℤ other.energy
     → IsNoDearer Is source target energy
 no_dearer Is source target other energy is h = (other.commands, other.energy, other.steps, is, h)
 
--- and what costs no more than that
+-- and one that is at most that
 pub cheaper_still : (Is : PlanFacts) (source target : Matrix) (energy paid : ℤ) → energy ≤ℤ paid
     → IsNoDearer Is source target paid → IsNoDearer Is source target energy
 cheaper_still Is source target energy paid l h = (h.0, h.1, h.2, h.3, let k = h.4 in omega (arith, ints, l, k))
 
--- what costs no more than a plan that was sought below a ceiling, and than the ceiling, costs no more than its least energy
+-- an energy that is at most that of a plan found with a ceiling, and at most the ceiling, is at most the plan's least energy
 pub under_least : (ceiling energy least it : ℤ) → IsLeast ceiling energy least → it ≤ℤ ceiling → it ≤ℤ energy
     → it ≤ℤ least
 under_least ceiling energy least it h under below = by h.either
@@ -46,7 +46,7 @@ under_least ceiling energy least it h under below = by h.either
     by (inl l) = omega (arith, ints, under, l)
     by (inr l) = omega (arith, ints, below, l)
 
--- what costs less still than that
+-- and one that is less than that
 pub less_than : (energy paid : ℤ) (asked : Option LeastEnergy) → energy ≤ℤ paid → IsNoMoreThan paid asked
     → IsNoMoreThan energy asked
 less_than energy paid asked l h = (h.0, h.1, let k = h.2 in omega (arith, ints, l, k))

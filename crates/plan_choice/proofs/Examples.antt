@@ -1,4 +1,4 @@
--- The worked examples of what is so of plans, by computing their numbers.
+-- The worked examples of the facts of plans, by computing their numbers.
 use Rattle.std.proofs.Common.{◌≡◌, ℕ, ◌≤ℤ◌, pos, [], refl, sym, ap, arith}
 use Rattle.std.proofs.lemmas.Int.{ints}
 use Rattle.nano_spec.specs.Matrix.{empty, full_count}

@@ -1,4 +1,4 @@
--- How many commands and bytes an accepted trace has at most, where few bots are active at once.
+-- The most commands and bytes of an accepted trace with few active bots.
 use Rattle.std.proofs.Common.{◌≡◌, ◌∙◌, ℕ, suc, ◌+◌, ◌*◌, ◌/◌, ◌≤◌, List, [], ◌∷◌, ◌++◌, refl, sym, ap, subst, arith, length, take, drop, append_assoc, mul-le-mul}
 use Rattle.std.specs.Prelude.{ℤ, All, Option, Some, None}
 use Rattle.std.proofs.lemmas.List.{length-append, length-take, take-append-drop}

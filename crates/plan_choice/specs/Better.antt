@@ -1,4 +1,4 @@
--- When a proposal is better than a plan, and what is so of the plan that stands in the end.
+-- When a proposal is better than a plan, and the facts of the final plan.
 use Rattle.std.specs.Prelude.{◌≡◌, ℕ, ◌<◌, ◌≤◌, ℤ, ◌<ℤ◌, ◌≤ℤ◌, List, None, count_by, length}
 use Rattle.nano_spec.specs.declared.commands.Command.{Command}
 use Rattle.nano_spec.specs.declared.system.Profile.{Profile}
@@ -26,8 +26,8 @@ pub record IsBetter (than : ℤ) (most : Bounds) (commands : List Command) (ener
   pub bytes_are : length (spellings commands) ≤ most.bytes
   pub fissions_are : count_by is_fission commands < most.bots
 
--- a plan that may stand in the place of another: the definitions accept it, it is no dearer, and it keeps each bound
--- that the other keeps
+-- a plan that may replace another: the definitions accept it, it is no dearer, and it keeps each bound that the other
+-- keeps
 pub record MayStandFor (source target : Matrix) (profile : Profile) (most : Bounds) (plan it : Plan) : Type 0 where
   pub accepted : IsAccepted source target it.commands profile it.energy it.steps
   pub energy : it.energy ≤ℤ plan.energy

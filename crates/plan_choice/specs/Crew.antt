@@ -1,4 +1,4 @@
--- A crew's plan in the making, and the one of two plans that stands.
+-- A crew's plan in the making, and the choice of one of two plans.
 use Rattle.std.specs.Prelude.{◌≡◌, ◌⊎◌, ◌≤◌, ℤ, ◌≤ℤ◌, Option, Some, None, length}
 use Rattle.nano_spec.specs.Legal.{IsLegal}
 use Rattle.nano_spec.specs.Matrix.{Matrix, empty}
@@ -16,13 +16,13 @@ pub record IsForCrew (source target : Matrix) (it : Plan) : Type 0 where
   pub plan : IsPlan full_profile 40 source target it.commands it.energy it.steps
   pub few_bytes : length (spellings it.commands) ≤ crew_limit
 
--- a crew's plan to a legal target, in whose place one from nothing may stand where the source is empty
+-- a crew's plan to a legal target, which a plan from nothing may replace if the source is empty
 pub record MayBuildInstead (from to : Matrix) (plan : Plan) : Type 0 where
   pub target : IsLegal to
   pub same : from.resolution ≡ to.resolution
   pub crew : IsForCrew from to plan
 
--- the plan that stands is one of two, and costs no more than either
+-- the chosen plan is one of two, and costs no more than either
 pub record Replaces (first second it : Plan) : Type 0 where
   pub either : (it ≡ first) ⊎ (it ≡ second)
   pub as_first : it.energy ≤ℤ first.energy
@@ -35,11 +35,11 @@ pub record IsLeast (ceiling energy least : ℤ) : Type 0 where
   pub as_found : least ≤ℤ energy
   pub either : (ceiling ≤ℤ least) ⊎ (energy ≤ℤ least)
 
--- a planner was asked, and no plan of its own costs less than that, as far as it was sought
+-- the planner ran, and found no plan that costs less than that, as far as it searched
 abbrev pub IsNoMoreThan : ℤ → Option LeastEnergy → Type 0
 IsNoMoreThan energy asked = (least : LeastEnergy) × (asked ≡ Some least) × (energy ≤ℤ least.energy)
 
--- a crew's plan, and each other planner that makes plans of such models was asked for one that costs less
+-- a crew's plan; each other planner that makes plans of such models ran with its energy as the ceiling
 pub record IsCheapest (source target : Matrix) (crew : Crew) : Type 0 where
   pub plan : IsCrewPlan source target crew.plan.commands crew.plan.energy crew.plan.steps
   pub as_layer : crew.plan.energy ≤ℤ crew.layer.energy

@@ -1,4 +1,4 @@
--- What is so of the plans that are made, planner by planner (docs/FORMATS.md, "Printed lines").
+-- The facts of the plans, planner by planner (docs/FORMATS.md, "Printed lines").
 use Rattle.std.specs.Prelude.{◌≡◌, ℕ, ◌+◌, ◌*◌, ◌≤◌, ℤ, ◌≤ℤ◌, All, List, None, [], ◌∷◌, length}
 use Rattle.nano_spec.specs.declared.commands.Command.{Command}
 use Rattle.nano_spec.specs.declared.commands.Command.TheVariants.{Halt}
@@ -17,12 +17,12 @@ use Rattle.plan_tape.specs.Reaches.{HasAtMost}
 use Rattle.swarm_planner.specs.Bounds.{width}
 use Rattle.void_planner.specs.Bounds as void
 
--- what is so of a planner's commands from the one model to the other, with their energy and their steps
+-- the facts of a planner's commands from one model to the other, with their energy and their steps
 abbrev pub PlanFacts : Type 1
 PlanFacts = Matrix → Matrix → List Command → ℤ → ℕ → Type 0
 
--- every plan: the definitions accept the commands from the one model to the other with this energy in so many steps, by
--- the profile at most so many bots are active at once, and where both models are the same, it is a Halt alone
+-- every plan: the definitions accept the commands from one model to the other with this energy and number of steps, by
+-- the profile; at most this many bots are active at once; if both models are the same, it is a Halt alone
 pub record IsPlan (profile : Profile) (most : ℕ) (source target : Matrix) (commands : List Command) (energy : ℤ)
     (steps : ℕ) : Type 0 where
   pub are_commands : AreCommands commands
@@ -68,7 +68,7 @@ pub record IsSwarmPlan (source target : Matrix) (commands : List Command) (energ
 abbrev pub crew_limit : ℕ
 crew_limit = 1073741824
 
--- a plan of which this is so costs at least so much
+-- a plan with these facts costs at least this much
 abbrev pub IsNoDearer : PlanFacts → Matrix → Matrix → ℤ → Type 0
 IsNoDearer Is source target energy =
     (commands : List Command) × (paid : ℤ) × (steps : ℕ) × Is source target commands paid steps × (energy ≤ℤ paid)

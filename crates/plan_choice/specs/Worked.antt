@@ -1,4 +1,4 @@
--- Worked examples of what is so of plans: how many bots they have at most, and the numbers that bound them.
+-- Worked examples of the facts of plans: the most bots, and the bounds.
 use Rattle.std.specs.Prelude.{◌≡◌, ℕ, ◌^◌, ◌≤◌, ◌↔◌, ℤ, pos, All, List, None, [], ◌∷◌, length}
 use Rattle.vox_geom.specs.Point.{coord}
 use Rattle.nano_spec.specs.declared.commands.Command.{Command}
@@ -20,7 +20,7 @@ use Rattle.plan_choice.specs.Planners.{IsCrewPlan, IsGroupPlan, IsLayerPlan, IsL
 abbrev pub three_voxels : ℕ → Matrix
 three_voxels r = voxels_at r (coord 1 0 0 ∷ coord 1 0 2 ∷ coord 2 0 0 ∷ [])
 
--- the first facts are so of each plan between these models of which the second are
+-- the first facts hold for each plan between these models with the second facts
 abbrev pub EachHas : PlanFacts → PlanFacts → Matrix → Matrix → Type 0
 EachHas Has Is source target = (commands : List Command) (energy : ℤ) (steps : ℕ)
     → Is source target commands energy steps → Has source target commands energy steps

@@ -1,4 +1,4 @@
-//! Plans of one bot that builds from nothing, or takes all down.
+//! Plans of one bot that builds from nothing or voids everything.
 ghost use Rattle.std.specs.Prelude.{◌≡◌, All, IfOk, length};
 ghost use Rattle.nano_spec.specs.Matrix.{empty};
 ghost use Rattle.nano_spec.specs.Profile.{light_profile};
@@ -19,7 +19,7 @@ use vox_geom::{Coord, Memory, Region};
 use vox_planes::Planes;
 use voxel_reads::first_full;
 
-/// Whether no voxel is full.
+/// Returns whether no voxel is full.
 pub(crate) fn is_void(planes: &Planes) -> bool {
     let end = planes.resolution() - 1;
     let low = Coord { x: 0, y: 0, z: 0 };
@@ -31,17 +31,17 @@ pub(crate) fn is_void(planes: &Planes) -> bool {
     first_full(planes, &Region::of(low, high)).is_none()
 }
 
-/// More steps than voids of all voxels of a model pay for under Low, each of which gives 12 where a step takes 3 for each voxel.
+/// Bounds the steps that voiding all voxels can pay for under Low: a void gives 12, and a step takes 3 for each voxel.
 const PAID_BY_VOIDS: u64 = 4;
 
-/// The most steps of a plan that costs no more than that.
+/// Returns the most steps of a plan that costs no more than `energy`.
 pub(crate) fn affordable(resolution: u16, energy: i64) -> u64 {
     let r = u64::from(resolution).max(1);
     let paid = energy.max(0) as u64 / 3 / r / r / r;
     paid.saturating_add(PAID_BY_VOIDS)
 }
 
-/// One bot's commands that build the target from nothing, or take all of the source down.
+/// Returns one bot's commands that build the target from nothing, or void all of the source.
 fn alone(
     alloc: Global,
     source: &Planes,
@@ -60,9 +60,10 @@ fn alone(
     Ok(Some(backwards(alloc, commands.as_slice())?))
 }
 
-/// The plan, or one bot's plan that fills each voxel once it is attached, from nothing, or voids all backwards, where that is
-/// cheaper and within the bounds. A plan of one command, which is a Halt alone, stands. What cannot cost less than the ceiling need not
-/// be tried.
+/// Returns the plan, or one bot's plan that is cheaper and within the bounds: it fills each voxel once it is attached, from
+/// nothing, or voids all backwards.
+///
+/// A plan of one command, a Halt alone, is returned as it is. Proposals that cannot cost less than the ceiling may be skipped.
 pub fn attach(
     alloc: Global,
     source: &Planes,
@@ -95,9 +96,10 @@ pub fn attach(
     cheaper(alloc, source, target, profile, plan, proposal, most)
 }
 
-/// The plan from nothing, or one bot's plan under Low all the time that fills each voxel once it is attached, where all are and that
-/// is cheaper and within the bounds. A plan of one command, which is a Halt alone, stands. What cannot cost less than the ceiling need not
-/// be tried.
+/// Returns the plan from nothing, or one bot's cheaper plan within the bounds, under Low all the time: it fills each voxel once it
+/// is attached, if all are.
+///
+/// A plan of one command, a Halt alone, is returned as it is. Proposals that cannot cost less than the ceiling may be skipped.
 pub fn attach_low(
     alloc: Global,
     target: &Planes,

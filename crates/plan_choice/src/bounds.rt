@@ -1,4 +1,4 @@
-//! What is counted in commands, and compared with bounds.
+//! The bounds of plans, and the counts compared with them.
 ghost use Rattle.std.specs.Prelude.{◌≡◌, ◌≤◌, count_by, length};
 ghost use Rattle.nano_spec.specs.Spelling.{spellings};
 ghost use Rattle.plan_tape.specs.Fissions.{is_fission};
@@ -6,10 +6,10 @@ ghost use Rattle.plan_tape.specs.Fissions.{is_fission};
 use nano_spec::Command;
 use trace_codec::encode_one;
 
-/// The most commands that are judged: so many steps a run may have.
+/// The most commands that are judged, since a run has at most this many steps.
 pub(crate) const MOST_COMMANDS: usize = 1_073_741_824;
 
-/// What a plan has at most: steps, commands, bytes of their spellings, and bots at any time.
+/// The bounds of a plan: steps, commands, bytes of their spellings, and bots at any time.
 #[derive(Clone, Copy, Debug)]
 pub struct Bounds {
     pub steps: u64,
@@ -19,7 +19,7 @@ pub struct Bounds {
 }
 
 impl Bounds {
-    /// No bound.
+    /// Returns the bounds that every plan keeps.
     pub fn none() -> Bounds {
         Bounds {
             steps: u64::MAX,
@@ -30,7 +30,7 @@ impl Bounds {
     }
 }
 
-/// How many bytes the spellings of the commands have together.
+/// Returns the total length in bytes of the commands' spellings.
 pub(crate) fn bytes_of(commands: &[Command]) -> u64
     requires { length commands.now ≤ 1073741824 }
     ensures { result ≡ length (spellings commands.now) }
@@ -42,7 +42,7 @@ pub(crate) fn bytes_of(commands: &[Command]) -> u64
     bytes
 }
 
-/// How many of the commands make a bot.
+/// Returns the number of commands that make a bot.
 pub(crate) fn fissions_of(commands: &[Command]) -> u32
     requires { length commands.now ≤ 1073741824 }
     ensures { result ≡ count_by is_fission commands.now }

@@ -1,4 +1,4 @@
-//! Plans of a crew by boxes: which ways to cut a model and to schedule its boxes are tried, by its size.
+//! Plans of a crew by boxes: the cutting styles and schedules to try, by the model's size.
 ghost use Rattle.std.specs.Prelude.{◌≡◌, IfOk, length};
 ghost use Rattle.nano_spec.specs.Profile.{full_profile};
 ghost use Rattle.plan_choice.specs.Better.{CanImprove, MayStandFor};
@@ -13,13 +13,13 @@ use std::alloc::Global;
 use vox_geom::{MOST_R, Memory};
 use vox_planes::Planes;
 
-/// Up to this resolution all ways are tried.
+/// Up to this resolution all variants are tried.
 const SMALL: u16 = 100;
 
-/// Up to this resolution some ways are tried.
+/// Up to this resolution some variants are tried.
 const MEDIUM: u16 = 160;
 
-/// Up to this resolution a few ways are tried, and above it two.
+/// Up to this resolution a few variants are tried, and above it two.
 const LARGE: u16 = 210;
 
 /// Boxes of one layer.
@@ -31,13 +31,13 @@ const FLAT: Prices = Prices {
     bare: false,
 };
 
-/// Thick boxes whose teams are sure to have columns beside them.
+/// Thick boxes whose teams are sure to have neighboring columns.
 const GUARDED: Prices = Prices {
     thick: true,
     ..FLAT
 };
 
-/// Thick boxes anywhere; those without columns beside them are split.
+/// Thick boxes anywhere; those without neighboring columns are split.
 const FREE: Prices = Prices {
     guarded: false,
     ..GUARDED
@@ -60,7 +60,7 @@ const CLAIMS: BoxManner = BoxManner {
     ..PLAIN
 };
 
-/// Thick boxes whose teams are sure to have columns beside them.
+/// Thick boxes whose teams are sure to have neighboring columns.
 const BY_GUARDS: BoxManner = BoxManner {
     cutting: CutStyle::Exact(GUARDED),
     ..PLAIN
@@ -80,7 +80,7 @@ const BY_FREE: BoxManner = BoxManner {
     ..PLAIN
 };
 
-/// Thick boxes for which nothing has to wait, low ones first.
+/// Thick boxes that nothing has to wait for, low ones first.
 const BY_SIDES: BoxManner = BoxManner {
     cutting: CutStyle::Exact(Prices {
         of: [2000, 5000, 18000, 40000],
@@ -111,9 +111,8 @@ const BY_LARGE: BoxManner = BoxManner {
     ..PLAIN
 };
 
-/// Ways to build a small model.
+/// Variants to build a small model.
 const SMALL_UP: [Trial; 7] = [
-    Trial::Boxes(CLAIMS),
     Trial::Boxes(BY_GUARDS),
     Trial::Boxes(BY_GUARDED_CLAIMS),
     Trial::Boxes(BY_FREE),
@@ -124,13 +123,14 @@ const SMALL_UP: [Trial; 7] = [
         look: false,
         ..BY_MANY
     }),
+    Trial::Boxes(CLAIMS),
     Trial::Boxes(BoxManner {
         look: true,
         ..PLAIN
     }),
 ];
 
-/// Ways to build a model of medium size.
+/// Variants to build a model of medium size.
 const MEDIUM_UP: [Trial; 6] = [
     Trial::Boxes(BY_GUARDS),
     Trial::Boxes(BY_GUARDED_CLAIMS),
@@ -140,7 +140,7 @@ const MEDIUM_UP: [Trial; 6] = [
     Trial::Boxes(BY_LARGE),
 ];
 
-/// Ways to build a large model. Squads of four are the best for a box, and give up at once on any other model.
+/// Variants to build a large model. Squads of four are best for a box, and give up at once on any other model.
 const LARGE_UP: [Trial; 4] = [
     Trial::Fours(MOST_R, false),
     Trial::Boxes(BY_MANY),
@@ -148,27 +148,27 @@ const LARGE_UP: [Trial; 4] = [
     Trial::Boxes(BY_GUARDS),
 ];
 
-/// Ways to build a model of the greatest size.
+/// Variants to build a model of the greatest size.
 const HUGE_UP: [Trial; 3] = [
     Trial::Fours(MOST_R, false),
     Trial::Boxes(CLAIMS),
     Trial::Boxes(BY_MANY),
 ];
 
-/// Tiles as wide as they can be.
+/// Tiles as wide as possible.
 const TILES: BoxManner = BoxManner {
     cutting: CutStyle::Tiles(31, 0),
     ..PLAIN
 };
 
-/// Tiles of the size that promises the fewest steps, large teams first.
+/// Tiles of the size with the fewest estimated steps, large teams first.
 const BEST_TILES: BoxManner = BoxManner {
     cutting: CutStyle::BestTiles,
     big: 3,
     ..PLAIN
 };
 
-/// Ways to take a small model down.
+/// Variants to take a small model down.
 const SMALL_DOWN: [Trial; 5] = [
     Trial::Boxes(TILES),
     Trial::Boxes(BEST_TILES),
@@ -184,7 +184,7 @@ const SMALL_DOWN: [Trial; 5] = [
     }),
 ];
 
-/// Ways to take a model of medium size down.
+/// Variants to take a model of medium size down.
 const MEDIUM_DOWN: [Trial; 6] = [
     Trial::Boxes(TILES),
     Trial::Boxes(BEST_TILES),
@@ -204,7 +204,7 @@ const MEDIUM_DOWN: [Trial; 6] = [
     Trial::Boxes(BY_GUARDS),
 ];
 
-/// Ways to take a large model down.
+/// Variants to take a large model down.
 const LARGE_DOWN: [Trial; 3] = [
     Trial::Boxes(TILES),
     Trial::Boxes(BEST_TILES),
@@ -214,11 +214,11 @@ const LARGE_DOWN: [Trial; 3] = [
     }),
 ];
 
-/// Ways to take a model of the greatest size down.
+/// Variants to take a model of the greatest size down.
 const HUGE_DOWN: [Trial; 2] = [Trial::Boxes(TILES), Trial::Boxes(BEST_TILES)];
 
-/// The plan, or one of a crew by boxes that builds from nothing or takes all down, if that is cheaper and within the bounds. A plan of
-/// one command, which is a Halt alone, stays.
+/// Returns the plan, or a crew's plan by boxes that builds from nothing or voids everything, if it is cheaper and within the
+/// bounds. A plan of one command, a Halt alone, is returned as it is.
 pub(crate) fn by_boxes(
     alloc: Global,
     source: &Planes,

@@ -1,5 +1,5 @@
-//! Models that one bot builds layer by layer from above, up to five voxels at each stop: a voxel is filled once it is attached,
-//! that is on the floor or beside a full one, so that all is grounded after each step. What is proposed here is judged.
+//! Builds a model with one bot layer by layer from above, up to five voxels at each stop. A voxel is filled once it is attached,
+//! that is, on the floor or next to a full one, so all is grounded after each step. The definitions judge the proposal.
 use crate::extent::{Extent, extent_of_layer, is_full_at};
 use crate::ways::{difference, next_end};
 use nano_spec::{Command, CommandList};
@@ -8,16 +8,16 @@ use std::alloc::Global;
 use vox_geom::{Coord, Diff, Memory, Near};
 use vox_planes::Planes;
 
-/// More moves than any way has.
+/// More moves than any path has.
 const MOST_MOVES: u32 = 100;
 
-/// How often a lane is gone along before the next one.
+/// The most sweeps along a lane before the next one.
 const MOST_SWEEPS: u32 = 16;
 
-/// How often the lanes of a layer are gone through.
+/// The most passes over the lanes of a layer.
 const MOST_PASSES: u32 = 64;
 
-/// The component so far from another one.
+/// Returns the component shifted by a difference.
 fn shift(at: u16, by: i16) -> u16 {
     if by < 0 {
         at.wrapping_sub(by.unsigned_abs())
@@ -26,7 +26,7 @@ fn shift(at: u16, by: i16) -> u16 {
     }
 }
 
-/// The coordinate so far beside another one.
+/// Returns the coordinate shifted along x and z.
 fn beside(c: Coord, dx: i16, dz: i16) -> Coord {
     Coord {
         x: shift(c.x, dx),
@@ -35,13 +35,13 @@ fn beside(c: Coord, dx: i16, dz: i16) -> Coord {
     }
 }
 
-/// Whether a component is no farther from the first than from the second.
+/// Returns whether a component is no farther from `low` than from `high`.
 fn is_nearer(at: u16, low: u16, high: u16) -> bool {
     2 * u32::from(at) <= u32::from(low) + u32::from(high)
 }
 
-/// A bot that builds: what it filled, where it is, its commands, how many voxels of the layer are left, and whether it went under
-/// High.
+/// A building bot: the voxels it filled, its position, its commands, the number of voxels left in the layer, and whether it
+/// switched to High.
 #[derive(Drop)]
 struct Builder {
     made: Planes,
@@ -52,7 +52,7 @@ struct Builder {
 }
 
 impl Builder {
-    /// Before the first command.
+    /// Starts before the first command.
     fn begin(alloc: Global, target: &Planes) -> Result<Builder, Memory> {
         Ok(Builder {
             made: Planes::empty(alloc, target.resolution())?,
@@ -63,7 +63,7 @@ impl Builder {
         })
     }
 
-    /// Goes there.
+    /// Moves to a coordinate.
     fn go(&mut self, to: Coord) -> Result<(), Memory> {
         for _ in 0..MOST_MOVES {
             if self.at == to {
@@ -78,7 +78,7 @@ impl Builder {
         Ok(())
     }
 
-    /// Goes under High, to stay there.
+    /// Switches to High for good.
     fn raise(&mut self) -> Result<(), Memory> {
         if !self.high {
             self.commands.push(Command::Flip)?;
@@ -87,12 +87,12 @@ impl Builder {
         Ok(())
     }
 
-    /// Whether the target has the voxel, and it is not filled yet.
+    /// Returns whether the target has the voxel and it is not filled yet.
     fn is_wanted(&self, target: &Planes, c: Coord) -> bool {
         is_full_at(target, c) && !is_full_at(&self.made, c)
     }
 
-    /// Whether the voxel is on the floor or beside a full one.
+    /// Returns whether the voxel is on the floor or next to a full one.
     fn is_attached(&self, c: Coord) -> bool {
         c.y == 0
             || is_full_at(&self.made, Coord { y: c.y - 1, ..c })
@@ -102,12 +102,12 @@ impl Builder {
             || is_full_at(&self.made, beside(c, 0, 1))
     }
 
-    /// Whether the voxel may be filled now.
+    /// Returns whether the voxel may be filled now.
     fn may_fill(&self, target: &Planes, c: Coord, float: bool) -> bool {
         self.is_wanted(target, c) && (float || self.is_attached(c))
     }
 
-    /// The next voxel that may be filled from above this one, on a way along z.
+    /// Returns the next voxel to fill from above this one, on a path along z.
     fn next_below(&self, target: &Planes, c: Coord, on: i16, float: bool) -> Option<Coord> {
         for (dx, dz) in [(0, on.wrapping_neg()), (-1, 0), (1, 0), (0, 0), (0, on)] {
             let it = beside(c, dx, dz);
@@ -118,14 +118,14 @@ impl Builder {
         None
     }
 
-    /// Whether there is more to fill from above this voxel than what the next stop fills as well.
+    /// Returns whether there is more to fill from above this voxel than the next stop fills as well.
     fn is_worth_it(&self, target: &Planes, c: Coord, on: i16, float: bool) -> bool {
         self.may_fill(target, beside(c, 0, on.wrapping_neg()), float)
             || self.is_wanted(target, beside(c, -1, 0))
             || self.is_wanted(target, beside(c, 1, 0))
     }
 
-    /// Fills a voxel that is near.
+    /// Fills a near voxel.
     fn fill(&mut self, c: Coord) -> Result<(), Memory> {
         let r = self.made.resolution();
         if let Some(near) = Near::of(difference(self.at, c)) {
@@ -138,7 +138,7 @@ impl Builder {
         Ok(())
     }
 
-    /// Fills what may be filled from above this voxel.
+    /// Fills the voxels that may be filled from above this one.
     fn stop(&mut self, target: &Planes, c: Coord, on: i16, float: bool) -> Result<(), Memory> {
         for _ in 0..5 {
             let Some(it) = self.next_below(target, c, on, float) else {
@@ -153,7 +153,7 @@ impl Builder {
         Ok(())
     }
 
-    /// Goes along a lane, from its nearer end.
+    /// Sweeps along a lane, from its nearer end.
     fn sweep(
         &mut self,
         target: &Planes,
@@ -182,7 +182,7 @@ impl Builder {
         Ok(())
     }
 
-    /// Goes along a lane, to and fro, until nothing more is filled.
+    /// Sweeps a lane to and fro until nothing more is filled.
     fn lane(
         &mut self,
         target: &Planes,
@@ -200,7 +200,7 @@ impl Builder {
         Ok(())
     }
 
-    /// Goes through all lanes, which are three columns wide, from the nearer side.
+    /// Passes over all lanes, which are three columns wide, from the nearer side.
     fn pass(&mut self, target: &Planes, extent: &Extent, float: bool) -> Result<(), Memory> {
         let (low, high) = (extent.low.x, extent.high.x);
         let lanes = high.saturating_sub(low) / 3 + 1;
@@ -218,7 +218,7 @@ impl Builder {
         Ok(())
     }
 
-    /// Fills what is attached of a layer, or becomes so.
+    /// Fills the voxels of a layer that are attached or become so.
     fn attach(&mut self, target: &Planes, extent: &Extent) -> Result<(), Memory> {
         for _ in 0..MOST_PASSES {
             let before = self.left;
@@ -230,7 +230,8 @@ impl Builder {
         Ok(())
     }
 
-    /// Builds all layers, with what hangs under High: not where that is not allowed, nor by more commands than that.
+    /// Builds all layers, with overhanging parts under High. Returns false if High is needed but not allowed, or above `most`
+    /// commands.
     fn build(&mut self, target: &Planes, may_rise: bool, most: u64) -> Result<bool, Memory> {
         for y in 0..target.resolution() {
             let extent = extent_of_layer(target, y);
@@ -252,7 +253,7 @@ impl Builder {
         Ok(true)
     }
 
-    /// The commands, once the bot is home.
+    /// Returns the commands, once the bot is home.
     fn finish(mut self) -> Result<CommandList, Memory> {
         let y = self.at.y;
         self.go(Coord { x: 0, y, z: 0 })?;
@@ -265,8 +266,8 @@ impl Builder {
     }
 }
 
-/// The commands of one bot that builds the target, and stays under High from the first layer on that has a part that hangs.
-/// There are none where High is not allowed and something hangs, or where there are more than `most`.
+/// Returns the commands of one bot that builds the target, and stays under High from the first layer with an overhanging part.
+/// Returns none if High is needed but not allowed, or if there are more than `most` commands.
 pub fn build_attached(
     alloc: Global,
     target: &Planes,

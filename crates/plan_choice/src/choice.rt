@@ -1,4 +1,4 @@
-//! A proposal is judged, and chosen where it is cheaper.
+//! Judges a proposal, and chooses it if it is cheaper.
 ghost use Rattle.std.specs.Prelude.{◌≡◌, ◌⊎◌, ◌≤◌, ℕ, ℤ, IfOk, IfSome, None, Ok, length};
 ghost use Rattle.vox_geom.specs.Counting.{IsBlankOf};
 ghost use Rattle.nano_spec.specs.Verdict.{VerdictOf};
@@ -16,14 +16,14 @@ use trace_judge::judge_by;
 use vox_geom::{Memory, Steps};
 use vox_planes::Planes;
 
-/// What an accepted run costs.
+/// The cost of an accepted run.
 #[derive(Clone, Copy, PartialEq, Eq, Debug)]
 pub struct Price {
     pub energy: i64,
     pub steps: u32,
 }
 
-/// The verdict of the commands by a profile, counted in a ledger of its own.
+/// Judges the commands by a profile, with touches counted in a ledger of its own.
 fn judged_in<L: Ledger>(
     alloc: Global,
     source: &Planes,
@@ -49,7 +49,7 @@ fn judged_in<L: Ledger>(
     )
 }
 
-/// The verdict of the commands by a profile, where nobody counts the touches.
+/// Judges the commands by a profile, without counting touches.
 fn judge_proposal(
     alloc: Global,
     source: &Planes,
@@ -65,8 +65,8 @@ fn judge_proposal(
     judged_in::<Brand>(alloc, source, target, profile, commands, Blank::new(1))
 }
 
-/// What a proposal costs that is better than a plan: the definitions accept it with less energy and within the bounds. `None`
-/// only where it is not.
+/// Returns the cost of a proposal that is better than a plan: the definitions accept it with less energy and within the bounds.
+/// Returns `None` only if it is not better.
 pub fn improvement(
     alloc: Global,
     source: &Planes,
@@ -109,8 +109,8 @@ pub fn improvement(
     }))
 }
 
-/// The proposal as a plan, where the definitions accept it by the profile with less energy than the plan and within the bounds;
-/// else the plan.
+/// Returns the proposal as a plan if the definitions accept it by the profile with less energy than the plan and within the
+/// bounds; else the plan.
 pub fn cheaper(
     alloc: Global,
     source: &Planes,

@@ -1,4 +1,4 @@
-//! The plan of a crew: the cheapest of its own proposals and of what the other planners make for the same models.
+//! The plan of a crew: the cheapest of its own proposals and of the other planners' plans for the same models.
 ghost use Rattle.std.specs.Prelude.{◌≡◌, ◌≤◌, ◌≤ℤ◌, IfOk, None};
 ghost use Rattle.nano_spec.specs.Legal.{IsLegal};
 ghost use Rattle.nano_spec.specs.Matrix.{empty};
@@ -23,10 +23,10 @@ use system_state::recall_all;
 use vox_geom::Memory;
 use vox_planes::Planes;
 
-/// The most bytes of a plan.
+/// The maximum length of a plan in bytes.
 const LIMIT: u64 = 1_073_741_824;
 
-/// The cheaper one of two plans: the first, where both cost the same.
+/// Returns the cheaper one of two plans, or the first if both cost the same.
 fn cheaper_of(first: Plan, second: Plan) -> Plan
     ensures either { Replaces first second result }
 {
@@ -37,14 +37,14 @@ fn cheaper_of(first: Plan, second: Plan) -> Plan
     }
 }
 
-/// A crew's plan in the making, and the least energy of another planner's plan, if that planner was asked.
+/// A crew's plan in the making, and the least energy of another planner's plan, if that planner ran.
 #[derive(Drop)]
 struct Compared {
     plan: Plan,
     least: Option<LeastEnergy>,
 }
 
-/// A crew's plan, and the least energy of each other planner's plan: none where the planner makes no plan between these models.
+/// A crew's plan, and the least energy of each other planner's plan, or none if the planner makes no plan between these models.
 #[derive(Drop)]
 struct Crew {
     plan: Plan,
@@ -55,7 +55,7 @@ struct Crew {
     swarm: Option<LeastEnergy>,
 }
 
-/// The cheaper one of a crew's plan and of another planner's that was sought below its energy.
+/// Returns the cheaper one of a crew's plan and another planner's, found with the crew's energy as the ceiling.
 fn compare(plan: Plan, other: Sought) -> Compared
     requires { IsLeast plan.energy other.plan.energy other.least.energy }
     ensures either { Replaces plan other.plan result.plan }
@@ -68,7 +68,7 @@ fn compare(plan: Plan, other: Sought) -> Compared
     }
 }
 
-/// The plan, or the layer planner's, where that may be cheaper and is.
+/// Returns the plan, or the layer planner's if it can be cheaper and is.
 fn or_layer(alloc: Global, source: &Planes, target: &Planes, plan: Plan) -> Result<Sought, Memory>
     requires models { AreLegalModels source.now target.now }
     requires crew { IsForCrew source.now target.now plan }
@@ -89,7 +89,7 @@ fn or_layer(alloc: Global, source: &Planes, target: &Planes, plan: Plan) -> Resu
     })
 }
 
-/// The plan, or the group planner's, where that may not be too long and is cheaper.
+/// Returns the plan, or the group planner's if it cannot be too long and is cheaper.
 fn or_group(alloc: Global, source: &Planes, target: &Planes, plan: Plan) -> Result<Compared, Memory>
     requires models { AreLegalModels source.now target.now }
     requires crew { IsForCrew source.now target.now plan }
@@ -106,7 +106,7 @@ fn or_group(alloc: Global, source: &Planes, target: &Planes, plan: Plan) -> Resu
     Ok(compare(plan, other))
 }
 
-/// The plan, or the void planner's, where the target is empty and that is cheaper.
+/// Returns the plan, or the void planner's if the target is empty and it is cheaper.
 fn or_void(alloc: Global, source: &Planes, target: &Planes, plan: Plan) -> Result<Compared, Memory>
     requires source { IsLegal source.now }
     requires same { source.now.resolution ≡ target.now.resolution }
@@ -126,7 +126,7 @@ fn or_void(alloc: Global, source: &Planes, target: &Planes, plan: Plan) -> Resul
     Ok(compare(plan, other))
 }
 
-/// The plan, or the low planner's, where the source is empty, all parts of the target are supported and that is cheaper.
+/// Returns the plan, or the low planner's if the source is empty, all parts of the target are supported and it is cheaper.
 fn or_low(alloc: Global, source: &Planes, target: &Planes, plan: Plan) -> Result<Compared, Memory>
     requires { MayBuildInstead source.now target.now plan }
     ensures crew { IfOk result (λ it. IsForCrew source.now target.now it.plan) }
@@ -149,7 +149,7 @@ fn or_low(alloc: Global, source: &Planes, target: &Planes, plan: Plan) -> Result
     }
 }
 
-/// The plan, or the swarm planner's, where the source is empty and that is cheaper.
+/// Returns the plan, or the swarm planner's if the source is empty and it is cheaper.
 fn or_swarm(alloc: Global, source: &Planes, target: &Planes, plan: Plan) -> Result<Compared, Memory>
     requires { MayBuildInstead source.now target.now plan }
     ensures crew { IfOk result (λ it. IsForCrew source.now target.now it.plan) }
@@ -168,7 +168,7 @@ fn or_swarm(alloc: Global, source: &Planes, target: &Planes, plan: Plan) -> Resu
     Ok(compare(plan, other))
 }
 
-/// The plan of a crew before the other planners are asked, which costs no more than the one that the layer planner is proved to make.
+/// Returns the crew's plan before the other planners run. It costs no more than the layer planner's proved plan.
 fn proposed_by_crew(alloc: Global, source: &Planes, target: &Planes) -> Result<Plan, Memory>
     requires { AreLegalModels source.now target.now }
     ensures crew { IfOk result (IsForCrew source.now target.now) }
@@ -187,7 +187,7 @@ fn proposed_by_crew(alloc: Global, source: &Planes, target: &Planes) -> Result<P
     Ok(plan)
 }
 
-/// The cheapest of a crew's few proposals and of what the other planners that make plans of such models make.
+/// Returns the cheapest of a crew's few proposals and the plans of the other planners that apply.
 fn cheapest_of_all(alloc: Global, source: &Planes, target: &Planes) -> Result<Crew, Memory>
     requires { AreLegalModels source.now target.now }
     ensures { IfOk result (IsCheapest source.now target.now) }
@@ -208,8 +208,8 @@ fn cheapest_of_all(alloc: Global, source: &Planes, target: &Planes) -> Result<Cr
     })
 }
 
-/// The plan of up to forty bots that makes the target of the source: the cheapest of a crew's few proposals and of what the other
-/// planners that make plans of such models make.
+/// Plans for up to forty bots from the source to the target: the cheapest of a crew's few proposals and the plans of the other
+/// planners that apply.
 pub fn choose_crew_plan(alloc: Global, source: &Planes, target: &Planes) -> Result<Plan, Memory>
     requires { AreLegalModels source.now target.now }
     ensures { IfOk result (λ plan. IsCrewPlan source.now target.now plan.commands plan.energy plan.steps) }

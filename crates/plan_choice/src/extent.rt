@@ -1,9 +1,9 @@
-//! Between which columns and rows the full voxels of a layer lie, or of a whole model.
+//! The extents of the full voxels of a layer or of a whole model.
 use vox_geom::Coord;
 use vox_planes::Planes;
 use voxel_reads::is_full;
 
-/// Full voxels: how many, and the least and greatest components of them.
+/// The number of full voxels, and their least and greatest components.
 #[derive(Clone, Copy)]
 pub(crate) struct Extent {
     pub(crate) count: u32,
@@ -12,7 +12,7 @@ pub(crate) struct Extent {
 }
 
 impl Extent {
-    /// The extent of no voxel.
+    /// Returns the extent of no voxels.
     fn none() -> Extent {
         let end = u16::MAX;
         Extent {
@@ -26,7 +26,7 @@ impl Extent {
         }
     }
 
-    /// The extent of these voxels and of those.
+    /// Returns the extent of both sets of voxels.
     fn with(self, more: Extent) -> Extent {
         let (a, b) = (self.low, more.low);
         let (c, d) = (self.high, more.high);
@@ -46,13 +46,13 @@ impl Extent {
     }
 }
 
-/// Whether the voxel is full; beyond the matrix none is.
+/// Returns whether the voxel is full; false outside the matrix.
 pub(crate) fn is_full_at(planes: &Planes, c: Coord) -> bool {
     let r = planes.resolution();
     c.x < r && c.y < r && c.z < r && is_full(planes, c)
 }
 
-/// The full voxels of a row along z.
+/// Returns the extent of the full voxels of a row along z.
 fn extent_of_row(planes: &Planes, x: u16, y: u16) -> Extent {
     let mut extent = Extent::none();
     for z in 0..planes.resolution() {
@@ -68,7 +68,7 @@ fn extent_of_row(planes: &Planes, x: u16, y: u16) -> Extent {
     extent
 }
 
-/// The full voxels of a layer.
+/// Returns the extent of the full voxels of a layer.
 pub(crate) fn extent_of_layer(planes: &Planes, y: u16) -> Extent {
     let mut extent = Extent::none();
     for x in 0..planes.resolution() {
@@ -77,7 +77,7 @@ pub(crate) fn extent_of_layer(planes: &Planes, y: u16) -> Extent {
     extent
 }
 
-/// The full voxels of a model.
+/// Returns the extent of the full voxels of a model.
 pub(crate) fn extent_of(planes: &Planes) -> Extent {
     let mut extent = Extent::none();
     for y in 0..planes.resolution() {

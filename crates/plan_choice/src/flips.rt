@@ -1,4 +1,4 @@
-//! Plans that are under High no longer than some voxel floats.
+//! Plans that are under High only while some voxel floats.
 ghost use Rattle.std.specs.Prelude.{◌≡◌, IfOk, length};
 ghost use Rattle.vox_geom.specs.Counting.{IsBlankOf};
 ghost use Rattle.plan_choice.specs.Better.{CanImprove, CanRun, MayStandFor};
@@ -19,7 +19,7 @@ use vox_planes::Planes;
 /// The most steps of a run.
 const MOST_STEPS: u32 = 1_073_741_824;
 
-/// The most Flips of a planner's plan, which others take the place of.
+/// The most Flips of a planner's plan, which others replace.
 const FLIPS: u64 = 2;
 
 /// Commands in the making, the harmonics after them, and their upkeep: 1 for a step under Low, 10 for one under High.
@@ -41,7 +41,7 @@ impl Draft {
         self.upkeep = self.upkeep.saturating_add(upkeep);
     }
 
-    /// A step of so many bots in which the first one changes the harmonics, where they are not the ones that are wanted.
+    /// Adds a step in which the first bot changes the harmonics and the others wait, if they differ from `wanted`.
     fn set(&mut self, wanted: Harmonics, bots: u8) -> Result<(), Memory> {
         if self.harmonics == wanted {
             return Ok(());
@@ -55,7 +55,7 @@ impl Draft {
         Ok(())
     }
 
-    /// A step.
+    /// Adds a step.
     fn step(&mut self, commands: &[Command]) -> Result<(), Memory> {
         for command in commands {
             self.commands.push(*command)?;
@@ -65,13 +65,13 @@ impl Draft {
     }
 }
 
-/// Whether a step is a Flip of the only bot.
+/// Returns whether a step is a Flip of a single bot.
 fn is_flip(step: &[Command]) -> bool {
     step.len() == 1 && step[0] == Command::Flip
 }
 
-/// The work of the machines that run proposals, in voxels: those that each machine starts with, and those that lose or gain their
-/// ground; and the limit of that work.
+/// The work of the machines that run proposals, and its limit. It is counted in voxels: those that each machine starts with, and
+/// those that become or stop being grounded.
 #[derive(Clone, Copy, Debug)]
 pub(crate) struct Work {
     done: u64,
@@ -80,7 +80,7 @@ pub(crate) struct Work {
 }
 
 impl Work {
-    /// No work yet, of which so much is allowed, where a start takes so much.
+    /// Returns no work, with a limit and the work of a start.
     pub(crate) fn allowing(allowed: u64, start: u32) -> Work {
         Work {
             done: 0,
@@ -89,7 +89,7 @@ impl Work {
         }
     }
 
-    /// No work yet, of which any is allowed.
+    /// Returns no work, without a limit.
     pub(crate) fn any() -> Work {
         Work::allowing(u64::MAX, 0)
     }
@@ -104,13 +104,13 @@ impl Work {
         self.done = self.done.saturating_add(u64::from(more));
     }
 
-    /// Whether more was done than is allowed.
+    /// Returns whether the work exceeds the limit.
     pub(crate) fn is_over(self) -> bool {
         self.done > self.allowed
     }
 }
 
-/// How far two numbers are apart.
+/// Returns the absolute difference of two numbers.
 fn difference(a: u32, b: u32) -> u32 {
     a.max(b).saturating_sub(a.min(b))
 }
@@ -173,9 +173,9 @@ fn lowered_in<L: Ledger>(
     Ok(Some(draft.commands))
 }
 
-/// A plan's commands with other Flips: harmonics are High only while some full voxel is not grounded. Returns None if their
-/// upkeep exceeds that of `most` steps under Low, or if they take more work than the limit. This is a proposal: [`cheaper`] has it
-/// judged by the definitions.
+/// Returns a plan's commands with other Flips: harmonics are High only while some full voxel is not grounded. Returns None if their
+/// upkeep exceeds that of `most` steps under Low, or if they take more work than the limit. This is a proposal: the definitions
+/// judge it in [`cheaper`].
 pub(crate) fn lower_commands(
     alloc: Global,
     source: &Planes,
@@ -189,8 +189,9 @@ pub(crate) fn lower_commands(
     lowered_in::<Brand>(alloc, source, profile, commands, most, work, Blank::new(1))
 }
 
-/// The plan with Flips of its own, where that is accepted with less energy and within the bounds; else the plan. A plan of one
-/// command, which is a Halt alone, stands. What cannot cost less than the ceiling need not be tried.
+/// Returns the plan with Flips of its own if that is accepted with less energy and within the bounds; else the plan.
+///
+/// A plan of one command, a Halt alone, is returned as it is. Proposals that cannot cost less than the ceiling may be skipped.
 pub fn lower(
     alloc: Global,
     source: &Planes,

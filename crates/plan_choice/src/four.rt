@@ -1,4 +1,4 @@
-//! Plans of four bots that take all down.
+//! Plans of four bots that void everything.
 ghost use Rattle.std.specs.Prelude.{◌≡◌, IfOk, length};
 ghost use Rattle.nano_spec.specs.Profile.{full_profile};
 ghost use Rattle.plan_choice.specs.Better.{CanImprove, MayStandFor};
@@ -11,8 +11,8 @@ use std::alloc::Global;
 use vox_geom::{MOST_R, Memory};
 use vox_planes::Planes;
 
-/// How many layers the slabs have that are tried: thick ones need fewer ways, so they come first, thin ones keep overhangs off the air.
-/// Tiles of each are all about equally wide, or as wide as they can be. Then the same with poles under what hangs.
+/// The slabs to try, by their number of layers. Thick ones need fewer moves, so they come first; thin ones let fewer voxels float.
+/// Tiles of each are all about equally wide, or as wide as possible. Then the same with poles under overhangs.
 const SLABS: [Trial; 16] = [
     Trial::Slabs(MOST_R, true),
     Trial::Slabs(MOST_R, false),
@@ -32,8 +32,9 @@ const SLABS: [Trial; 16] = [
     Trial::PoledSlabs(1, false),
 ];
 
-/// The plan, or one of four bots that void slab by slab, where that is cheaper and within the bounds. A plan of one command, which
-/// is a Halt alone, stands. What cannot cost less than the ceiling need not be tried.
+/// Returns the plan, or a plan of four bots that void slab by slab, if it is cheaper and within the bounds.
+///
+/// A plan of one command, a Halt alone, is returned as it is. Proposals that cannot cost less than the ceiling may be skipped.
 pub fn by_slabs(
     alloc: Global,
     source: &Planes,

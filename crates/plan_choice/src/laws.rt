@@ -1,7 +1,7 @@
 //! Worked examples of the definitions, the contract of a function that does nothing.
 ghost use Rattle.plan_choice.specs.Worked.{WorkedCosts, WorkedCrews, WorkedPlanners, WorkedPlans};
 
-/// Worked examples of how many bots plans have at most, of the numbers that bound them, and of which plan is cheaper.
+/// Worked examples of the most bots of plans, of their bounds, and of the cheaper one of two plans.
 pub fn worked_plans()
     ensures plans { WorkedPlans }
     ensures planners { WorkedPlanners }

@@ -1,5 +1,5 @@
-//! Plans that are proposed and judged: a proposal takes a plan's place where the definitions accept it with less energy, and within
-//! the plan's bounds. Nothing has to be proved of how a proposal was found.
+//! Proposes and judges plans: a proposal replaces a plan if the definitions accept it with less energy, and within the plan's
+//! bounds. The search for a proposal needs no proof.
 #![tactic(auto)]
 
 mod alone;

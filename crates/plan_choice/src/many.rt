@@ -1,4 +1,4 @@
-//! Plans of squads, each of which builds a strip of columns by itself.
+//! Plans of squads that each build a strip of columns alone.
 ghost use Rattle.std.specs.Prelude.{◌≡◌, IfOk, length};
 ghost use Rattle.nano_spec.specs.Matrix.{empty};
 ghost use Rattle.nano_spec.specs.Profile.{full_profile, light_profile};
@@ -16,10 +16,10 @@ use std::alloc::Global;
 use vox_geom::{MOST_R, Memory};
 use vox_planes::Planes;
 
-/// The most bots that there can be: one, and the seeds that it has.
+/// The most bots possible: one, and its seeds.
 pub(crate) const CREW: u8 = 40;
 
-/// As many bots as the bounds allow, each by itself in lanes of three columns.
+/// As many bots as the bounds allow, each alone in lanes of three columns.
 const ALL: Manner = Manner {
     squads: CREW,
     pairs: false,
@@ -30,14 +30,14 @@ const ALL: Manner = Manner {
     most: 0,
 };
 
-/// One bot in lanes of three columns, with poles under what hangs.
+/// One bot in lanes of three columns, with poles under overhangs.
 const ONE: Manner = Manner {
     squads: 1,
     poles: true,
     ..ALL
 };
 
-/// Which single bots are tried: in lanes of three columns or of one, with x and z as they are or exchanged.
+/// Variants of single bots: in lanes of three columns or of one, with x and z as they are or exchanged.
 const ALONE: [Trial; 4] = [
     Trial::Squads(ALL),
     Trial::Squads(Manner {
@@ -52,10 +52,10 @@ const ALONE: [Trial; 4] = [
     }),
 ];
 
-/// How one bot is tried.
+/// Variants of one bot.
 const BY_ONE: [Trial; 1] = [Trial::Squads(ONE)];
 
-/// How two bots are tried: together, with x and z as they are or exchanged, or with poles, or each by itself.
+/// Variants of two bots: together, with x and z as they are or exchanged, or with poles, or each alone.
 const BY_TWO: [Trial; 4] = [
     Trial::Squads(Manner {
         pairs: true,
@@ -79,7 +79,7 @@ const BY_TWO: [Trial; 4] = [
 /// A crew in pairs.
 const PAIRS: Manner = Manner { pairs: true, ..ALL };
 
-/// How a crew is tried: by fours, in pairs or each by itself, with poles or without, with x and z as they are or exchanged.
+/// Variants of a crew: by fours, in pairs or each alone, with poles or without, with x and z as they are or exchanged.
 const CREWS: [Trial; 9] = [
     Trial::Fours(MOST_R, false),
     Trial::Fours(MOST_R, true),
@@ -102,8 +102,8 @@ const CREWS: [Trial; 9] = [
     Trial::Squads(Manner { lane: 1, ..ALL }),
 ];
 
-/// How a crew is tried that takes all down by slabs: thick ones need fewer ways, so they come first, thin ones keep overhangs off the
-/// air.
+/// Variants of a crew that voids everything by slabs. Thick ones need fewer moves, so they come first; thin ones let fewer voxels
+/// float.
 const BY_FOURS: [Trial; 8] = [
     Trial::Fours(MOST_R, false),
     Trial::Fours(MOST_R, true),
@@ -115,9 +115,10 @@ const BY_FOURS: [Trial; 8] = [
     Trial::Fours(1, true),
 ];
 
-/// The plan from nothing, or one of up to as many bots as the bounds allow that each build a strip of columns, by the light profile,
-/// where that is cheaper and within the bounds. A plan of one command, which is a Halt alone, stands. What cannot cost less than the
-/// ceiling need not be tried.
+/// Returns the plan from nothing, or a cheaper plan within the bounds, by the light profile: as many bots as the bounds allow each
+/// build a strip of columns.
+///
+/// A plan of one command, a Halt alone, is returned as it is. Proposals that cannot cost less than the ceiling may be skipped.
 pub fn by_squads(
     alloc: Global,
     target: &Planes,
@@ -141,9 +142,10 @@ pub fn by_squads(
     )
 }
 
-/// The plan, or one of two bots that build from nothing or take all down, or of one bot where the bounds allow no more, where that is
-/// cheaper and within the bounds: with poles under what hangs, or without. A plan of one command, which is a Halt alone, stands. What
-/// cannot cost less than the ceiling need not be tried.
+/// Returns the plan, or a cheaper one within the bounds: two bots, or one if the bounds allow no more, build from nothing or void
+/// everything, with poles under overhangs or without.
+///
+/// A plan of one command, a Halt alone, is returned as it is. Proposals that cannot cost less than the ceiling may be skipped.
 pub fn by_few(
     alloc: Global,
     source: &Planes,
@@ -169,8 +171,8 @@ pub fn by_few(
     cheapest(alloc, source, target, profile, plan, trials, most, ceiling)
 }
 
-/// The plan, or one of a crew of squads that builds from nothing or takes all down, if that is cheaper and within the bounds. A plan of
-/// one command, which is a Halt alone, stays.
+/// Returns the plan, or one of a crew of squads that builds from nothing or voids everything, if it is cheaper and within the
+/// bounds. A plan of one command, a Halt alone, is returned as it is.
 fn by_strips(
     alloc: Global,
     source: &Planes,
@@ -201,13 +203,10 @@ fn by_strips(
     Ok(plan)
 }
 
-/// Up to this resolution squads are tried, whatever the plan by boxes is like.
-const SMALL: u16 = 100;
-
-/// From this number of bots that fill or void in a step, on average, a plan is not better by squads.
+/// The average number of bots filling or voiding per step from which squads give no better plan.
 const BUSY: u64 = 2;
 
-/// Returns whether some bots fill or void in each step of a plan, on average. In a maze few do: a box waits until it is attached.
+/// Returns whether at least [`BUSY`] bots fill or void per step on average. In a maze few do: boxes wait until they are attached.
 fn is_busy(plan: &Plan) -> bool {
     let mut count = 0u64;
     for command in plan.commands.as_slice() {
@@ -223,8 +222,8 @@ fn is_busy(plan: &Plan) -> bool {
     count >= u64::from(plan.steps).saturating_mul(BUSY)
 }
 
-/// The plan, or one of a crew of as many bots as the bounds allow that builds from nothing or takes all down, if that is cheaper and
-/// within the bounds: by boxes, and by squads if boxes keep few bots busy. A plan of one command, which is a Halt alone, stays.
+/// Returns the plan, or a cheaper plan within the bounds of a crew that builds from nothing or voids everything: by boxes, and by
+/// squads if boxes keep few bots busy. A plan of one command, a Halt alone, is returned as it is.
 pub(crate) fn by_crew(
     alloc: Global,
     source: &Planes,
@@ -237,7 +236,7 @@ pub(crate) fn by_crew(
     ensures alone { length plan.commands ≡ 1 → IfOk result (λ it. it.commands ≡ plan.commands) }
 {
     let boxed = by_boxes(alloc, source, target, plan, most)?;
-    if source.resolution() > SMALL && is_busy(&boxed) {
+    if is_busy(&boxed) {
         return Ok(boxed);
     }
     let squads = by_strips(alloc, source, target, boxed, most)?;

@@ -4,7 +4,7 @@ ghost use Rattle.low_planner.specs.Commands.{IsPlain};
 
 use nano_spec::Command;
 
-/// Whether the command is neither a Flip nor a Fission nor one of a group.
+/// Returns whether the command is neither a Flip nor a Fission nor one of a group.
 fn is_plain(command: Command) -> bool
     ensures { IsTrue result → IsPlain command }
 {
@@ -17,7 +17,7 @@ fn is_plain(command: Command) -> bool
     }
 }
 
-/// Whether all commands are plain.
+/// Returns whether all commands are plain.
 pub(crate) fn are_plain(commands: &[Command]) -> bool
     ensures { IsTrue result → All IsPlain commands.now }
 {

@@ -1,4 +1,4 @@
-//! The planners' plans under Low wherever that can be. Each call promises what the planner's own does.
+//! The planners' plans, under Low wherever possible. Each call guarantees the same as the planner's own.
 ghost use Rattle.std.specs.Prelude.{◌≡◌, ◌*◌, IfErr, IfOk, IfSome, None};
 ghost use Rattle.nano_spec.specs.Legal.{IsLegal};
 ghost use Rattle.nano_spec.specs.Matrix.{empty};
@@ -27,21 +27,21 @@ use void_planner::plan_void;
 use vox_geom::Memory;
 use vox_planes::Planes;
 
-/// The least energy of a planner's plan, as far as it was sought: the energy of the plan that was found, or a ceiling, if that is less,
-/// since proposals that cannot cost less than the ceiling are not made. Only the planners' calls below make one.
+/// The least energy of a planner's plan, as far as it searched: the energy of the plan found, or a ceiling if that is less, since
+/// proposals that cannot cost less than the ceiling are not made. Only the planners' calls below make one.
 #[derive(Clone, Copy, Debug)]
 pub(crate) struct LeastEnergy {
     energy: i64,
 }
 
-/// A planner's plan that was sought below a ceiling.
+/// A planner's plan found with an energy ceiling.
 #[derive(Drop)]
 pub(crate) struct Sought {
     pub(crate) plan: Plan,
     pub(crate) least: LeastEnergy,
 }
 
-/// The plan, as one that was sought below a ceiling.
+/// Pairs the plan with its least energy below the ceiling.
 fn sought_below(ceiling: i64, plan: Plan) -> Sought
     ensures plan { result.plan ≡ plan }
     ensures least { IsLeast ceiling plan.energy result.least.energy }
@@ -53,7 +53,7 @@ fn sought_below(ceiling: i64, plan: Plan) -> Sought
     }
 }
 
-/// The ceiling, if no plan of one bot, which fills or voids at most one voxel a step, can cost less.
+/// Returns the ceiling, if no plan of one bot, which fills or voids at most one voxel a step, can cost less.
 pub(crate) fn least_alone(source: &Planes, target: &Planes, ceiling: i64) -> Option<LeastEnergy>
     ensures { IfSome result (λ least. least.energy ≡ ceiling) }
 {
@@ -65,7 +65,7 @@ pub(crate) fn least_alone(source: &Planes, target: &Planes, ceiling: i64) -> Opt
     Some(LeastEnergy { energy: ceiling })
 }
 
-/// Seeks a plan of one bot that makes the target of the source and costs less than the ceiling.
+/// Searches for a plan of one bot from the source to the target that costs less than the ceiling.
 pub(crate) fn layer_plan(
     alloc: Global,
     source: &Planes,
@@ -90,7 +90,7 @@ pub(crate) fn layer_plan(
     Ok(sought_below(ceiling, plan))
 }
 
-/// The plan of one bot that makes the target of the source.
+/// Returns the plan of one bot from the source to the target.
 pub fn choose_layer_plan(alloc: Global, source: &Planes, target: &Planes) -> Result<Plan, Memory>
     requires { AreLegalModels source.now target.now }
     ensures { IfOk result (λ plan. IsLayerPlan source.now target.now plan.commands plan.energy plan.steps) }
@@ -98,7 +98,7 @@ pub fn choose_layer_plan(alloc: Global, source: &Planes, target: &Planes) -> Res
     Ok(layer_plan(alloc, source, target, i64::MAX)?.plan)
 }
 
-/// What a plan of two bots has at most.
+/// Returns the bounds of a plan of two bots.
 pub(crate) fn group_bounds(source: &Planes, target: &Planes) -> Bounds
     requires same { source.now.resolution ≡ target.now.resolution }
     ensures steps { result.steps ≡ most_group_steps source.now target.now }
@@ -118,7 +118,7 @@ pub(crate) fn group_bounds(source: &Planes, target: &Planes) -> Bounds
     }
 }
 
-/// Seeks a plan of two bots that makes the target of the source and costs less than the ceiling.
+/// Searches for a plan of two bots from the source to the target that costs less than the ceiling.
 pub(crate) fn group_plan(
     alloc: Global,
     source: &Planes,
@@ -141,7 +141,7 @@ pub(crate) fn group_plan(
     Ok(sought_below(ceiling, plan))
 }
 
-/// The plan of two bots that makes the target of the source.
+/// Returns the plan of two bots from the source to the target.
 pub fn choose_group_plan(alloc: Global, source: &Planes, target: &Planes) -> Result<Plan, Memory>
     requires { AreLegalModels source.now target.now }
     ensures { IfOk result (λ plan. IsGroupPlan source.now target.now plan.commands plan.energy plan.steps) }
@@ -149,7 +149,7 @@ pub fn choose_group_plan(alloc: Global, source: &Planes, target: &Planes) -> Res
     Ok(group_plan(alloc, source, target, i64::MAX)?.plan)
 }
 
-/// Seeks a plan of four bots that makes the empty model of the source and costs less than the ceiling.
+/// Searches for a plan of four bots from the source to the empty model that costs less than the ceiling.
 pub(crate) fn void_plan(alloc: Global, source: &Planes, ceiling: i64) -> Result<Sought, Memory>
     requires { IsLegal source.now }
     ensures plan { IfOk result
@@ -170,7 +170,7 @@ pub(crate) fn void_plan(alloc: Global, source: &Planes, ceiling: i64) -> Result<
     Ok(sought_below(ceiling, plan))
 }
 
-/// The plan of four bots that makes the empty model of the source.
+/// Returns the plan of four bots from the source to the empty model.
 pub fn choose_void_plan(alloc: Global, source: &Planes) -> Result<Plan, Memory>
     requires { IsLegal source.now }
     ensures { IfOk result
@@ -179,7 +179,7 @@ pub fn choose_void_plan(alloc: Global, source: &Planes) -> Result<Plan, Memory>
     Ok(void_plan(alloc, source, i64::MAX)?.plan)
 }
 
-/// Seeks a plan of up to twenty bots that builds the target from nothing, under the light profile, and costs less than the ceiling.
+/// Searches for a plan of up to twenty bots that builds the target from nothing, under the light profile, below the ceiling.
 pub(crate) fn swarm_plan(alloc: Global, target: &Planes, ceiling: i64) -> Result<Sought, Memory>
     requires { IsLegal target.now }
     ensures plan { IfOk result
@@ -203,7 +203,7 @@ pub(crate) fn swarm_plan(alloc: Global, target: &Planes, ceiling: i64) -> Result
     Ok(sought_below(ceiling, plan))
 }
 
-/// The plan of up to twenty bots that builds the target from nothing, under the light profile.
+/// Returns the plan of up to twenty bots that builds the target from nothing, under the light profile.
 pub fn choose_swarm_plan(alloc: Global, target: &Planes) -> Result<Plan, Memory>
     requires { IsLegal target.now }
     ensures { IfOk result
@@ -212,7 +212,7 @@ pub fn choose_swarm_plan(alloc: Global, target: &Planes) -> Result<Plan, Memory>
     Ok(swarm_plan(alloc, target, i64::MAX)?.plan)
 }
 
-/// Seeks a plan of one bot that builds the target from nothing, under Low all the time, and costs less than the ceiling.
+/// Searches for a plan of one bot that builds the target from nothing, under Low all the time, below the ceiling.
 pub(crate) fn low_plan(alloc: Global, target: &Planes, ceiling: i64) -> Result<Sought, LowFault>
     requires { IsLegal target.now }
     ensures unsupported { IfErr result (HasCause target.now) }
@@ -231,7 +231,7 @@ pub(crate) fn low_plan(alloc: Global, target: &Planes, ceiling: i64) -> Result<S
     Ok(sought_below(ceiling, plan))
 }
 
-/// The plan of one bot that builds the target from nothing, under Low all the time.
+/// Returns the plan of one bot that builds the target from nothing, under Low all the time.
 pub fn choose_low_plan(alloc: Global, target: &Planes) -> Result<Plan, LowFault>
     requires { IsLegal target.now }
     ensures unsupported { IfErr result (HasCause target.now) }

@@ -1,4 +1,4 @@
-//! Plans of a crew that takes all of the source down and then builds the target.
+//! Plans of a crew that voids the source and then builds the target.
 ghost use Rattle.std.specs.Prelude.{◌≡◌, IfOk, length};
 ghost use Rattle.nano_spec.specs.Profile.{full_profile};
 ghost use Rattle.plan_tape.specs.Models.{AreLegalModels};
@@ -16,7 +16,7 @@ use std::alloc::Global;
 use vox_geom::Memory;
 use vox_planes::Planes;
 
-/// The first commands but for their Halt, and then the second.
+/// Returns the first commands without their Halt, and then the second.
 pub(crate) fn join(
     alloc: Global,
     first: &[Command],
@@ -34,7 +34,7 @@ pub(crate) fn join(
     Ok(commands)
 }
 
-/// The commands of a crew that takes the source down and then builds the target.
+/// Returns the commands of a crew that voids the source and then builds the target.
 fn rebuilt(
     alloc: Global,
     source: &Planes,
@@ -52,8 +52,8 @@ fn rebuilt(
     join(alloc, down.commands.as_slice(), up.commands.as_slice())
 }
 
-/// The plan, or one of a crew that takes the source down and then builds the target, where neither is empty and that is cheaper and
-/// within the bounds, where the bots are counted twice. A plan of one command, which is a Halt alone, stands.
+/// Returns the plan, or the plan of a crew that voids the source and then builds the target, if neither is empty and it is cheaper
+/// and within the bounds. The bots of both parts count. A plan of one command, a Halt alone, is returned as it is.
 pub(crate) fn by_rebuilding(
     alloc: Global,
     source: &Planes,

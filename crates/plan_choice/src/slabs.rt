@@ -1,5 +1,5 @@
-//! Models that four bots take down at the corners of a tile, by slabs of several layers: of each slab one tile after the other,
-//! from its top down. What is proposed here is judged.
+//! Takes a model down with four bots at the corners of a tile, by slabs of several layers: in each slab tile by tile, from its top
+//! down. The definitions judge the proposal.
 use crate::extent::{Extent, extent_of};
 use crate::ways::{along, gap};
 use nano_spec::{Command, CommandList};
@@ -9,17 +9,17 @@ use vox_geom::{Coord, Diff, Far, Memory, Near, Region};
 use vox_planes::Planes;
 use voxel_reads::first_full;
 
-/// The most voxels along a tile.
+/// The longest side of a tile in voxels.
 const SIDE: u16 = 31;
 
-/// How many bots there are.
+/// The number of bots.
 const BOTS: u64 = 4;
 
 /// More moves than any leg has.
 const MOST_MOVES: u32 = 100;
 
-/// The tiles along x or z: where the first one begins, how many voxels each has for itself, how far its ends are apart, how many there
-/// are, and where the last one begins, which may overlap the one before.
+/// The tiles along x or z: the first tile's begin, the voxels that each has for itself, the distance of its ends, the number of
+/// tiles, and the last tile's begin, which may overlap the one before.
 #[derive(Clone, Copy)]
 struct Tiles {
     first: u16,
@@ -30,7 +30,7 @@ struct Tiles {
 }
 
 impl Tiles {
-    /// Tiles over all from low to high, two wide or more: as wide as they can be, or all about equally wide.
+    /// Returns tiles that cover low to high, two wide or more: as wide as possible, or all about equally wide.
     fn over(low: u16, high: u16, even: bool) -> Tiles {
         let far = high.saturating_sub(low);
         let count = far / SIDE + 1;
@@ -45,14 +45,14 @@ impl Tiles {
         }
     }
 
-    /// Where a tile begins.
+    /// Returns the begin of a tile.
     fn begin(self, k: u16) -> u16 {
         let own = self.first.saturating_add(k.saturating_mul(self.side));
         own.min(self.last)
     }
 }
 
-/// Whether a box has a full voxel.
+/// Returns whether a box has a full voxel.
 fn has_full(planes: &Planes, low: Coord, high: Coord) -> bool {
     let r = planes.resolution();
     let region = Region::of(low, high);
@@ -60,7 +60,7 @@ fn has_full(planes: &Planes, low: Coord, high: Coord) -> bool {
     end.x < r && end.y < r && end.z < r && first_full(planes, &region).is_some()
 }
 
-/// The k-th of n, counted forth or back.
+/// Returns the k-th of n, counted forward or back.
 fn turn_number(n: u16, back: bool, k: u16) -> u16 {
     if back {
         n.saturating_sub(1).saturating_sub(k)
@@ -69,12 +69,12 @@ fn turn_number(n: u16, back: bool, k: u16) -> u16 {
     }
 }
 
-/// A near difference.
+/// Returns a near difference.
 fn near(dx: i16, dz: i16) -> Near {
     Near::of(Diff { dx, dy: 0, dz }).unwrap_or(Near::down())
 }
 
-/// The command that voids a rectangle of the layer below, with the bot above a corner and the opposite one so far away.
+/// Returns the command that voids a rectangle of the layer below, for the bot above a corner and the opposite corner this far away.
 fn void_below(dx: i16, dz: i16) -> Command {
     match Far::of(Diff { dx, dy: 0, dz }) {
         Some(far) => Command::GVoid(Near::down(), far),
@@ -82,8 +82,8 @@ fn void_below(dx: i16, dz: i16) -> Command {
     }
 }
 
-/// Four bots at the corners of a tile, in rising order of bids: at the least corner, beside it along x, opposite, and beside it along
-/// z. Their commands, where the least corner is, the tiles, and which way the next slab and the next strip go.
+/// Four bots at the corners of a tile, in ascending order of bids: at the least corner, next to it along x, opposite, and next to
+/// it along z. Keeps their commands, the least corner, the tiles, and the directions of the next slab and the next strip.
 #[derive(Drop)]
 struct Square {
     commands: CommandList,
@@ -95,7 +95,7 @@ struct Square {
 }
 
 impl Square {
-    /// Before the first command.
+    /// Starts before the first command.
     fn begin(alloc: Global, extent: Extent, even: bool) -> Square {
         Square {
             commands: CommandList::new(alloc),
@@ -107,13 +107,13 @@ impl Square {
         }
     }
 
-    /// Two commands.
+    /// Adds two commands.
     fn two(&mut self, first: Command, second: Command) -> Result<(), Memory> {
         self.commands.push(first)?;
         self.commands.push(second)
     }
 
-    /// One command of several bots, while the ones before them wait.
+    /// Adds one command for several bots, while the ones before them wait.
     fn several(&mut self, waiting: u8, doing: u8, command: Command) -> Result<(), Memory> {
         for k in 0..waiting.saturating_add(doing) {
             let it = if k < waiting { Command::Wait } else { command };
@@ -122,7 +122,7 @@ impl Square {
         Ok(())
     }
 
-    /// The last of so many bots go along an axis from one component to another.
+    /// Moves the last bots along an axis from one component to another, while the ones before them wait.
     fn leg(
         &mut self,
         waiting: u8,
@@ -143,7 +143,7 @@ impl Square {
         Ok(())
     }
 
-    /// Under High, the first bot goes to the first tile, at this height, and splits.
+    /// Switches to High, moves the first bot to the first tile at this height, and splits it.
     fn open(&mut self, height: u16) -> Result<(), Memory> {
         let (x, z) = (self.along_x.first, self.along_z.first);
         let (far_x, far_z) = (self.along_x.far, self.along_z.far);
@@ -159,7 +159,7 @@ impl Square {
         self.leg(2, 2, Axis::Z, 1, far_z)
     }
 
-    /// All fuse again, and the last bot halts at home.
+    /// Fuses all bots, and halts the last one at home.
     fn close(&mut self) -> Result<(), Memory> {
         let Coord { x, y, z } = self.at;
         let (far_x, far_z) = (self.along_x.far, self.along_z.far);
@@ -176,7 +176,7 @@ impl Square {
         self.two(Command::Flip, Command::Halt)
     }
 
-    /// All go there: to another tile from no lower than this height.
+    /// Moves all bots to another tile, from no lower than this height.
     fn go(&mut self, to: Coord, height: u16) -> Result<(), Memory> {
         let from = self.at;
         let mut y = from.y;
@@ -191,7 +191,7 @@ impl Square {
         Ok(())
     }
 
-    /// Voids the tile below.
+    /// Voids the tile of the layer below.
     fn void_tile(&mut self) -> Result<(), Memory> {
         let (x, z) = (gap(0, self.along_x.far), gap(0, self.along_z.far));
         let (back_x, back_z) = (gap(self.along_x.far, 0), gap(self.along_z.far, 0));
@@ -222,7 +222,7 @@ impl Square {
         Ok(())
     }
 
-    /// Voids a strip of a slab, the other way along z than the one before.
+    /// Voids a strip of a slab, in the direction along z opposite to the one before.
     fn strip(&mut self, source: &Planes, i: u16, low: u16, high: u16) -> Result<(), Memory> {
         let count = self.along_z.count;
         let back = self.back;
@@ -233,7 +233,7 @@ impl Square {
         Ok(())
     }
 
-    /// Voids a slab, the other way along x than the one before.
+    /// Voids a slab, in the direction along x opposite to the one before.
     fn slab(&mut self, source: &Planes, low: u16, high: u16) -> Result<(), Memory> {
         let count = self.along_x.count;
         let turn = self.turn;
@@ -245,8 +245,8 @@ impl Square {
     }
 }
 
-/// The commands of four bots under High that take all of a model down by slabs of so many layers, in tiles as wide as they can be, or
-/// all about equally wide. There are none where they take more steps than that.
+/// Returns the commands of four bots under High that void a model by slabs of `thick` layers, in tiles as wide as possible, or all
+/// about equally wide. Returns none if they take more steps than the limit.
 pub(crate) fn slabs(
     alloc: Global,
     source: &Planes,

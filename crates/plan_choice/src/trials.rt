@@ -1,4 +1,4 @@
-//! Proposals that are made one after another, each of which is judged: the cheapest stands in the end.
+//! Makes proposals one after another, judges each, and keeps the cheapest.
 ghost use Rattle.std.specs.Prelude.{IfOk};
 ghost use Rattle.plan_choice.specs.Better.{CanImprove, CanRun, MayStandFor};
 
@@ -17,30 +17,29 @@ use std::alloc::Global;
 use vox_geom::{Coord, Memory};
 use vox_planes::Planes;
 
-/// What may be proposed.
+/// A kind of proposal.
 #[derive(Clone, Copy)]
 pub(crate) enum Trial {
-    /// Squads that build the target from nothing, or take all of the source down: no more bots than the bounds allow.
+    /// Squads that build the target from nothing or void the source, with no more bots than the bounds allow.
     Squads(Manner),
-    /// Four bots that take all of the source down by slabs of so many layers, in tiles as wide as they can be, or all about equally
-    /// wide.
+    /// Four bots that void the source by slabs of this many layers, in tiles all about equally wide, or as wide as possible.
     Slabs(u16, bool),
-    /// The same, once one bot has put poles under what hangs.
+    /// The same, after one bot has put poles under overhangs.
     PoledSlabs(u16, bool),
-    /// Squads of four that take all of the source down by slabs of so many layers, or build the target by the same backwards, with x and z
-    /// as they are or exchanged.
+    /// Squads of four that void the source by slabs of this many layers, or build the target by the same backwards, with x and z as
+    /// they are or exchanged.
     Fours(u16, bool),
-    /// Boxes, each filled by a team that is found anew, that build the target from nothing, or take all of the source down.
+    /// Boxes that build the target from nothing or void the source, each with a team assigned anew.
     Boxes(BoxManner),
 }
 
-/// The most work of all trials besides as much as a model's space has voxels.
+/// The most work of all trials, added to the number of voxels of the model's space.
 const MOST_WORK: u64 = 4_000_000;
 
-/// Which part of a model's full voxels a machine counts that starts with them: it takes far less for each than for one that floats.
+/// The divisor of the full voxels that a machine starts with: each costs far less than a voxel that floats.
 const START: u32 = 8;
 
-/// Whether a row along z is the same with x and z exchanged, as far as its voxels lie before x.
+/// Returns whether a row along z is the same with x and z exchanged, for its voxels before x.
 fn is_symmetric_row(planes: &Planes, x: u16, y: u16) -> bool {
     for z in 0..x {
         let one = is_full_at(planes, Coord { x, y, z });
@@ -51,7 +50,7 @@ fn is_symmetric_row(planes: &Planes, x: u16, y: u16) -> bool {
     true
 }
 
-/// Whether a layer is the same with x and z exchanged.
+/// Returns whether a layer is the same with x and z exchanged.
 fn is_symmetric_layer(planes: &Planes, y: u16) -> bool {
     for x in 0..planes.resolution() {
         if !is_symmetric_row(planes, x, y) {
@@ -61,7 +60,7 @@ fn is_symmetric_layer(planes: &Planes, y: u16) -> bool {
     true
 }
 
-/// Whether a model is the same with x and z exchanged, so that nothing is won by it.
+/// Returns whether a model is the same with x and z exchanged, so that exchanging them gains nothing.
 fn is_symmetric(planes: &Planes) -> bool {
     if is_void(planes) {
         return true;
@@ -74,7 +73,7 @@ fn is_symmetric(planes: &Planes) -> bool {
     true
 }
 
-/// The commands of squads in a manner that build the target from nothing, or take all of the source down.
+/// Returns the commands of squads in a manner that build the target from nothing or void the source.
 fn by_manner(
     alloc: Global,
     source: &Planes,
@@ -94,7 +93,7 @@ fn by_manner(
     squads(alloc, if down { source } else { target }, manner)
 }
 
-/// The commands of four bots that take all down by slabs once one bot has put up poles, if they are to be had.
+/// Returns the commands of one bot that puts up poles, followed by those of four bots that void everything by slabs, if both exist.
 fn poled_slabs(
     alloc: Global,
     poled: &Option<Poled>,
@@ -112,7 +111,7 @@ fn poled_slabs(
     Ok(Some(join(alloc, first, later.as_slice())?))
 }
 
-/// The commands under High of a trial by slabs, if there are any that take no more steps than that.
+/// Returns the commands under High of a trial by slabs, if there are any within `most` steps.
 fn by_trial(
     alloc: Global,
     source: &Planes,
@@ -139,14 +138,14 @@ fn by_trial(
     }
 }
 
-/// The work that all trials between two models may take.
+/// Returns the work allowed for all trials between two models.
 fn work_between(source: &Planes, target: &Planes) -> Work {
     let r = u64::from(source.resolution());
     let full = extent_of(source).count.max(extent_of(target).count);
     Work::allowing((r * r * r).saturating_add(MOST_WORK), full / START)
 }
 
-/// The commands of a trial, if there are any that take no more steps than that, and no more work than is allowed.
+/// Returns the commands of a trial, if there are any within the limits of steps and of work.
 fn propose(
     alloc: Global,
     source: &Planes,
@@ -179,7 +178,7 @@ fn propose(
     lower_commands(alloc, source, profile, commands.as_slice(), steps, work)
 }
 
-/// Whether a trial is another one with x and z exchanged.
+/// Returns whether a trial is another one with x and z exchanged.
 fn is_turned(trial: Trial) -> bool {
     match trial {
         Trial::Squads(manner) => manner.turned,
@@ -190,7 +189,7 @@ fn is_turned(trial: Trial) -> bool {
     }
 }
 
-/// Whether one of the trials wants poles.
+/// Returns whether one of the trials uses poles.
 fn some_want_poles(trials: &[Trial]) -> bool {
     for trial in trials {
         if let Trial::PoledSlabs(_, _) = *trial {
@@ -200,7 +199,7 @@ fn some_want_poles(trials: &[Trial]) -> bool {
     false
 }
 
-/// The source with poles under what hangs, if a trial wants them and they take no more steps than that.
+/// Returns the source with poles under overhangs, if a trial uses them and they take no more steps than the limit.
 fn poled_for(
     alloc: Global,
     source: &Planes,
@@ -213,8 +212,8 @@ fn poled_for(
     with_poles(alloc, source, most)
 }
 
-/// The plan, or the cheapest of the trials that cost less and keep the bounds, if any do. What cannot cost less than the ceiling need
-/// not be tried.
+/// Returns the plan, or the cheapest of the trials that cost less and keep the bounds, if any do. Trials that cannot cost less than
+/// the ceiling may be skipped.
 pub(crate) fn cheapest(
     alloc: Global,
     source: &Planes,

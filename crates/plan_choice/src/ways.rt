@@ -1,17 +1,17 @@
-//! Moves of one bot on its way, and the same backwards.
+//! Moves of one bot along a path, and the same backwards.
 use nano_spec::{Command, CommandList};
 use plan_tape::{Axis, next_stop};
 use squad_plans::opposite;
 use std::alloc::Global;
 use vox_geom::{Coord, Diff, Long, Memory, Short};
 
-/// The most that one leg of a double move goes.
+/// The longest leg of a double move.
 const SHORT: u16 = 5;
 
-/// More than any two components lie apart.
+/// More than the distance of any two components.
 const APART: u16 = 1023;
 
-/// What leads from one component to another.
+/// Returns the difference from one component to another.
 pub(crate) fn gap(from: u16, to: u16) -> i16 {
     if from < to {
         (to - from).min(APART) as i16
@@ -20,7 +20,7 @@ pub(crate) fn gap(from: u16, to: u16) -> i16 {
     }
 }
 
-/// What leads from one coordinate to another.
+/// Returns the difference from one coordinate to another.
 pub(crate) fn difference(from: Coord, to: Coord) -> Diff {
     Diff {
         dx: gap(from.x, to.x),
@@ -29,7 +29,7 @@ pub(crate) fn difference(from: Coord, to: Coord) -> Diff {
     }
 }
 
-/// The move along an axis from one component to another, or a Wait where none is so long.
+/// Returns the move along an axis from one component to another, or a Wait if no move is that long.
 pub(crate) fn along(axis: Axis, from: u16, to: u16) -> Command {
     let by = gap(from, to);
     let none = Diff {
@@ -48,13 +48,13 @@ pub(crate) fn along(axis: Axis, from: u16, to: u16) -> Command {
     }
 }
 
-/// Where a leg of a double move ends.
+/// Returns the end of one leg of a double move.
 fn short_stop(at: u16, to: u16) -> u16 {
     to.max(at.saturating_sub(SHORT))
         .min(at.saturating_add(SHORT))
 }
 
-/// Where the next move on the way ends: along y first, then along x and z, by a double move where that ends one of both.
+/// Returns the end of the next move of a path: along y first, then along x and z, by a double move if that ends one of both.
 pub(crate) fn next_end(at: Coord, to: Coord) -> Coord {
     if at.y != to.y {
         return Coord {
@@ -87,7 +87,7 @@ pub(crate) fn next_end(at: Coord, to: Coord) -> Coord {
     to
 }
 
-/// The command of one bot that undoes another one: none for a Halt.
+/// Returns the command of one bot that undoes another one, or none for a Halt.
 fn undoing(command: Command) -> Option<Command> {
     match command {
         Command::SMove(d) => Some(Command::SMove(Long::of(opposite(d.diff()))?)),
@@ -102,7 +102,7 @@ fn undoing(command: Command) -> Option<Command> {
     }
 }
 
-/// One bot's commands backwards, each undone: they take down what was built.
+/// Returns one bot's commands backwards, each undone: they take down what was built.
 pub fn backwards(alloc: Global, commands: &[Command]) -> Result<CommandList, Memory> {
     let mut back = CommandList::new(alloc);
     let count = commands.len();
