@@ -39,7 +39,7 @@ multiple a (j ∷ ks) h = by (multiple (j + 1) ks h.1)
         let parts : 2 ^ j ≡ 2 ^ (j - a) * 2 ^ a = ap (λ v. 2 ^ v) whole ∙ pow-add 2 (j - a) a in
         ((1 + 2 * q) * 2 ^ (j - a), seed_more j ks ∙ (ap (λ v. 2 ^ j + v) (e ∙ ap (λ v. q * v) (two_to_next j)) ∙ (omega arith ∙ (ap (λ v. (1 + 2 * q) * v) parts ∙ omega arith))))
 
--- as many ones as seeds
+-- the bit count is the number of seeds
 pub ones_are : (a : ℕ) (ks : List ℕ) → Rising a ks → count_ones (seed_set ks) ≡ length ks
 unfolding ones
 ones_are a [] h = refl

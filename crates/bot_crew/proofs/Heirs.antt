@@ -1,4 +1,4 @@
--- The bots that come of a move, a Fission and a Fusion have nothing in common with each other or with those that stay.
+-- The bots after a move, a Fission and a Fusion have nothing in common with each other or with the unchanged ones.
 use Rattle.std.proofs.Common.{◌≡◌, ℕ, zero, suc, ◌+◌, ◌<◌, ◌≤◌, refl, sym, ◌∙◌, ap, subst, arith, inl, inr, ◌⊎◌, Bool, true, false, ◌&&◌, ◌||◌, ◌==◌, List, [], ◌∷◌, length, take, drop}
 use Rattle.std.specs.Prelude.{Option, Some, None, IfSome, IsNone, filter, find, nat_le, slice_index}
 use Rattle.std.specs.List.{list_any}
@@ -22,7 +22,7 @@ use Rattle.step_order.proofs.Kin.{of_list}
 use Rattle.bot_crew.specs.Crew.{IsBid, IsCrew, bot_at, stands_at}
 use Rattle.bot_crew.proofs.Kin.{IsHeir, IsKin, Own, crew_of}
 
--- ---- who stands at a coordinate
+-- ---- the bot at a coordinate
 
 pub stands : (c : Coord) (b : Bot) → b.pos ≡ c → stands_at c b ≡ true
 stands c b e =
@@ -48,7 +48,7 @@ found_in p (x ∷ xs) b e = by (p x) refl (found_in p xs b)
     by false f later = let later_on = later (rw f at e) in (inr later_on.0, later_on.1)
 
 module _ (bots : List Bot) (c : Coord) where
-  -- no bot stands where none is found
+  -- no bot is there if none is found
   pub none_there : IsNone (bot_at bots c) → (e : Bot) → In e bots → e.pos ≡ c → ⊥
   none_there h e i f = by (bot_at bots c) refl h
     where
@@ -56,7 +56,7 @@ module _ (bots : List Bot) (c : Coord) where
       by None g n = not_both (stands c e f) (find_none (stands_at c) e bots g i)
       by (Some b) g n = cc
 
-  -- all bots at a coordinate have the bid of the one that is found there
+  -- all bots at a coordinate have the bid of the one found there
   pub only_there : (bid : ℕ) → IsKin bots → IfSome (bot_at bots c) (λ b. b.bid ≡ bid) → (e : Bot) → In e bots
       → e.pos ≡ c → e.bid ≡ bid
   only_there bid kin h e i f = by (bot_at bots c) refl h

@@ -1,4 +1,4 @@
--- Bots with nothing in common: what is known of a crew by its members, and what becomes of it where some bots are
+-- Bots with nothing in common: the facts of a crew by its members, and the crew after some bots are
 -- replaced.
 use Rattle.std.proofs.Common.{◌≡◌, ◌≢◌, ℕ, zero, suc, ◌+◌, ◌<◌, ◌≤◌, refl, sym, ◌∙◌, ap, subst, arith, inl, inr, ◌⊎◌, Bool, true, false, not, ◌==◌, List, [], ◌∷◌, ◌++◌, length, get_or}
 use Rattle.std.specs.Prelude.{All, IsTrue, IsFalse}
@@ -16,7 +16,7 @@ use Rattle.bot_crew.specs.Crew.{IsBid, IsCrew, replaced, without}
 abbrev pub Own : Bot → ℕ → Type 0
 Own b k = (k ≡ b.bid) ⊎ (is_seed b.seeds k ≡ true)
 
--- what holds of the bots of a crew by membership
+-- facts of the bots of a crew by membership
 pub record IsKin (bots : List Bot) : Type 0 where
   -- bots at one position have one bid
   pub apart : (a b : Bot) → In a bots → In b bots → a.pos ≡ b.pos → a.bid ≡ b.bid
@@ -103,7 +103,7 @@ crew_of bots r kin = record {
 
 -- ---- some bots replaced
 
--- what bots must meet that come in the place of those with some bids
+-- the conditions on bots that replace those with some bids
 pub record IsHeir (bots : List Bot) (bids : List ℕ) (news : List Bot) : Type 0 where
   pub differ : Differing news
   pub apart : (a b : Bot) → In a news → In b news → a.pos ≡ b.pos → a.bid ≡ b.bid
@@ -112,7 +112,7 @@ pub record IsHeir (bots : List Bot) (bids : List ℕ) (news : List Bot) : Type 0
   -- their numbers were those of the bots that they replace
   pub heirs : (a : Bot) (k : ℕ) → In a news → Own a k
       → (b : Bot) × In b bots × (list_any (λ j. j == b.bid) bids ≡ true) × Own b k
-  -- and where they stand no other does
+  -- and no other bot is at their positions
   pub free : (a b : Bot) → In a news → In b bots → a.pos ≡ b.pos → list_any (λ j. j == b.bid) bids ≡ true
 
 module _ (bots : List Bot) (rising : Rising bots) (kin : IsKin bots) (bids : List ℕ) (news : List Bot) (heir : IsHeir bots bids news) where

@@ -1,4 +1,4 @@
--- Rising bots: where a bid stands among them, and what a write, an insertion and a removal there leave.
+-- Rising bots: the index of a bid among them, and the result of a write, an insertion and a removal there.
 use Rattle.std.proofs.Common.{◌≡◌, ℕ, zero, suc, ◌<◌, ◌≤◌, refl, sym, ◌∙◌, ap, arith, inl, inr, ◌⊎◌, Bool, true, false, cond, ◌||◌, not, ◌==◌, List, [], ◌∷◌, length, get_or, set}
 use Rattle.std.specs.Prelude.{Some, None, IsSome, nat_lt}
 use Rattle.std.specs.List.{list_any, insert, remove}
@@ -13,9 +13,9 @@ use Rattle.step_order.proofs.Lists.{In, not_both, in_place, place_in, filter_eve
 use Rattle.bot_crew.specs.Crew.{bot_of, without}
 use Rattle.bot_crew.proofs.Kin.{rising_pairs}
 
--- ---- where a bid stands
+-- ---- the index of a bid
 
--- the place of a bid: those before it have lesser bids, and the one there has not
+-- the index of a bid: those before it have lesser bids, and the one there has not
 pub record IsPlace (bots : List Bot) (bid i : ℕ) : Type 0 where
   pub within : i ≤ length bots
   pub before : (k : ℕ) (d : Bot) → k < i → (get_or bots k d).bid < bid
@@ -40,7 +40,7 @@ none_at bots bid i r p h c j e = let place = in_place c c bots j in by place.0 p
     by k l f (inr (inl g)) = let before = p.before k c g in omega arith
     by k l f (inr (inr g)) = let below_bid : (get_or bots i c).bid < (get_or bots k c).bid = rising_pairs bots r i k c g l in let at_most_bid : bid ≤ (get_or bots i c).bid = p.from c (omega arith) in omega arith
 
--- no bot with the bid is active where none stands at its place
+-- no bot with the bid is active if none is at its index
 pub none_found : (bots : List Bot) (bid i : ℕ) → Rising bots → IsPlace bots bid i
     → ((d : Bot) → i < length bots → (get_or bots i d).bid ≡ bid → ⊥) → bot_of bots bid ≡ None
 none_found bots bid i r p h = none_find (λ b. b.bid == bid) bots (λ c j. test_unequal c.bid bid (none_at bots bid i r p h c j))
@@ -63,7 +63,7 @@ decided (x ∷ xs) bid (suc i) = by (decided xs bid i)
     by (inl h) = inl (omega (arith, h.0), h.1)
     by (inr h) = inr (λ d l e. h d (omega arith) e)
 
--- an active bot stands at the place of its bid
+-- an active bot is at the index of its bid
 pub placed : (bots : List Bot) (bid i : ℕ) → Rising bots → IsPlace bots bid i → IsSome (bot_of bots bid)
     → (i < length bots) × ((d : Bot) → (get_or bots i d).bid ≡ bid)
 placed bots bid i r p s = by (decided bots bid i)
@@ -80,7 +80,7 @@ placed bots bid i r p s = by (decided bots bid i)
     by (inl h) = h
     by (inr h) = absurd (nothing (none_found bots bid i r p h))
 
--- ---- writes at a place
+-- ---- writes at an index
 
 is_kept : (bid : ℕ) (x : Bot) → (bid ≡ x.bid → ⊥) → not (list_any (λ k. k == x.bid) (bid ∷ [])) ≡ true
 is_kept bid x h = let other_bid : (bid == x.bid) ≡ false = test_unequal bid x.bid h in rw other_bid refl
@@ -137,7 +137,7 @@ insert_with (x ∷ xs) (suc i) new l b f =
     let not_nat_lt : nat_lt new.bid x.bid ≡ false = test_not_less new.bid x.bid (omega arith) in
     rw not_nat_lt (ap (λ ys. x ∷ ys) (insert_with xs i new (omega arith) (λ k d h. b (suc k) d (omega arith)) (λ d h. f d (omega arith))))
 
--- an insertion at the place of a bid that no bot has
+-- an insertion at the index of a bid that no bot has
 pub insert_is : (bots : List Bot) (i : ℕ) (new : Bot) → Rising bots → IsPlace bots new.bid i
     → ((c : Bot) → In c bots → c.bid ≡ new.bid → ⊥) → insert bots i new ≡ in_rising_order (new ∷ bots)
 insert_is bots i new r p h =
@@ -168,7 +168,7 @@ order_swap a b xs d =
     other : Differing (b ∷ a ∷ xs)
     other = ((λ c i f. first c i f), ((λ c i f. d.0 c (inr i) f), d.1.1))
 
--- two bids taken out in turn
+-- two bids taken out one after another
 pub without_both : (bots : List Bot) (a b : ℕ) → without (without bots (b ∷ [])) (a ∷ []) ≡ without bots (a ∷ b ∷ [])
 without_both bots a b =
     filter_same (λ x. not (list_any (λ k. k == x.bid) (a ∷ []))) (λ x. not (list_any (λ k. k == x.bid) (a ∷ b ∷ []))) (without bots (b ∷ [])) (λ x i. second (a == x.bid) (b == x.bid) (filter_in (λ x. not (list_any (λ k. k == x.bid) (b ∷ []))) x bots i).1)

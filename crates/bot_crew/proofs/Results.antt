@@ -1,4 +1,4 @@
--- What each call on a crew leaves.
+-- The result of each call on a crew.
 use Rattle.std.proofs.Common.{◌≡◌, ℕ, zero, suc, ◌+◌, ◌<◌, ◌≤◌, refl, sym, ◌∙◌, ap, subst, arith, inl, inr, ◌⊎◌, Bool, true, false, cond, ◌||◌, not, ◌==◌, List, [], ◌∷◌, ◌++◌, length, take, drop, get_or, set}
 use Rattle.std.specs.Prelude.{Some, None, IfSome, IsNone, IsSome, filter, nat_lt, slice_index}
 use Rattle.std.specs.List.{insert, remove, refill, list_any}
@@ -37,13 +37,13 @@ written bots now i new e = ap (λ ws. refill (length bots) bots (set ws i new)) 
     same : length (set bots i new) ≡ length bots
     same = length-set bots i new
 
--- the place of a bid, in a list that is lent
+-- the index of a bid, in a borrowed list
 pub place_is : (bots now : List Bot) (bid i : ℕ) → now ≡ bots → i ≤ length now
     → ((k : ℕ) (d : Bot) → k < i → (get_or now k d).bid < bid)
     → ((d : Bot) → i < length now → bid ≤ (get_or now i d).bid) → IsPlace bots bid i
 place_is bots now bid i e l b f = subst (λ v. IsPlace v bid i) e (record { within = l; before = b; from = f })
 
--- ---- a bot at its place
+-- ---- a bot at its index
 
 module _ (bots : List Bot) (crew : IsCrew bots) (bid i : ℕ) (place : IsPlace bots bid i) (active : IsActive bots bid) where
   pub at_place : i < length bots
@@ -55,7 +55,7 @@ module _ (bots : List Bot) (crew : IsCrew bots) (bid i : ℕ) (place : IsPlace b
   pub is_there : (d : Bot) → bot_of bots bid ≡ Some (get_or bots i d)
   is_there d = found_at bots bid i d at_place (λ k l. place.before k d l) (bid_there d)
 
-  -- what holds of the bot holds of the one at the place
+  -- a property of the bot holds of the one at the index
   pub of_bot : (P : Bot → Type 0) (d : Bot) → IfSome (bot_of bots bid) P → P (get_or bots i d)
   of_bot P d h = subst (λ o. IfSome o P) (is_there d) h
 
@@ -65,7 +65,7 @@ module _ (bots : List Bot) (crew : IsCrew bots) (bid i : ℕ) (place : IsPlace b
   there : (d : Bot) → In (get_or bots i d) bots
   there d = place_in d bots i at_place
 
-  -- the bots with another in its place
+  -- the bots with another at its index
   pub set_there : (new : Bot) → new.bid ≡ bid → set bots i new ≡ replaced bots (bid ∷ []) (new ∷ [])
   set_there new e = set_is bots bid i new (rising_of bots crew) at_place bid_there e
 
@@ -81,7 +81,7 @@ module _ (bots : List Bot) (crew : IsCrew bots) (bid i : ℕ) (place : IsPlace b
     pub move_crew : IsCrew (set bots i (moved (get_or bots i d) (point c)))
     move_crew = subst (λ v. IsCrew v) (sym move_is) (crew_replaced bots (rising_of bots crew) (kin_of bots crew) (bid ∷ []) (moved (get_or bots i d) (point c) ∷ []) heir)
 
--- the bot that a read past the end gives
+-- the bot returned by a read past the end
 abbrev pub nobody : Bot
 nobody = record { bid = 0; pos = record { x = 0; y = 0; z = 0 }; seeds = 0 }
 
@@ -182,7 +182,7 @@ module _ (bots : List Bot) (crew : IsCrew bots) (bid i : ℕ) (place : IsPlace b
 abbrev pub bots_seeded : List Bot → List Bot → ℕ → ℕ → List Bot
 bots_seeded bots now i seeds = refill (length bots) bots (set now i (record { bid = (get_or now i nobody).bid; pos = (get_or now i nobody).pos; seeds = seeds }))
 
--- what the code made of the seeds of a bot
+-- the code's split of the seeds of a bot
 pub record IsSplit (b : Bot) (m least some rest : ℕ) : Type 0 where
   pub bid : least ≡ slice_index (seed_list b.seeds) 0
   pub taken : some ≡ seed_set (take m (drop 1 (seed_list b.seeds)))
@@ -269,7 +269,7 @@ either [] i d e l = absurd (omega arith)
 either (x ∷ xs) zero d e l = refl
 either (x ∷ xs) (suc i) d e l = either xs i d e (omega arith)
 
--- what the code reads at a place is the bot there
+-- a read at an index returns the bot there
 pub read_is : (bots : List Bot) (i : ℕ) (b : Bot) → i < length bots → b ≡ get_or bots i b → b ≡ get_or bots i nobody
 read_is bots i b l e = e ∙ either bots i b nobody l
 
@@ -304,7 +304,7 @@ fusion_result bots old rest now primary secondary end p other seeds e f g crew p
               (bots_seeded_is ∙ fused_is bots crew primary secondary end place a s two p l)),
         )
 
--- ---- what is read
+-- ---- reads
 
 less_by : (a b : ℕ) → true ≡ nat_lt a b → a < b
 less_by a b h = grind (arith, nat_tests)
@@ -313,7 +313,7 @@ not_less_by : (a b : ℕ) → false ≡ nat_lt a b → b ≤ a
 not_less_by a b h = grind (arith, nat_tests)
 
 module _ (bots old now : List Bot) (crew : IsCrew bots) (e : bots ≡ old) (f : now ≡ bots) (bid i : ℕ) (place : IsPlace bots bid i) where
-  -- the bot at the place, where it has the bid
+  -- the bot at the index, if it has the bid
   pub read_bot : (b : Bot) → true ≡ nat_lt i (length now) → b ≡ get_or now i b → b.bid ≡ bid → Some b ≡ bot_of old bid
   read_bot b t g h =
       let is_less = less_by i (length now) t in
@@ -330,7 +330,7 @@ module _ (bots old now : List Bot) (crew : IsCrew bots) (e : bots ≡ old) (f : 
   pub read_nothing : false ≡ nat_lt i (length now) → None ≡ bot_of old bid
   read_nothing t = let at_least = not_less_by i (length now) t in sym (none_found bots bid i (rising_of bots crew) place (λ d m n. absurd (let same_length : length now ≡ length bots = ap length f in omega arith))) ∙ ap (λ v. bot_of v bid) e
 
--- the bot that is found at a coordinate
+-- the bot found at a coordinate
 pub found_there : (bots : List Bot) (c : Coord) (i : ℕ) (b : Bot) → i < length bots
     → ((k : ℕ) (d : Bot) → k < i → stands_at c (get_or bots k d) ≡ false) → b ≡ get_or bots i b → b.pos ≡ c
     → bot_at bots c ≡ Some b

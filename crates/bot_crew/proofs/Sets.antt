@@ -1,4 +1,4 @@
--- What the code does with sets of seeds.
+-- The code's operations on sets of seeds.
 use Rattle.std.proofs.Common.{◌≡◌, ℕ, zero, suc, ◌+◌, ◌*◌, ◌-◌, ◌%◌, ◌^◌, ◌<◌, ◌≤◌, refl, sym, ◌∙◌, ap, subst, arith, inl, inr, ◌⊎◌, Bool, ◌||◌, ◌==◌, List, [], ◌∷◌, length, take, drop, bit_or, take-append-drop, w64}
 use Rattle.std.specs.Prelude.{filter, count_ones, max, slice_index}
 use Rattle.std.specs.Int.{bit_at, trailing_zeros}
@@ -52,7 +52,7 @@ between_is later kept m ks h g e f =
     let same_seed_set : seed_set (drop (1 + m) ks) ≡ seed_set (drop (m + 1) ks) = ap (λ v. seed_set (drop v ks)) (omega arith) in
     (omega arith, omega arith, kept_is ∙ same_seed_set)
 
--- seeds that follow one another
+-- consecutive seeds
 row_is : (a n : ℕ) → seed_set (numbers_from a n) + 2 ^ a ≡ 2 ^ (a + n)
 row_is a zero = let sum_is : a + zero ≡ a = omega arith in omega (arith, ap (λ v. 2 ^ v) sum_is)
 row_is a (suc n) =

@@ -1,4 +1,4 @@
--- What holds of the active bots, and what a command of one or two of them makes of them (docs/FORMATS.md, "State" and
+-- The invariant of the active bots, and the effect of commands of one or two of them (docs/FORMATS.md, "State" and
 -- "Commands").
 use Rattle.std.specs.Prelude.{◌≢◌, ℕ, ◌<◌, ◌≤◌, ◌==◌, Bool, ◌&&◌, not, List, ◌++◌, length, filter, find, Option, IsTrue, IsFalse, IsSome, All, AllPairs}
 use Rattle.std.specs.List.{list_any}
@@ -36,11 +36,11 @@ bot_of bots bid = find (λ b. b.bid == bid) bots
 abbrev pub IsActive : List Bot → ℕ → Type 0
 IsActive bots bid = IsSome (bot_of bots bid)
 
--- whether the bot stands at the coordinate
+-- whether the bot is at the coordinate
 abbrev pub stands_at : Coord → Bot → Bool
 stands_at c b = (b.pos.x == c.x) && ((b.pos.y == c.y) && (b.pos.z == c.z))
 
--- the bot that stands at a coordinate, if one does
+-- the bot at a coordinate, if there is one
 abbrev pub bot_at : List Bot → Coord → Option Bot
 bot_at bots c = find (stands_at c) bots
 
@@ -48,6 +48,6 @@ bot_at bots c = find (stands_at c) bots
 abbrev pub without : List Bot → List ℕ → List Bot
 without bots bids = filter (λ b. not (list_any (λ k. k == b.bid) bids)) bots
 
--- the bots with others in the place of those with some bids
+-- the bots with those of some bids replaced by others
 abbrev pub replaced : List Bot → List ℕ → List Bot → List Bot
 replaced bots bids others = in_rising_order (others ++ without bots bids)

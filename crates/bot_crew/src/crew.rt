@@ -15,8 +15,8 @@ use vox_geom::Coord;
 /// The most bots that can be active: bids are 1 to 40.
 pub const MOST_BOTS: usize = 40;
 
-/// The active bots of a state, in rising order of their bids (docs/FORMATS.md, "State"). Bids and positions differ, no two
-/// bots have a seed in common, no seed is an active bid, and all these numbers are 1 to 40. No call takes memory.
+/// The active bots of a state, in rising order of their bids (docs/FORMATS.md, "State"). Bids and positions differ, no two bots
+/// have a seed in common, no seed is an active bid, and all these numbers are 1 to 40. No call allocates.
 #[derive(Drop)]
 pub struct Crew {
     bots: ArrayVec<Bot, MOST_BOTS>,
@@ -34,7 +34,7 @@ impl Model for Crew {
     ghost invariant = { λ c. IsCrew c.bots.items };
 }
 
-/// The place of a bid: how many bots stand before the first whose bid is not less.
+/// Returns the index of a bid: the number of bots with a lesser bid.
 fn place_of(bots: &[Bot], bid: u8) -> usize
     ensures within { result ≤ length bots.now }
     ensures before { (k : ℕ) (d : ActiveBot) → k < result → (slice_index_or bots.now k d).bid < bid }
@@ -48,7 +48,7 @@ fn place_of(bots: &[Bot], bid: u8) -> usize
     bots.len()
 }
 
-/// The place of a bid among rising bots. Where all lesser bids are there it is one less than the bid: this is tried first.
+/// Returns the index of a bid among rising bots. Tries bid - 1 first, which is right if all lesser bids are active.
 fn place_among(bots: &[Bot], bid: u8) -> usize
     requires { AllPairs (λ a b. a.bid < b.bid) bots.now }
     ensures within { result ≤ length bots.now }
@@ -63,7 +63,7 @@ fn place_among(bots: &[Bot], bid: u8) -> usize
 }
 
 impl Crew {
-    /// The bots of an opening: the bot with bid 1 at (0,0,0), whose seeds are the profile's number of seeds from 2 on.
+    /// Returns the bots of an opening: the bot with bid 1 at (0,0,0), whose seeds are the profile's number of seeds from 2 on.
     pub fn opening(profile: Profile) -> Crew
         requires { profile.seeds ≤ 39 }
         ensures { result ≡ first_bot profile ∷ [] }
@@ -77,7 +77,7 @@ impl Crew {
         Crew { bots }
     }
 
-    /// The bots, in rising order of their bids.
+    /// Returns the bots, in rising order of their bids.
     pub fn bots(&self) -> &[Bot]
         ensures value { result.now ≡ self.now }
         ensures crew { IsCrew self.now }
@@ -85,7 +85,7 @@ impl Crew {
         self.bots.as_slice()
     }
 
-    /// Does nothing: it recalls what the bots keep.
+    /// Proof aid: exposes the invariant of the bots. No effect.
     #[inline(always)]
     pub fn recall(&self)
         ensures crew { IsCrew self.now }
@@ -93,7 +93,7 @@ impl Crew {
         let _ = &self.bots;
     }
 
-    /// How many bots are active.
+    /// Returns the number of active bots.
     pub fn count(&self) -> u8
         ensures value { result ≡ length self.now }
         ensures most { result ≤ MOST_BOTS }
@@ -101,7 +101,7 @@ impl Crew {
         self.bots.len() as u8
     }
 
-    /// The bot with the bid: `None` exactly where no active bot has it.
+    /// Returns the bot with the bid, or `None` exactly if no active bot has it.
     pub fn bot(&self, bid: u8) -> Option<Bot>
         ensures { result ≡ bot_of self.now bid }
     {
@@ -111,7 +111,7 @@ impl Crew {
         if bot.bid == bid { Some(*bot) } else { None }
     }
 
-    /// The bid of the bot that stands at the coordinate: `None` exactly where none stands there.
+    /// Returns the bid of the bot at the coordinate, or `None` exactly if there is none.
     pub fn at(&self, c: Coord) -> Option<u8>
         ensures { result ≡ option_map (λ b. b.bid) (bot_at self.now c) }
     {
@@ -123,7 +123,7 @@ impl Crew {
         None
     }
 
-    /// The bot goes to a coordinate at which no other stands.
+    /// Moves the bot to a coordinate at which no other is.
     pub fn move_to(&mut self, bid: u8, c: Coord)
         requires active { IsActive self.old bid }
         requires free { IfSome (bot_at self.old c) (λ b. b.bid ≡ bid) }
@@ -134,7 +134,7 @@ impl Crew {
         self.bots[place].pos = c;
     }
 
-    /// The only bot goes to a coordinate: no bid is looked for.
+    /// Moves the only bot to a coordinate, without a search for its bid.
     #[inline(always)]
     pub fn move_only(&mut self, c: Coord)
         requires { length self.old ≡ 1 }
@@ -143,8 +143,8 @@ impl Crew {
         self.bots[0].pos = c;
     }
 
-    /// The bot splits (docs/FORMATS.md, "Commands"): the new bot, at a coordinate at which none stands, has the least seed as its
-    /// bid and the next m seeds; the bot keeps the rest of its seeds.
+    /// Splits the bot (docs/FORMATS.md, "Commands"): the new bot, at a free coordinate, has the least seed as its bid and the next
+    /// m seeds; the bot keeps the rest of its seeds.
     pub fn fission(&mut self, bid: u8, c: Coord, m: u8)
         requires active { IsActive self.old bid }
         requires free { IsNone (bot_at self.old c) }
@@ -166,7 +166,7 @@ impl Crew {
         );
     }
 
-    /// Two bots become one (docs/FORMATS.md, "Commands"): the primary takes the secondary's bid and seeds as seeds, and the secondary ends.
+    /// Fuses two bots (docs/FORMATS.md, "Commands"): the primary gets the secondary's bid and seeds as seeds; the secondary ends.
     pub fn fusion(&mut self, primary: u8, secondary: u8)
         requires primary { IsActive self.old primary }
         requires secondary { IsActive self.old secondary }
@@ -181,7 +181,7 @@ impl Crew {
         self.bots[place].seeds = unite(self.bots[place].seeds, other.seeds, other.bid);
     }
 
-    /// The last bot halts: no bot is left.
+    /// Halts the last bot: no bot is left.
     pub fn halt(&mut self)
         requires { length self.old ≡ 1 }
         ensures { self.new ≡ [] }
@@ -189,7 +189,7 @@ impl Crew {
         self.bots.clear();
     }
 
-    /// Another crew with the same bots.
+    /// Returns another crew with the same bots.
     pub fn copy(&self) -> Crew
         ensures { result ≡ self.now }
     {

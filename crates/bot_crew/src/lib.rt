@@ -1,4 +1,4 @@
-//! The active bots of a state: [`Crew`] keeps them in rising order of their bids, in a row of 40 places that takes no memory.
+//! The active bots of a state: [`Crew`] holds them, at most 40, in rising order of their bids. It does not allocate.
 #![tactic(auto)]
 
 mod crew;

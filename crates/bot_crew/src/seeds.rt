@@ -1,18 +1,18 @@
-//! Sets of seeds, as bits: bit k says that k is a seed.
+//! Sets of seeds, as bits: bit k means that k is a seed.
 ghost use Rattle.std.specs.Prelude.{◌≡◌, ◌+◌, ◌<◌, ◌≤◌, ◌==◌, ◌||◌, length, take, drop, filter, slice_index};
 ghost use Rattle.vox_geom.specs.Space.{numbers_below};
 ghost use Rattle.nano_spec.specs.State.{is_seed, seed_list, seed_numbers, seed_set};
 
 use nano_spec::Bot;
 
-/// How many seeds the bot has.
+/// Returns the number of seeds of the bot.
 pub fn seeds_of(bot: Bot) -> u8
     ensures { result ≡ length (seed_list bot.seeds) }
 {
     bot.seeds.count_ones() as u8
 }
 
-/// So many seeds, the numbers from 2 on.
+/// Returns the set of `count` seeds, from 2 on.
 pub(crate) fn first_seeds(count: u8) -> u64
     requires { count ≤ 39 }
     ensures { result ≡ seed_set (drop 2 (numbers_below (count + 2))) }
@@ -20,7 +20,7 @@ pub(crate) fn first_seeds(count: u8) -> u64
     ((1 << count) - 1) << 2
 }
 
-/// The seeds of one set, those of another, and one more.
+/// Returns the union of two sets and one more seed.
 pub(crate) fn unite(seeds: u64, others: u64, bid: u8) -> u64
     requires { bid < 64 }
     ensures { result ≡ seed_set (filter (λ k. is_seed seeds k || is_seed others k || k == bid) seed_numbers) }
@@ -28,7 +28,7 @@ pub(crate) fn unite(seeds: u64, others: u64, bid: u8) -> u64
     seeds | others | 1 << bid
 }
 
-/// What a Fission makes of the seeds of a bot.
+/// The split of a bot's seeds by a Fission.
 #[derive(Clone, Copy)]
 pub(crate) struct Split {
     /// The bid of the new bot.
@@ -39,7 +39,7 @@ pub(crate) struct Split {
     pub(crate) kept: u64,
 }
 
-/// The set without its least seed.
+/// Returns the set without its least seed.
 fn without_least(seeds: u64) -> u64
     requires { 0 < length (seed_list seeds) }
     ensures { seed_list result ≡ drop 1 (seed_list seeds) }
@@ -47,7 +47,7 @@ fn without_least(seeds: u64) -> u64
     seeds - (1 << seeds.trailing_zeros())
 }
 
-/// The least seed, the next m of them, and the rest.
+/// Returns the least seed, the next m of them, and the rest.
 pub(crate) fn split_seeds(seeds: u64, m: u8) -> Split
     requires { m + 1 ≤ length (seed_list seeds) }
     ensures bid { result.bid ≡ slice_index (seed_list seeds) 0 }

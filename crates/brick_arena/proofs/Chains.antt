@@ -14,7 +14,7 @@ among-beside t s ts ne = grind arith
 pub among-cases : (t s : ℕ) (ts : List ℕ) → is_listed t (s ∷ ts) ≡ true → (t ≡ s) ⊎ (is_listed t ts ≡ true)
 among-cases t s ts e = grind arith
 
--- what is among them is no slot that is not
+-- a listed slot differs from one that is not
 pub apart : (s t : ℕ) (ts : List ℕ) → is_listed s ts ≡ false → is_listed t ts ≡ true → t ≡ s → ⊥
 apart s t ts unheld held e = let true_is_false : true ≡ false = sym held ∙ ap (λ k. is_listed k ts) e ∙ unheld in cc
 

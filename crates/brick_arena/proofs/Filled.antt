@@ -1,4 +1,4 @@
--- The words of a chunk in which every place holds one, and what writing one word into a range makes of them.
+-- The words of a chunk in which every offset has one, and those after a write of one word into a range.
 use Rattle.std.proofs.Common.{◌≡◌, ℕ, ◌<◌, suc, zero, List, [], ◌∷◌, refl, sym, ap, ◌∙◌, arith, true, Some, None, Option, length, get_or, set, inl, inr}
 use Rattle.std.proofs.lemmas.Bool.{cases_lt}
 use Rattle.std.proofs.lemmas.List.{get_or_past}
@@ -49,7 +49,7 @@ module _ (w : ℕ) (old new : List (Option ℕ)) (start end : ℕ) (range : Sets
     above = λ k after. known-index new k ∙ ap word_or_zero (range.above k after) ∙ sym (known-index old k);
   }
 
--- zeros from the first place to the last
+-- zeros from the first offset to the last
 module _ (old new : List (Option ℕ)) (range : SetsRange (Some 0) None old new 0 32768) (full : length new ≡ 32768) where
   pub filled-whole : AllFilled new
   filled-whole k lt = ap is_word (range.inside k (omega arith) (omega (arith, lt, full)))

@@ -1,4 +1,4 @@
--- What giving a slot back does.
+-- The state after a slot is freed.
 use Rattle.std.proofs.Common.{◌≡◌, ℕ, ◌+◌, ◌*◌, ◌<◌, ◌≤◌, false, List, ◌∷◌, sym, ap, ◌∙◌, subst, arith, is_some, inl, inr}
 use Rattle.std.specs.FinMap.{remove, len}
 use Rattle.brick_arena.specs.Arena.{is_listed, AreDistinct, chain, live_slots, view_of, IsArena}

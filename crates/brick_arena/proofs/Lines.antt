@@ -1,5 +1,5 @@
--- Places of a chunk that follow one another are taken out as room for an array, and put back with one word in each.
--- Assumes `Logic`.
+-- Consecutive offsets of a chunk are taken out as room for an array, and put back with one word in each. Assumes
+-- `Logic`.
 use mathlib.Core.Path.{◌≡◌, refl, sym, ap, subst, ◌∙◌}
 use Prim.Native.Nat.{ℕ, zero, suc, ◌+◌, ◌*◌, ◌-◌, ◌^◌, ◌<◌, ◌≤◌}
 use native.Mathlib.Omega.{arith}
@@ -33,7 +33,7 @@ typed_line zero w f = (tt, tt)
 typed_line (suc n) w f =
     (both (has_ty (ty_int w32) (vint w32 w)) (all_n (has_ty (ty_int w32)) n (of_list (line n w))) tt (typed_line n w f).0, (record { fits = f }, (typed_line n w f).1))
 
--- the places with the word in n of them from the i-th on
+-- the offsets with the word in n of them from the i-th on
 abbrev pub lined : ℕ → ℕ → List (Option ℕ) → ℕ → List (Option ℕ)
 lined n w cs i = take i cs ++ (replicate n (Some w) ++ drop n (drop i cs))
 
@@ -46,7 +46,7 @@ module _ {M : Type 1} {𝓤 : Ura M} (𝓛 : Logic 𝓤) (b : ℕ) where
   of_line (suc n) w o = mono∗ 𝓤 (uint_in 𝓛 full_share w32 w b o) (of_line n w (o + 4))
 
   module _ (n o : ℕ) (cs : List (Option ℕ)) (i : ℕ) where
-    -- the places but for the n from the i-th on
+    -- the offsets without the n from the i-th on
     abbrev pub Around : Fml
     Around = fsep (word_places b o (take i cs)) (word_places b (n * 4 + (i * 4 + o)) (drop n (drop i cs)))
 

@@ -1,4 +1,4 @@
--- What the map of the live slots holds at each number, and how a change at one number shows in it.
+-- The map of the live slots at each number, and the effect of a change at one number.
 use Rattle.std.proofs.Common.{◌≡◌, ℕ, zero, suc, ◌+◌, ◌-◌, ◌<◌, ◌≤◌, Bool, true, false, cond, List, refl, sym, ap, ◌∙◌, arith, Some, None, is_some, inl, inr}
 use Rattle.std.proofs.lemmas.Bool.{cases_lt, cases_eq, cases_Bool, eq-eqb, ne_eqb}
 use Rattle.std.specs.Ordering.{nat_cmp}
@@ -85,7 +85,7 @@ module _ (m : ℕ → ℕ) (fs : List ℕ) where
     ]
   ]
 
--- at a number where nothing changes
+-- at a number whose slot does not change
 pub same_slot : (m m' : ℕ → ℕ) (fs fs' : List ℕ) (n n' q : ℕ) → (q < n' → q < n) → (q < n → q < n')
     → is_listed q fs' ≡ is_listed q fs → (q < n → slot_words m' q ≡ slot_words m q)
     → get (live_slots m' fs' n') q ≡ get (live_slots m fs n) q

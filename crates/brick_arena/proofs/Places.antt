@@ -1,4 +1,4 @@
--- One place of a chunk is taken out of the row, put back, or seen; and room for a chunk is a row of empty places.
+-- One offset of a chunk is taken out of the row, put back, or read; and room for a chunk is a row of empty offsets.
 -- Assumes `Logic`.
 use mathlib.Core.Path.{◌≡◌, refl, sym, ap, subst, ◌∙◌}
 use Prim.Native.Nat.{ℕ, zero, suc, ◌+◌, ◌*◌, ◌<◌, ◌≤◌}
@@ -44,13 +44,13 @@ module _ {M : Type 1} {𝓤 : Ura M} (𝓛 : Logic 𝓤) (b : ℕ) where
   glue (x ∷ xs) ys o at e = let more : at ≡ suc (length xs) * 4 + o = e in qed 𝓛 (‵ (word_places b o (x ∷ xs)) ∷ ‵ (word_places b at ys) ∷ []) ∵ fsplit ! $ move ! (1 ∷ 2 ∷ []) $
       use2 𝓛 (‵ (word_places b (o + 4) (xs ++ ys))) (glue xs ys (o + 4) at (omega (arith, suc-mul (length xs) 4))) $ move ! (1 ∷ 0 ∷ []) $ fjoin ! $ done !
 
-  -- a place is room, whether or not it holds a word
+  -- an offset is room, whether or not it has a word
   pub emptied : (o : ℕ) (c : Option ℕ) → ent 𝓤 (sem 𝓛 (word_place b o c)) (H.room (ty_int w32) b o)
   emptied o None = id⊢ 𝓤 _
   emptied o (Some w) = via 𝓤 (H.at full_share (ty_int w32) b o (vint w32 w)) (uint_out 𝓛 full_share w32 w b o) (𝓛.laws.at_room (ty_int w32) b o (vint w32 w))
 
   module _ (o : ℕ) (cs : List (Option ℕ)) (i : ℕ) where
-    -- the places but for the i-th
+    -- the offsets without the i-th
     abbrev pub Besides : Fml
     Besides = fsep (word_places b o (take i cs)) (word_places b (i * 4 + o + 4) (drop (suc i) cs))
 

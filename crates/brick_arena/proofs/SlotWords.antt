@@ -1,10 +1,10 @@
--- The words of a slot, which stand in its chunk at other places than their indices.
+-- The words of a slot, which are in its chunk at offsets other than their indices.
 use Rattle.std.proofs.Common.{◌≡◌, ℕ, ◌+◌, ◌*◌, ◌%◌, ◌<◌, ◌≤◌, sym, ap, ◌∙◌, arith, length, get_or, set, replicate}
 use Rattle.brick_arena.specs.Arena.{slot_words}
 use Rattle.brick_arena.specs.Slots.{swapped}
 use Rattle.brick_arena.proofs.Rows.{get-row, length-row, row-same, row-set, row-const}
 
--- ---- places and indices
+-- ---- offsets and indices
 
 pub swapped_below : (i : ℕ) → i < 512 → swapped i < 512
 unfolding swapped
@@ -23,7 +23,7 @@ pub row_ends : (p : ℕ) → p < 512 → p % 8 ≡ 0 → swapped p + 8 ≤ 512
 unfolding swapped
 row_ends p l r = omega arith
 
--- the index of a place is another than that of another place
+-- the index of an offset differs from that of another offset
 pub swapped_apart : (p i : ℕ) → i < 512 → swapped i ≡ p → i ≡ swapped p
 swapped_apart p i l e = sym (swapped_twice i l) ∙ ap swapped e
 

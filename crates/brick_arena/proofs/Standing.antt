@@ -1,4 +1,5 @@
--- What every arena has: slots of 512 words below 2^32, and live slots that were reached and are not in the chain.
+-- The invariant of every arena: slots of 512 words below 2^32, and live slots that were reached and are not in the
+-- chain.
 use Rattle.std.proofs.Common.{◌≡◌, ℕ, ◌+◌, ◌*◌, ◌/◌, ◌%◌, ◌^◌, ◌<◌, false, List, [], ap, subst, sym, ◌∙◌, arith, None, length, get_or, unwrap_or, inl, inr}
 use Rattle.std.proofs.lemmas.Bool.{cases_lt, cases_Bool}
 use Rattle.std.proofs.lemmas.List.{get_or_past}
@@ -28,7 +29,7 @@ module _ (cs : List (List ℕ)) (free vacant reached : ℕ) (arena : IsArena cs 
   pub words-live : (s : ℕ) → s < reached → is_listed s fs ≡ false → words_of v s ≡ slot_words m s
   words-live s lt unheld = ap (λ o. unwrap_or o []) (get_live m fs reached s lt unheld)
 
-  -- the word at a place of a slot
+  -- the word at an offset of a slot
   pub word_at_place : (s p : ℕ) → p < 512 → get_or (slot_words m s) (swapped p) 0 ≡ m (512 * s + p)
   word_at_place s p lt = word_in_slot m s (swapped p) (swapped_below p lt) ∙ ap (λ k. m (512 * s + k)) (swapped_twice p lt)
 

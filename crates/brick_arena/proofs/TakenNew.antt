@@ -1,4 +1,4 @@
--- What taking a slot that was never reached does.
+-- The state after a slot is taken that was never reached.
 use Rattle.std.proofs.Common.{◌≡◌, ℕ, ◌+◌, ◌*◌, ◌<◌, ◌≤◌, false, List, refl, sym, ap, ◌∙◌, subst, arith, Some, None, replicate}
 use Rattle.std.specs.FinMap.{get, insert, len}
 use Rattle.vox_geom.proofs.Truths.{false_by}

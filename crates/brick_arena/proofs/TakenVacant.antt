@@ -1,4 +1,4 @@
--- What taking the first of the vacant slots does.
+-- The state after the first of the vacant slots is taken.
 use Rattle.std.proofs.Common.{◌≡◌, ℕ, ◌+◌, ◌-◌, ◌*◌, ◌/◌, ◌%◌, ◌<◌, ◌≤◌, true, false, List, ◌∷◌, sym, ap, ◌∙◌, subst, arith, Some, None, replicate}
 use Rattle.std.specs.FinMap.{get, insert, len}
 use Rattle.brick_arena.specs.Arena.{is_listed, AreDistinct, chain, slot_words, live_slots, view_of, IsArena}

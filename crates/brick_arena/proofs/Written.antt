@@ -1,4 +1,4 @@
--- What writes into a live slot do.
+-- The effects of writes into a live slot.
 use Rattle.std.proofs.Common.{◌≡◌, ℕ, zero, suc, ◌+◌, ◌-◌, ◌*◌, ◌%◌, ◌<◌, ◌≤◌, ◌⊎◌, inl, inr, true, false, List, [], length, length-set, get_or, refl, sym, ap, ◌∙◌, subst, arith, Option, Some, None, is_some, unwrap_or, set}
 use Rattle.std.proofs.lemmas.Bool.{cases_lt, cases_eq}
 use Rattle.std.proofs.lemmas.List.{ext_get_or, get_or-set_same, get_or-set_other}
@@ -13,7 +13,7 @@ use Rattle.brick_arena.proofs.Standing.{words-live}
 
 -- ---- the words of one slot become others
 
--- the place is of another slot
+-- the offset is of another slot
 abbrev pub IsElsewhere : ℕ → ℕ → Type 0
 IsElsewhere s q = (q < 512 * s) ⊎ (512 * s + 512 ≤ q)
 
@@ -101,9 +101,9 @@ module _ (cs ds : List (List ℕ)) (free vacant reached s place w p : ℕ) (old 
   pub arena_written : IsArena ds free vacant reached
   arena_written = arena_changed cs ds free vacant reached s _ old stored.same_length stored.chunks words_set apart lt live
 
--- ---- a word in several places
+-- ---- a word at several offsets
 
--- the words with one word in so many places from an index on
+-- the words with one word at n indices from one on
 abbrev pub with_words : List ℕ → ℕ → ℕ → ℕ → List ℕ
 with_words ws i zero w = ws
 with_words ws i (suc n) w = set (with_words ws i n w) (i + n) w
@@ -144,7 +144,7 @@ row_inserted v s i (suc n) w live =
     ∙ inserted v s (insert (insert v s ws) s (set ws (i + n) w)) (set ws (i + n) w) (get-insert_here (insert v s ws) s (set ws (i + n) w) s refl)
     (λ q ne. get-insert_other (insert v s ws) s (set ws (i + n) w) q ne ∙ get-insert_other v s ws q ne))
 
--- the last of the words that were written stands there
+-- the last of the written words is there
 pub row_last : (v : Slots) (s i k w : ℕ) → IsLive v s → length (words_of v s) ≡ 512 → i + k < 512
     → get_or (words_of (with_row v s i (k + 1) w) s) (i + k) 0 ≡ w
 row_last v s i k w live long l =
@@ -164,7 +164,7 @@ module _ (cs ds : List (List ℕ)) (free vacant reached s place w p : ℕ) (old 
   row_others : (q : ℕ) → ((k : ℕ) → k < 8 → q ≡ 512 * s + (place + k) → ⊥) → chunk_word ds q ≡ chunk_word cs q
   row_others q ne = stored.others q (λ k l e. ne k l (omega (arith, e, at)))
 
-  -- a word that stands elsewhere stays
+  -- a word at another index stays
   kept_there : (k : ℕ) → k < 512 → ((j : ℕ) → j < 8 → k ≡ i + j → ⊥)
       → chunk_word ds (512 * s + swapped k) ≡ chunk_word cs (512 * s + swapped k)
   kept_there k b o = row_others (512 * s + swapped k) (λ j l e. o j l (swapped_apart (place + j) k b (omega (arith, e)) ∙ swapped_row place j whole l))

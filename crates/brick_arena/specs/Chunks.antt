@@ -1,9 +1,9 @@
--- Chunks of words, and what reading, writing and growing them does to the word at a place.
+-- Chunks of words, and the effects of reads, writes and growth on the word at an offset.
 use Rattle.std.specs.Prelude.{◌≡◌, ℕ, ◌+◌, ◌*◌, ◌/◌, ◌%◌, ◌^◌, ◌<◌, ◌≤◌, List, [], length, slice_index, slice_index_or}
 use Rattle.brick_arena.specs.declared.TheConstants.{SLOT_WORDS}
 use Rattle.brick_arena.specs.declared.chunk.TheConstants.{CHUNK_WORDS, CHUNK_SLOTS}
 
--- x stands at each index from start on and below end, and all else stays; past a list's last is d
+-- x is at each index from start on and below end, and all else stays; past the end of a list, d is the value
 pub record SetsRange {X : Type 0} (x d : X) (old new : List X) (start end : ℕ) : Type 0 where
   pub same_length : length new ≡ length old
   pub inside : (k : ℕ) → start ≤ k → k < end → slice_index_or new k d ≡ x
@@ -22,18 +22,18 @@ pub record IsBlank (words : List ℕ) : Type 0 where
 abbrev pub AreChunks : List (List ℕ) → Type 0
 AreChunks chunks = (k : ℕ) → k < length chunks → IsChunk (slice_index_or chunks k [])
 
--- the word at a place, and 0 past the last chunk
+-- the word at an offset, and 0 past the last chunk
 abbrev pub chunk_word : List (List ℕ) → ℕ → ℕ
 chunk_word chunks place = slice_index (slice_index_or chunks (place / CHUNK_WORDS) []) (place % CHUNK_WORDS)
 
--- the word at the place is the new one, and all others stay
+-- the word at the offset is the new one, and all others stay
 pub record IsStored (old new : List (List ℕ)) (place word : ℕ) : Type 0 where
   pub same_length : length new ≡ length old
   pub chunks : AreChunks new
   pub here : chunk_word new place ≡ word
   pub others : (other : ℕ) → (other ≡ place → ⊥) → chunk_word new other ≡ chunk_word old other
 
--- the word stands at eight places from this one on, and all others stay
+-- the word is at eight offsets from this one on, and all others stay
 pub record IsRowStored (old new : List (List ℕ)) (place word : ℕ) : Type 0 where
   pub same_length : length new ≡ length old
   pub chunks : AreChunks new

@@ -1,4 +1,4 @@
--- The words of a chunk in which every place holds one.
+-- The words of a chunk in which every offset has one.
 use Rattle.std.specs.Prelude.{◌≡◌, ℕ, ◌<◌, Bool, true, false, List, [], ◌∷◌, Option, Some, None, length, slice_index_or}
 
 abbrev pub word_or_zero : Option ℕ → ℕ

@@ -1,4 +1,4 @@
--- What a chunk of words owns, and what a `&` to one holds. A place holds a word, or is room for one.
+-- The resources that a chunk of words owns, and those of a `&` to one. An offset has a word, or is room for one.
 use Rattle.std.specs.Prelude.{◌≡◌, ℕ, ◌+◌, List, [], ◌∷◌, Option, Some, None, slice_index_or, replicate}
 use base.Fraction.{full_share}
 use base.Fml.{Lft, Fml, ftrue, ffalse, fsep, froom}
@@ -16,12 +16,12 @@ chunk_type = ty_array (ty_int w32) 32768
 unfoldable pub no_words : List (Option ℕ)
 no_words = replicate 32768 None
 
--- one place, o bytes into the block b
+-- one offset, o bytes into the block b
 abbrev pub word_place : ℕ → ℕ → Option ℕ → Fml
 word_place b o (Some w) = part_at u32 full_share w b o
 word_place b o None = froom (ty_int w32) b o
 
--- places side by side
+-- consecutive offsets
 abbrev pub word_places : ℕ → ℕ → List (Option ℕ) → Fml
 word_places b o [] = ftrue
 word_places b o (c ∷ cs) = fsep (word_place b o c) (word_places b (o + 4) cs)
@@ -42,6 +42,6 @@ abbrev pub words_lent : Ptr → List (Option ℕ) → Lft → Fml
 words_lent (block_ptr b o) cs = places_lent b o cs
 words_lent null_ptr cs = said ffalse
 
--- the i-th place holds a word
+-- the i-th offset has a word
 abbrev pub IsFilled : List (Option ℕ) → ℕ → Type 0
 IsFilled cs i = (w : ℕ) × (slice_index_or cs i None ≡ Some w)

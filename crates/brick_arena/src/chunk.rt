@@ -10,19 +10,19 @@ use std::marker::{Model, PhantomData};
 use std::sync::ledger::Ledger;
 use vox_geom::{Memory, Steps};
 
-/// How many slots a chunk has.
+/// The number of slots in a chunk.
 pub(crate) const CHUNK_SLOTS: usize = 64;
 
-/// How many words a chunk has.
+/// The number of words in a chunk.
 pub(crate) const CHUNK_WORDS: usize = 32_768;
 
-/// How many bytes a chunk has.
+/// The number of bytes in a chunk.
 const CHUNK_BYTES: usize = 131_072;
 
-/// How many words are written at once.
+/// The number of words that are written at once.
 pub(crate) const ROW_WORDS: usize = 8;
 
-/// The words of a chunk, from `at` on. A place without a word was never written.
+/// The words of a chunk, from the address `at` on. An offset without a word was never written.
 pub(crate) struct Words {
     at: *mut u32,
     pub(crate) ghost words: { List (Option ℕ) },
@@ -35,7 +35,7 @@ impl Model for Words {
     ghost also_shares = { λ c _ κ. words_lent c.at c.words κ };
 }
 
-/// The right to give the chunk at `at` back to `alloc`. It takes no bytes.
+/// The right to free the chunk at `at` with `alloc`. It takes no bytes.
 pub(crate) struct Title<A: Allocator> {
     marker: PhantomData<A>,
     pub(crate) ghost alloc: { A },
@@ -46,7 +46,7 @@ impl<A: Allocator> Model for Title<A> {
     ghost also_owns = { λ d. A.dealloc_token d.alloc chunk_type d.at };
 }
 
-/// Room for a chunk, of which no place is written yet.
+/// Allocates a chunk. No word of it is written yet.
 pub(crate) fn allocate<A: Allocator>(alloc: &A) -> Option<(Words, Title<A>)>
     ensures { IfSome result (λ r. (r.0.words ≡ no_words) × (r.1.alloc ≡ alloc.now) × (r.1.at ≡ r.0.at)) }
 {
@@ -60,7 +60,7 @@ pub(crate) fn allocate<A: Allocator>(alloc: &A) -> Option<(Words, Title<A>)>
     }
 }
 
-/// Gives a chunk's memory back.
+/// Frees a chunk's memory.
 pub(crate) fn free<A: Allocator>(words: Words, title: Title<A>, alloc: &A)
     requires { (title.alloc ≡ alloc.now) × (title.at ≡ words.at) }
 {
@@ -70,7 +70,7 @@ pub(crate) fn free<A: Allocator>(words: Words, title: Title<A>, alloc: &A)
 }
 
 impl Words {
-    /// Writes a place, whether or not it was written before.
+    /// Writes the word at an offset, whether or not it was written before.
     pub(crate) fn set(&mut self, index: usize, word: u32)
         requires { index < CHUNK_WORDS }
         ensures { (self.new.words ≡ slice_set self.old.words index (Some word)) × (self.new.at ≡ self.old.at) }
@@ -78,7 +78,7 @@ impl Words {
         unsafe { self.at.add(index).write(word) }
     }
 
-    /// The word at a place that was written.
+    /// Returns the word at an offset that was written.
     pub(crate) fn get(&self, index: usize) -> u32
         requires { IsFilled self.now.words index }
         ensures { slice_index_or self.now.words index None ≡ Some result }
@@ -86,7 +86,7 @@ impl Words {
         unsafe { *self.at.add(index) }
     }
 
-    /// The word so many places behind one, where it was written.
+    /// Returns the word `behind` offsets after `index`, which was written.
     pub(crate) fn get_behind(&self, index: usize, behind: usize) -> u32
         requires { IsFilled self.now.words (index + behind) }
         ensures { slice_index_or self.now.words (index + behind) None ≡ Some result }
@@ -94,7 +94,7 @@ impl Words {
         unsafe { *self.at.add(index).add(behind) }
     }
 
-    /// Writes one word into the places of a row, from `index` on, whether or not they were written before.
+    /// Writes one word at the offsets of a row, from `index` on, whether or not they were written before.
     pub(crate) fn set_row(&mut self, index: usize, word: u32)
         requires { index + ROW_WORDS ≤ CHUNK_WORDS }
         ensures { SetsRange (Some word) None self.old.words self.new.words index (index + ROW_WORDS)
@@ -103,7 +103,7 @@ impl Words {
         unsafe { (self.at.add(index) as *mut [u32; ROW_WORDS]).write([word; ROW_WORDS]) }
     }
 
-    /// Writes 0 into `rows` rows of places from `start` on.
+    /// Writes 0 at the offsets of `rows` rows from `start` on.
     pub(crate) fn set_zeros(&mut self, start: usize, rows: usize)
         requires { start + ROW_WORDS * rows ≤ CHUNK_WORDS }
         ensures zeros { SetsRange (Some 0) None self.old.words self.new.words start (start + ROW_WORDS * rows) }
@@ -115,7 +115,7 @@ impl Words {
     }
 }
 
-/// A chunk, which gives its memory back at its end.
+/// A chunk, which frees its memory when it is dropped.
 pub struct Chunk {
     words: Words,
     title: Title<Global>,
@@ -134,7 +134,7 @@ impl Model for Chunk {
 }
 
 impl Chunk {
-    /// A chunk of zeros.
+    /// Returns a chunk of zeros.
     pub(crate) fn new(alloc: Global) -> Result<Chunk, Memory>
         ensures { IfOk result IsBlank }
     {
@@ -149,7 +149,7 @@ impl Chunk {
         })
     }
 
-    /// The word at a place, where the caller counts the touch.
+    /// Returns the word at an offset, without a touch: the caller counts it.
     pub(crate) fn peek(&self, index: usize) -> u32
         requires { index < length self.now }
         ensures { result ≡ slice_index self.now index }
@@ -157,7 +157,7 @@ impl Chunk {
         self.words.get(index)
     }
 
-    /// The word at a place, by one touch.
+    /// Returns the word at an offset, by one touch.
     #[inline(always)]
     pub fn word<L: Ledger>(&self, index: usize, steps: &mut Steps<L>) -> u32
         requires { index < length self.now }
@@ -168,8 +168,9 @@ impl Chunk {
         self.peek(index)
     }
 
-    /// The word so many places behind one, by one touch. Of a loop over the places behind one the compiler sees that the words follow
-    /// one another, which it may not see of a loop over sums.
+    /// Returns the word `behind` offsets after `index`, by one touch.
+    ///
+    /// Two arguments let the compiler see that a loop reads consecutive words, which it may not see for a loop over sums.
     #[inline(always)]
     pub fn word_behind<L: Ledger>(&self, index: usize, behind: usize, steps: &mut Steps<L>) -> u32
         requires { index + behind < length self.now }
@@ -187,7 +188,7 @@ impl Chunk {
         self.words.set(index, word)
     }
 
-    /// Writes one word into the places of a row, from `index` on.
+    /// Writes one word at the offsets of a row, from `index` on.
     #[inline(always)]
     pub(crate) fn set_row(&mut self, index: usize, word: u32)
         requires { index + ROW_WORDS ≤ length self.old }

@@ -1,4 +1,4 @@
-//! Words over a list of chunks, by place: the words of slot 0, those of slot 1, and so on.
+//! Words over a list of chunks, by offset: the words of slot 0, those of slot 1, and so on.
 ghost use Rattle.std.specs.Prelude.{◌≡◌, ◌+◌, ◌*◌, ◌%◌, ◌<◌, ◌≤◌, length, OnOk, OnErr};
 ghost use Rattle.brick_arena.specs.Chunks.{chunk_word, AreChunks, IsStored, IsRowStored, IsCleared, HasRoom};
 ghost use Rattle.brick_arena.specs.Slots.{start_in_chunk as start_in_chunk_of};
@@ -8,7 +8,7 @@ use super::chunk::{CHUNK_SLOTS, CHUNK_WORDS, Chunk, ROW_WORDS};
 use std::alloc::Global;
 use vox_geom::Memory;
 
-/// The place of a slot's word.
+/// Returns the offset of a slot's word over all chunks.
 pub(crate) fn place(slot: u32, index: u16) -> usize
     ensures { result ≡ slot * SLOT_WORDS + index }
 {
@@ -32,7 +32,7 @@ pub(crate) fn store(chunks: &mut Vec<Chunk>, place: usize, word: u32)
     chunk.set_word(place % CHUNK_WORDS, word);
 }
 
-/// Writes one word into the places of a row, which lie in one chunk.
+/// Writes one word at the offsets of a row, all in one chunk.
 #[inline(always)]
 pub(crate) fn store_row(chunks: &mut Vec<Chunk>, place: usize, word: u32)
     requires inside { place < CHUNK_WORDS * length chunks.old.items }
@@ -44,7 +44,7 @@ pub(crate) fn store_row(chunks: &mut Vec<Chunk>, place: usize, word: u32)
     chunk.set_row(place % CHUNK_WORDS, word);
 }
 
-/// The place of a slot's first word in its chunk.
+/// Returns the offset of a slot's first word in its chunk.
 #[inline(always)]
 pub fn start_in_chunk(slot: u32) -> usize
     ensures { result ≡ start_in_chunk_of slot }
@@ -63,7 +63,7 @@ pub(crate) fn clear(chunks: &mut Vec<Chunk>, slot: u32)
     chunk.set_zeros(start, usize::from(SLOT_WORDS) / ROW_WORDS);
 }
 
-/// Takes a chunk where there is none for the slot yet.
+/// Appends a chunk if there is none for the slot yet.
 pub(crate) fn reserve(chunks: &mut Vec<Chunk>, alloc: Global, slot: u32) -> Result<(), Memory>
     requires near { slot ≤ CHUNK_SLOTS * length chunks.old.items }
     requires chunks { AreChunks chunks.old.items }

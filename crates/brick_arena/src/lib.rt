@@ -1,4 +1,4 @@
-//! Slots of 512 words in raw memory, seen as a finite map from a slot's number to its words.
+//! Slots of 512 words in raw memory. Contracts see a finite map from a slot's number to its words.
 #![tactic(auto)]
 
 mod chunk;
@@ -17,14 +17,16 @@ use std::marker::Model;
 use std::sync::ledger::Ledger;
 use vox_geom::{Memory, Steps};
 
-/// How many words a slot has.
+/// The number of words in a slot.
 pub const SLOT_WORDS: u16 = 512;
 
 /// The most slots that can be live at a time. The number of a slot is below it.
 pub const MOST_SLOTS: u32 = 1_048_576;
 
-/// The index of the word at a place of its slot, and the place of the word with an index. The word with the index 64 a + 8 b + c stands
-/// at the place 64 b + 8 a + c, so that words whose indices have their middle digit in common stand together.
+/// Returns the index of the word at an offset of its slot, and the offset of the word with an index.
+///
+/// The word with the index 64 a + 8 b + c is at the offset 64 b + 8 a + c, so that words whose indices share their middle digit
+/// are contiguous.
 #[tactic(auto, unfolding(crate::specs::Slots::swapped))]
 #[inline(always)]
 pub fn swapped(index: u16) -> u16
@@ -35,15 +37,15 @@ pub fn swapped(index: u16) -> u16
 
 /// Slots of 512 words, each all 0 when it is taken.
 ///
-/// The memory is taken in chunks of 64 slots, as they are reached. A vacant slot's first word
-/// links to the next vacant one. All memory is given back at the end.
+/// The memory is allocated in chunks of 64 slots, when they are first used. A vacant slot's first word links to the next vacant
+/// one. All memory is freed at the end.
 #[derive(Drop)]
 pub struct Bricks {
     alloc: Global,
     chunks: Vec<Chunk>,
     // Slots with numbers below this were taken at least once; the words of the others are 0.
     reached: u32,
-    // How many of those are vacant, and the first of their chain.
+    // The number of those that are vacant, and the first of their chain.
     vacant: u32,
     first_vacant: u32,
 }
@@ -65,7 +67,7 @@ impl Model for Bricks {
 }
 
 impl Bricks {
-    /// No slots. It takes no memory.
+    /// Returns an arena without slots. It does not allocate.
     pub fn new(alloc: Global) -> Bricks
         ensures { result ≡ map.empty }
     {
@@ -78,7 +80,7 @@ impl Bricks {
         }
     }
 
-    /// How many slots are live.
+    /// Returns the number of live slots.
     pub fn live(&self) -> u32
         ensures count { result ≡ map.len self.now }
         ensures slots { AreSlots self.now }
@@ -86,7 +88,7 @@ impl Bricks {
         self.reached - self.vacant
     }
 
-    /// A slot that was not live, with all words 0. `Memory` leaves the slots as they were.
+    /// Takes a slot that was not live, with all words 0. `Memory` leaves the slots as they were.
     pub fn take(&mut self) -> Result<u32, Memory>
         requires { map.len self.old < MOST_SLOTS }
         ensures near { IfOk result (λ slot. slot < MOST_SLOTS) }
@@ -109,7 +111,7 @@ impl Bricks {
         Ok(slot)
     }
 
-    /// The slot is live no more.
+    /// Frees the slot: it is no longer live.
     pub fn give(&mut self, slot: u32)
         requires { IsLive self.old slot }
         ensures value { self.new ≡ map.remove self.old slot }
@@ -120,7 +122,7 @@ impl Bricks {
         self.vacant += 1;
     }
 
-    /// The word at a place of a live slot, by one touch.
+    /// Returns the word at an offset of a live slot, by one touch.
     #[inline(always)]
     pub fn word_at<L: Ledger>(&self, slot: u32, at: u16, steps: &mut Steps<L>) -> u32
         requires live { IsLive self.now slot }
@@ -133,7 +135,7 @@ impl Bricks {
         load(&self.chunks, place(slot, at))
     }
 
-    /// The word at `index` of a live slot, by one touch.
+    /// Returns the word at `index` of a live slot, by one touch.
     pub fn word<L: Ledger>(&self, slot: u32, index: u16, steps: &mut Steps<L>) -> u32
         requires live { IsLive self.now slot }
         requires index { index < SLOT_WORDS }
@@ -144,8 +146,8 @@ impl Bricks {
         self.word_at(slot, swapped(index), steps)
     }
 
-    /// The chunk that has the words of a live slot by their places, from [`start_in_chunk`] on. A caller that reads several of them
-    /// looks for it once.
+    /// Returns the chunk that contains the words of a live slot by their offsets, from [`start_in_chunk`] on. A caller that reads
+    /// several of them looks it up once.
     #[inline(always)]
     pub fn chunk(&self, slot: u32) -> &Chunk
         requires { IsLive self.now slot }
@@ -154,7 +156,7 @@ impl Bricks {
         &self.chunks[slot as usize / CHUNK_SLOTS]
     }
 
-    /// Writes the word at a place of a live slot, by one touch.
+    /// Writes the word at an offset of a live slot, by one touch.
     #[inline(always)]
     pub fn set_word_at<L: Ledger>(&mut self, slot: u32, at: u16, word: u32, steps: &mut Steps<L>)
         requires live { IsLive self.old slot }
@@ -180,8 +182,9 @@ impl Bricks {
         self.set_word_at(slot, swapped(index), word, steps);
     }
 
-    /// Writes one word into the eight places of a live slot from one on, as eight calls of [`Bricks::set_word_at`] would,
-    /// by one touch each. The first is a multiple of eight.
+    /// Writes one word at eight offsets of a live slot from one on, which is a multiple of eight.
+    ///
+    /// Has the effect of eight calls of [`Bricks::set_word_at`], by one touch each.
     #[inline(always)]
     pub fn set_row<L: Ledger>(&mut self, slot: u32, at: u16, word: u32, steps: &mut Steps<L>)
         requires live { IsLive self.old slot }

@@ -1,4 +1,4 @@
--- The worked examples of scripts and of what they print, by computing.
+-- The worked examples of scripts and of their printed text, by computation.
 use Rattle.std.proofs.Common.{◌<◌, arith, refl, [], ◌∷◌}
 use Rattle.std.specs.Prelude.{codes, Ok, Err}
 use Rattle.std.specs.Fmt.{digits}
@@ -9,7 +9,7 @@ use Rattle.step_debugger.specs.Session.{DebugLine, Step, Group, Back, Bots, Voxe
 use Rattle.debug_script.specs.Script.{ArePartsOf}
 use Rattle.debug_script.specs.Worked.{WorkedPrints, WorkedScripts}
 
--- a blank behind the word begins a further part, so that the parts are those of no line
+-- a blank after the word begins another part, so that the parts are those of no line
 no_line_is : (line : DebugLine) → ArePartsOf (codes "step" ∷ [] ∷ []) line → ⊥
 no_line_is Step h = let parts_are = h.parts_are in cc
 no_line_is (Group bid) h = let parts_are = h.parts_are in cc

@@ -1,4 +1,4 @@
--- What the parts of a line say, by its word.
+-- The meaning of a line's parts, by its word.
 use Rattle.std.proofs.Common.{◌≡◌, ◌<◌, ◌≤◌, ◌∙◌, ℕ, Bool, true, false, cond, not, List, [], ◌∷◌, Option, Some, None, codes, decimal, find, refl, arith, sym, ap, subst, nat_lt}
 use Rattle.std.specs.Prelude.{◌&&◌, ◌||◌, ◌==◌, Ok, Err, ⊤}
 use Rattle.std.specs.List.{list_any, onto_first, slice_split}
@@ -73,13 +73,13 @@ module _ (bytes : List ℕ) where
   pub word_missed : (more : List (List ℕ)) → None ≡ find is_it all_words → has_unknown_word (bytes ∷ more) ≡ true
   word_missed more e = ap not (missed all_words (sym e))
 
--- ---- how a line is written, by its word
+-- ---- the text of a line, by its word
 
 abbrev first : List (List ℕ) → List ℕ
 first [] = []
 first (part ∷ more) = part
 
--- the first part tells lines apart
+-- the first part distinguishes lines
 apart : (v : List ℕ) (ps : List (List ℕ)) (f : DebugLine) → bytes_eq v v ≡ true
     → bytes_eq v (first (parts_of f)) ≡ false → v ∷ ps ≡ parts_of f → ⊥
 apart v ps f same other e =
@@ -90,7 +90,7 @@ apart v ps f same other e =
 behind : (v : List ℕ) (ps qs : List (List ℕ)) → v ∷ ps ≡ v ∷ qs → ps ≡ qs
 behind v ps qs e = cc
 
--- what follows the first part
+-- the parts after the first
 pub rest_is : (a b : List ℕ) (ps qs : List (List ℕ)) → a ∷ ps ≡ b ∷ qs → ps ≡ qs
 rest_is a b ps qs e = cc
 

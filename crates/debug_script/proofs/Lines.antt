@@ -1,4 +1,4 @@
--- Lines that are put one after another.
+-- Appended lines.
 use Rattle.std.proofs.Common.{◌≡◌, ℕ, refl, sym, ◌∙◌, ap, List, [], ◌∷◌, ◌++◌, flat_map}
 use Rattle.std.proofs.lemmas.List.{append_assoc, append-nil}
 use Rattle.nano_spec.specs.declared.system.Bot.{Bot}
@@ -8,7 +8,7 @@ bots_joined : (xs ys : List Bot) → flat_map bot_line (xs ++ ys) ≡ flat_map b
 bots_joined [] ys = refl
 bots_joined (b ∷ xs) ys = ap (λ v. bot_line b ++ v) (bots_joined xs ys) ∙ sym (append_assoc (bot_line b) (flat_map bot_line xs) (flat_map bot_line ys))
 
--- the line of one bot more is put behind those before it
+-- the line of one more bot is appended to those before it
 pub bots_on : (start : List ℕ) (before more : List Bot) (b : Bot) (old new : List ℕ) → more ≡ before ++ b ∷ []
     → old ≡ start ++ flat_map bot_line before → new ≡ old ++ bot_line b → new ≡ start ++ flat_map bot_line more
 bots_on start before more b old new m o n =

@@ -14,7 +14,7 @@ refuted : (b : Bool) → b ≡ true → true ≡ not b → ⊥
 refuted true e h = cc
 refuted false e h = cc
 
--- the digits of a number are not other than its digits
+-- the digits of a number equal its digits
 pub same_digits : (n m : ℕ) (text bytes printed : List ℕ) → n ≡ m → bytes ≡ decimal n → text ≡ bytes
     → printed ≡ decimal m → true ≡ not (bytes_eq printed text) → ⊥
 same_digits n m text bytes printed same e t p differ =

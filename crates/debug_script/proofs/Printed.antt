@@ -1,4 +1,4 @@
--- A session that is printed line by line.
+-- A session printed line by line.
 use Rattle.std.proofs.Common.{◌≡◌, ◌<◌, ◌∙◌, ℕ, suc, ◌+◌, arith, ap, drop, get_or, length, List, [], ◌∷◌, ◌++◌, flat_map, false, refl, sym, subst, Ok, Err}
 use Rattle.std.specs.Prelude.{IsSomeAnd, OnOk, Option, Some, None, Result}
 use Rattle.std.proofs.Math.Seq.{drop-cons}
@@ -13,7 +13,7 @@ use Rattle.debug_script.specs.declared.line.ScriptLine.{ScriptLine}
 use Rattle.debug_script.specs.Printing.{bot_line, printed_report}
 use Rattle.debug_script.specs.Sessions.{IsTold, Prints}
 
--- the active bots were told
+-- the active bots were printed
 pub told_bots : {E : Type 0} (d : Debugging) (crew : List Bot) (before after : List ℕ) (r : Result Unit E)
     → d.spent ≡ false → IsSomeAnd (middle_state d.commands d.session) (λ m. crew ≡ m.bots)
     → OnOk r (after ≡ before ++ flat_map bot_line crew) → OnOk r (IsTold Bots d d before after)
@@ -31,7 +31,7 @@ told_bots d crew before after (Ok u) stands middle put = by (middle_state d.comm
       stands = stands;
     }
 
--- the lines so far were answered, and whatever the lines that are left print, all lines print the text and that
+-- the lines so far were answered, and all lines print the text so far and whatever the remaining lines print
 pub record IsPrinting (commands : List Command) (script : List DebugLine) (start : Session) (left : List DebugLine) (d : Debugging) (text : List ℕ) : Type 0 where
   pub goes_on : (rest : List ℕ) → Prints commands left d.session rest → Prints commands script start (text ++ rest)
   pub commands_are : d.commands ≡ commands

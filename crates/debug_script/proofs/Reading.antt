@@ -1,4 +1,4 @@
--- A script that is read line by line.
+-- A script read line by line.
 use Rattle.std.proofs.Common.{◌≡◌, ◌<◌, ◌≤◌, ◌∙◌, ℕ, ◌+◌, List, [], ◌∷◌, ◌++◌, length, refl, arith, sym, ap, subst}
 use Rattle.std.specs.Prelude.{Result, Ok, Err, Vec}
 use Rattle.std.proofs.lemmas.List.{map-append}
@@ -13,7 +13,7 @@ use Rattle.debug_script.specs.Calls.{IsReadBy, ReadsScript, script_line_is, line
 use Rattle.debug_script.specs.Script.{LineSays, LinesSay, ScriptSays}
 use Rattle.debug_script.specs.declared.line.ScriptLine.{ScriptLine}
 
--- lines before what is read after them
+-- the lines before the later readings
 abbrev with_all : List DebugLine → Result (List DebugLine) FaultyLine → Result (List DebugLine) FaultyLine
 with_all [] answer = answer
 with_all (x ∷ xs) answer = with_first x (with_all xs answer)
@@ -31,7 +31,7 @@ one_more : (xs : List DebugLine) (x : DebugLine) (answer : Result (List DebugLin
 one_more [] x answer = refl
 one_more (y ∷ xs) x answer = ap (with_first y) (one_more xs x answer)
 
--- the lines were read, and whatever the lines that are left come to, all lines come to these and that
+-- the lines were read, and all lines are these and the reading of the remaining ones, whatever that is
 pub record IsReading (r : ℕ) (bytes : List ℕ) (script : List ScriptLine) (left : List ℕ) (number : ℕ) : Type 0 where
   pub goes_on : (answer : Result (List DebugLine) FaultyLine) → LinesSay r (number + 1) (lines left) answer
       → ScriptSays r bytes (with_all (lines_are script) answer)

@@ -1,4 +1,4 @@
--- Each script says something: parts are those of a line or of none, which the word decides.
+-- Each script has a meaning: its parts are those of a line or of none, which the word decides.
 use Rattle.std.proofs.Common.{◌≡◌, ◌⊎◌, ◌∙◌, ℕ, zero, suc, ◌+◌, ◌<◌, inl, inr, Bool, true, false, List, [], ◌∷◌, Some, None, Option, codes, decimal, find, refl, arith, sym, ap, subst}
 use Rattle.std.specs.Prelude.{MatchBool, Result, Ok, Err}
 use Rattle.std.specs.Str.{bytes_eq}
@@ -41,7 +41,7 @@ IsNumber part = (n : ℕ) × HasFewDigits n × (part ≡ decimal n)
 number_or_not : (part : List ℕ) → IsNumber part ⊎ (IsNumber part → ⊥)
 number_or_not part = below_or_not part 100000
 
--- ---- the parts of a line say something
+-- ---- the parts of a line have a meaning
 
 module _ (r : ℕ) where
   abbrev SaySome : List (List ℕ) → Type 0
@@ -54,7 +54,7 @@ module _ (r : ℕ) where
       by true e = (Ok line, (is, e))
       by false e = (Err Range, (line, is, e))
 
-  -- parts behind a known word that are no line's
+  -- the parts after a known word that belong to no line
   of_no_line : (parts : List (List ℕ)) → has_unknown_word parts ≡ false
       → ((line : DebugLine) → ArePartsOf parts line → ⊥) → SaySome parts
   of_no_line parts known none = (Err Shape, (known, none))
@@ -106,7 +106,7 @@ module _ (r : ℕ) where
       by None e = (Err UnknownWord, word_missed part ps (sym e))
       by (Some w) e = subst (λ (letters : List ℕ). SaySome (letters ∷ ps)) (sym (word_found part w (sym e))) (word_says w ps)
 
-  -- ---- each line says something, and so each script
+  -- ---- each line has a meaning, and so each script
 
   line_says : (line : List ℕ) → (what : Result DebugLine Fault) × LineSays r line what
   line_says line = by (has_high_byte line) (parts_say (line_parts line) (parts_some line))

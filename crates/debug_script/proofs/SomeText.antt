@@ -1,5 +1,5 @@
--- The lines of a script print something: each line has an answer in a session whose points are ready and whose begun
--- groups are of leaders of the next step, and it leads to such a session.
+-- The lines of a script print something: each line has an answer in a session whose points are ready and whose begun groups are
+-- of leaders of the next step, and it leads to such a session.
 use Rattle.std.proofs.Common.{◌≡◌, ◌⊎◌, ◌∙◌, ℕ, zero, suc, ◌+◌, ◌-◌, ◌==◌, inl, inr, Bool, true, false, not, List, [], ◌∷◌, ◌++◌, length, take, drop, Some, None, Option, refl, sym, ap, subst}
 use Rattle.std.specs.Prelude.{IsPermutation, MatchBool, MatchOption}
 use Rattle.std.specs.List.{list_any, remove}
@@ -27,7 +27,7 @@ use Rattle.step_debugger.specs.Session.{AnswersLine, Back, BeginsGroup, Begun, B
 use Rattle.debug_script.specs.Printing.{printed_report}
 use Rattle.debug_script.specs.Sessions.{Prints}
 
--- ---- the laws that it stands on
+-- ---- the laws that it uses
 
 -- a step that breaks no rule leads from a ready state to one
 abbrev pub ReadyLaw : Type 0
@@ -67,8 +67,8 @@ last_of p (q ∷ past) = let last_moment = last_of q past in (p ∷ last_moment.
 abbrev next_broken : List Command → Session → Option Broken
 next_broken commands s = broken s.point.state (next_commands commands s.point) (s.point.steps + 1)
 
--- the points of a session are ready for a step, and what is begun is of leaders of the next one, which then breaks no
--- rule at its start
+-- the points of a session are ready for a step, and the begun groups are of leaders of the next one, which then breaks no rule
+-- at its start
 record IsOrderly (commands : List Command) (s : Session) : Type 0 where
   point : IsReady s.point.state
   past : (p : SessionPoint) → In p s.past → IsReady p.state
@@ -76,14 +76,14 @@ record IsOrderly (commands : List Command) (s : Session) : Type 0 where
   leaders : IsPermutation (next_leaders commands s.point) (s.begun ++ left)
   keeps : (s.begun ≡ [] → ⊥) → next_broken commands s ≡ None
 
--- it is so of a session in which nothing is begun, where its points are ready
+-- this holds for a session in which nothing is begun, if its points are ready
 fresh : (commands : List Command) (p : SessionPoint) (past : List SessionPoint) → IsReady p.state
     → ((q : SessionPoint) → In q past → IsReady q.state)
     → IsOrderly commands (record { point = p; past = past; begun = [] })
 fresh commands p past ready before = record { point = ready; past = before; left = next_leaders commands p; leaders = IsPermutation-refl (next_leaders commands p); keeps = λ some. absurd (some refl) }
 
 module _ (commands : List Command) (are : AreCommands commands) (stays_ready : ReadyLaw) (middle : MiddleLaw) where
-  -- something is answered so, and leads to a session of which it is so again
+  -- there is such an answer, and it leads to a session with the same property
   abbrev HasAnswer : (Session → DebugReport → Type 0) → Type 0
   HasAnswer P = (t : Session) × (report : DebugReport) × P t report × IsOrderly commands t
 
@@ -127,7 +127,7 @@ module _ (commands : List Command) (are : AreCommands commands) (stays_ready : R
 
     -- ---- the line of a group
 
-    -- one leader more is begun, and one fewer is left
+    -- one more leader is begun, and one fewer remains
     is_begun : (bid : ℕ) → may_begin commands s bid ≡ true → next_broken commands s ≡ None
         → IsOrderly commands (record s { begun = s.begun ++ bid ∷ [] })
     is_begun bid may keeps =
@@ -178,7 +178,7 @@ module _ (commands : List Command) (are : AreCommands commands) (stays_ready : R
         by None e = begins_group bid e
         by (Some b) e = (s, Refused b, (refl, refl), orderly)
 
-    -- ---- the lines of the way back, of the bots and of a voxel
+    -- ---- the lines of a step back, of the bots and of a voxel
 
     takes_back : (past : List SessionPoint) → s.past ≡ past → HasAnswer (TakesBack past s)
     takes_back [] e = (s, NoHistory, (refl, refl), orderly)

@@ -1,4 +1,4 @@
--- A script says one thing, and prints one text.
+-- A script has one meaning, and prints one text.
 use Rattle.std.proofs.Common.{◌≡◌, ◌∙◌, ℕ, ◌+◌, Bool, true, false, List, [], ◌∷◌, ◌++◌, codes, decimal, refl, arith, sym, ap, subst}
 use Rattle.std.specs.Prelude.{MatchBool, Result, Ok, Err}
 use Rattle.std.specs.Str.{bytes_eq}
@@ -13,7 +13,7 @@ use Rattle.debug_script.specs.Printing.{printed_report}
 use Rattle.debug_script.specs.Script.{FollowsLine, HasFewDigits, ArePartsOf, LineSays, LinesSay, PartsSay, has_unknown_word, is_in_range, line_parts, parts_of}
 use Rattle.debug_script.specs.Sessions.{Prints}
 
--- ---- parts are those of one line
+-- ---- the same parts are those of one line only
 
 same_digits : (n m : ℕ) → HasFewDigits n → HasFewDigits m → decimal n ≡ decimal m → n ≡ m
 same_digits n m a b e = decimal_injective n m (omega arith) (omega arith) e
@@ -22,7 +22,7 @@ abbrev first_part : List (List ℕ) → List ℕ
 first_part [] = []
 first_part (part ∷ more) = part
 
--- lines of other words have other parts
+-- lines that begin with different words have different parts
 pub other_words : (f g : DebugLine) → bytes_eq (first_part (parts_of f)) (first_part (parts_of f)) ≡ true
     → bytes_eq (first_part (parts_of f)) (first_part (parts_of g)) ≡ false → parts_of f ≡ parts_of g → ⊥
 other_words f g same other e = let bytes_equal = subst (λ ws. bytes_eq (first_part (parts_of f)) (first_part ws) ≡ true) e same in cc
@@ -40,7 +40,7 @@ one_written line (Voxel c) (Voxel d) h k =
     λ i. Voxel (record { x = px i; y = py i; z = pz i })
 one_written line f g h k = absurd (other_words f g refl refl (sym h.parts_are ∙ k.parts_are))
 
--- the parts of a line have a word
+-- the parts of a line begin with a known word
 has_word : (line : List (List ℕ)) (f : DebugLine) → ArePartsOf line f → has_unknown_word line ≡ false
 has_word line Step h = rw h.parts_are refl
 has_word line (Group n) h = rw h.parts_are refl
@@ -48,7 +48,7 @@ has_word line Back h = rw h.parts_are refl
 has_word line Bots h = rw h.parts_are refl
 has_word line (Voxel c) h = rw h.parts_are refl
 
--- ---- a line says one thing
+-- ---- a line has one meaning
 
 one_part_says : (r : ℕ) (line : List (List ℕ)) (a b : Result DebugLine Fault) → PartsSay r line a → PartsSay r line b
     → a ≡ b
@@ -79,7 +79,7 @@ one_line_says r line a b h k = by (has_high_byte line) h k
     by true h k = h ∙ sym k
     by false h k = one_part_says r (line_parts line) a b h k
 
--- ---- a script says one thing
+-- ---- a script has one meaning
 
 one_rest : (P : Result (List DebugLine) FaultyLine → Type 0)
     → ((a b : Result (List DebugLine) FaultyLine) → P a → P b → a ≡ b) → (n : ℕ)

@@ -1,4 +1,4 @@
--- How runs and sessions print a rule that is broken, and its coordinate (docs/FORMATS.md, "Printed lines").
+-- The printed form of a broken rule, in runs and sessions, and of its coordinate (docs/FORMATS.md, "Printed lines").
 use Rattle.std.specs.Prelude.{ℕ, List, [], ◌∷◌, codes, decimal}
 use Rattle.std.specs.List.{concat}
 use Rattle.vox_geom.specs.declared.coordinate.Coord.{Coord}
@@ -9,7 +9,7 @@ use Rattle.nano_spec.specs.Rule.{rule_number, name_of}
 abbrev pub printed_place : Coord → List ℕ
 printed_place c = concat (decimal c.x ∷ codes " " ∷ decimal c.y ∷ codes " " ∷ decimal c.z ∷ [])
 
--- the line of a rule that is broken
+-- the line of a broken rule
 abbrev pub broken_line : Broken → List ℕ
 broken_line b =
     concat (codes "broken " ∷ decimal (rule_number b.rule) ∷ codes " " ∷ name_of b.rule ∷ codes " step "

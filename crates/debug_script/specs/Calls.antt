@@ -1,4 +1,4 @@
--- What the types of the code stand for in the definitions.
+-- The types of the code in the definitions.
 use Rattle.std.specs.Prelude.{◌≡◌, ℕ, List, [], ◌∷◌, codes, map, ⊤, Result, Ok, Err, Vec}
 use Rattle.nano_spec.specs.Line.{Fault}
 use Rattle.trace_text.specs.declared.fault.TextFault.{TextFault}
@@ -34,12 +34,12 @@ script_letters word.Back = codes "back"
 script_letters word.Bots = codes "bots"
 script_letters word.Voxel = codes "voxel"
 
--- a line of this number was read as the definition says, where P says what it says
+-- the line of this number was read as the definition says, if P is its meaning
 abbrev pub IsReadBy : (Result session.DebugLine Fault → Type 0) → ℕ → Result ScriptLine TextRefusal → Type 0
 IsReadBy P number (Ok what) = P (Ok (script_line_is what))
 IsReadBy P number (Err refusal) = P (Err (faulty_line refusal).fault) × ((faulty_line refusal).line ≡ number)
 
--- a script was read as the definition says, unless there was no memory
+-- a script was read as the definition says, unless allocation failed
 abbrev pub ReadsScript : {Y : Type 0} → ℕ → List ℕ → Result (Vec ScriptLine Y) TextFault → Type 0
 ReadsScript r bytes (Ok script) = ScriptSays r bytes (Ok (lines_are script.items))
 ReadsScript r bytes (Err (Refused refusal)) = ScriptSays r bytes (Err (faulty_line refusal))

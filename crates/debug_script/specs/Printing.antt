@@ -1,4 +1,4 @@
--- How the reports of a session are printed (docs/FORMATS.md, "Sessions").
+-- The printed form of a session's reports (docs/FORMATS.md, "Sessions").
 use Rattle.std.specs.Prelude.{ℕ, Bool, true, false, List, [], ◌∷◌, flat_map, length, codes, decimal, Some, None}
 use Rattle.std.specs.Fmt.{signed_decimal}
 use Rattle.std.specs.List.{concat}
@@ -14,7 +14,7 @@ bot_line b =
     concat (codes "bot " ∷ decimal b.bid ∷ codes " at " ∷ printed_place b.pos ∷ codes " seeds "
     ∷ decimal (length (seed_list b.seeds)) ∷ codes "\n" ∷ [])
 
--- the end of the line of a step, which says whether no bot is left
+-- the end of the line of a step: whether no bot is left
 abbrev pub made_end : Bool → List ℕ
 made_end true = codes " halted\n"
 made_end false = codes "\n"

@@ -1,4 +1,4 @@
--- How the script of a session is read: its lines, or its first faulty line (docs/FORMATS.md, "Sessions").
+-- Reading the script of a session: its lines, or its first faulty line (docs/FORMATS.md, "Sessions").
 use Rattle.std.specs.Prelude.{◌≡◌, ℕ, ◌+◌, ◌<◌, nat_lt, ◌&&◌, ◌==◌, Bool, true, false, not, ⊤, List, [], ◌∷◌, codes, decimal, Result, Ok, Err, MatchBool, IsTrue, IsFalse}
 use Rattle.std.specs.List.{list_any, slice_split}
 use Rattle.std.specs.Str.{bytes_eq}
@@ -11,7 +11,7 @@ use Rattle.step_debugger.specs.Session.{DebugLine, Step, Group, Back, Bots, Voxe
 abbrev pub line_parts : List ℕ → List (List ℕ)
 line_parts line = slice_split (λ b. b == 32) line
 
--- how a line is written: its word, and its numbers in decimal digits without sign or leading zeros
+-- the text of a line: its word, and its numbers in decimal digits without sign or leading zeros
 abbrev pub parts_of : DebugLine → List (List ℕ)
 parts_of Step = codes "step" ∷ []
 parts_of (Group bid) = codes "group" ∷ decimal bid ∷ []
@@ -49,7 +49,7 @@ abbrev pub has_unknown_word : List (List ℕ) → Bool
 has_unknown_word [] = false
 has_unknown_word (word ∷ more) = not (list_any (λ w. bytes_eq w word) line_words)
 
--- what the parts of a line say, or the first that is wrong with them
+-- the meaning of a line's parts, or their first fault
 abbrev pub PartsSay : ℕ → List (List ℕ) → Result DebugLine Fault → Type 0
 PartsSay r parts (Ok line) = ArePartsOf parts line × IsTrue (is_in_range r line)
 PartsSay r parts (Err NotAscii) = ⊥
@@ -57,23 +57,23 @@ PartsSay r parts (Err UnknownWord) = IsTrue (has_unknown_word parts)
 PartsSay r parts (Err Shape) = IsFalse (has_unknown_word parts) × ((line : DebugLine) → ArePartsOf parts line → ⊥)
 PartsSay r parts (Err Range) = (line : DebugLine) × ArePartsOf parts line × IsFalse (is_in_range r line)
 
--- what a line says, or the first that is wrong with it
+-- the meaning of a line, or its first fault
 abbrev pub LineSays : ℕ → List ℕ → Result DebugLine Fault → Type 0
 LineSays r line answer = MatchBool (has_high_byte line) (answer ≡ Err NotAscii) (PartsSay r (line_parts line) answer)
 
--- what follows a line of this number that says this: the rest is read, or the line is the first faulty one
+-- the reading after a line of this number and meaning: the rest is read, or the line is the first faulty one
 abbrev pub FollowsLine : (Result (List DebugLine) FaultyLine → Type 0) → ℕ → Result DebugLine Fault
     → Result (List DebugLine) FaultyLine → Type 0
 FollowsLine P n (Ok what) answer =
     (rest : Result (List DebugLine) FaultyLine) × P rest × (answer ≡ with_first what rest)
 FollowsLine P n (Err fault) answer = answer ≡ Err (record { fault = fault; line = n })
 
--- what the lines say, from the line of this number on: the lines, or the first faulty one
+-- the meaning of the lines from this number on: the lines, or the first faulty one
 abbrev pub LinesSay : ℕ → ℕ → List (List ℕ) → Result (List DebugLine) FaultyLine → Type 0
 LinesSay r n [] answer = answer ≡ Ok []
 LinesSay r n (line ∷ more) answer =
     (what : Result DebugLine Fault) × LineSays r line what × FollowsLine (LinesSay r (n + 1) more) n what answer
 
--- what a script says at a resolution: its lines, or its first faulty line
+-- the meaning of a script at a resolution: its lines, or its first faulty line
 abbrev pub ScriptSays : ℕ → List ℕ → Result (List DebugLine) FaultyLine → Type 0
 ScriptSays r bytes answer = LinesSay r 1 (lines bytes) answer

@@ -1,4 +1,4 @@
--- What a script prints (docs/FORMATS.md, "Sessions").
+-- The printed text of a script (docs/FORMATS.md, "Sessions").
 use Rattle.std.specs.Prelude.{◌≡◌, ℕ, false, List, [], ◌∷◌, ◌++◌, IsSomeAnd, Option}
 use Rattle.nano_spec.specs.declared.commands.Command.{Command}
 use Rattle.nano_spec.specs.declared.system.Profile.{Profile}
@@ -18,7 +18,7 @@ Prints commands (line ∷ more) s text =
 abbrev pub PrintsFrom : Matrix → Profile → List Command → List DebugLine → List ℕ → Type 0
 PrintsFrom source profile commands script text = Prints commands script (opened source profile) text
 
--- a line was answered: what it prints was put at the end of the text, and memory was not refused
+-- a line was answered: its printed text was appended, and allocation did not fail
 pub record IsTold (line : DebugLine) (old new : Debugging) (before after : List ℕ) : Type 0 where
   pub report : DebugReport
   pub answers : AnswersLine old.commands line old.session new.session report
@@ -26,6 +26,6 @@ pub record IsTold (line : DebugLine) (old new : Debugging) (before after : List 
   pub commands : new.commands ≡ old.commands
   pub stands : new.spent ≡ false
 
--- the lines of the report, if there is one, were put at the end of the text
+-- the lines of the report, if there is one, were appended to the text
 abbrev pub IsPut : Option DebugReport → List ℕ → List ℕ → Type 0
 IsPut told before after = IsSomeAnd told (λ report. after ≡ before ++ printed_report report)

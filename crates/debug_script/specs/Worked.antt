@@ -1,4 +1,4 @@
--- Worked examples of scripts and of what their lines print (docs/FORMATS.md, "Sessions").
+-- Worked examples of scripts and of their printed lines (docs/FORMATS.md, "Sessions").
 use Rattle.std.specs.Prelude.{◌≡◌, pos, true, false, [], ◌∷◌, codes, Some, None, Ok, Err}
 use Rattle.vox_geom.specs.Point.{coord}
 use Rattle.nano_spec.specs.declared.outcomes.Rule.TheVariants.{GroupShape}
@@ -10,7 +10,7 @@ use Rattle.debug_script.specs.Script.{AreShort, ScriptSays}
 
 -- scripts at resolution 3
 pub record WorkedScripts : Type 0 where
-  -- a number has five digits at most
+  -- a number has at most five digits
   pub five_digits_of_a_bid : AreShort (session.Group 99999)
   pub six_digits_of_a_bid : AreShort (session.Group 100000) → ⊥
   pub six_digits_of_x : AreShort (session.Voxel (coord 100000 0 0)) → ⊥
@@ -32,7 +32,7 @@ pub record WorkedScripts : Type 0 where
   pub y_past_the_matrix : ScriptSays 3 (codes "voxel 0 3 0\n") (Err (record { fault = Range; line = 1 }))
   pub z_past_the_matrix : ScriptSays 3 (codes "voxel 0 0 3\n") (Err (record { fault = Range; line = 1 }))
 
--- what the lines of a session print
+-- the printed lines of a session
 pub record WorkedPrints : Type 0 where
   pub an_ended_run : printed_report session.Ended ≡ codes "ended\n"
   pub a_broken_rule :

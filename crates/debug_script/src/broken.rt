@@ -1,4 +1,4 @@
-//! A rule that was broken, as runs and sessions print it, and its coordinate.
+//! The printed form of a broken rule, in runs and sessions, and of its coordinate.
 ghost use Rattle.std.specs.List.{concat};
 ghost use Rattle.std.specs.Prelude.{◌≡◌, ◌∷◌, [], IfOk, codes, decimal, string_bytes};
 ghost use Rattle.debug_script.specs.Broken.{broken_line as broken_line_of, printed_place as place_of};
@@ -7,14 +7,14 @@ use nano_spec::Broken;
 use std::alloc::{AllocError, Global};
 use vox_geom::Coord;
 
-/// The components of a coordinate, as every line prints them.
+/// Returns the components of a coordinate, as every line prints them.
 pub fn printed_place(alloc: Global, at: Coord) -> Result<String, AllocError>
     ensures { IfOk result (λ s. string_bytes s ≡ place_of at) }
 {
     format!(in alloc; "{} {} {}", at.x, at.y, at.z)
 }
 
-/// The line of a rule by its number and its name.
+/// Returns the line of a rule by its number and its name.
 fn rule_line(
     alloc: Global,
     number: u8,
@@ -31,7 +31,7 @@ fn rule_line(
     format!(in alloc; "broken {number} {name} step {step} bid {bid} at {place}\n")
 }
 
-/// The line of a rule that was broken, as runs and sessions print it.
+/// Returns the line of a broken rule, as runs and sessions print it.
 pub fn broken_line(alloc: Global, broken: &Broken) -> Result<String, AllocError>
     ensures { IfOk result (λ s. string_bytes s ≡ broken_line_of broken.now) }
 {

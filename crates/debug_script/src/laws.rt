@@ -15,13 +15,13 @@ use nano_spec::opening_is_ready;
 use step_debugger::one_answer;
 use step_order::{some_groups, stays_ready};
 
-/// A script says one thing at most.
+/// A script has at most one meaning.
 pub fn one_script()
     ensures { (r : ℕ) (bytes : List ℕ) (a b : Result (List DebugLine) FaultyLine) → ScriptSays r bytes a
         → ScriptSays r bytes b → a ≡ b }
 {}
 
-/// The lines of a script print one text at most.
+/// The lines of a script print at most one text.
 pub fn one_text()
     ensures { (source : Matrix) (profile : Profile) (commands : List Command) (script : List DebugLine) (a b : List ℕ)
         → PrintsFrom source profile commands script a → PrintsFrom source profile commands script b → a ≡ b }
@@ -29,12 +29,12 @@ pub fn one_text()
     one_answer();
 }
 
-/// A script says something at each resolution: its lines, or its first faulty line.
+/// A script has a meaning at each resolution: its lines, or its first faulty line.
 pub fn some_script()
     ensures { (r : ℕ) (bytes : List ℕ) → (said : Result (List DebugLine) FaultyLine) × ScriptSays r bytes said }
 {}
 
-/// The lines of a script print some text, from a source with a voxel for each coordinate on.
+/// The lines of a script print some text, from a source with a voxel for each coordinate.
 pub fn some_text()
     ensures { (source : Matrix) (profile : Profile) (commands : List Command) (script : List DebugLine)
         → 1 ≤ source.resolution → length source.voxels ≡ volume source.resolution → AreCommands commands
@@ -45,7 +45,7 @@ pub fn some_text()
     some_groups();
 }
 
-/// Worked examples of scripts, and of what their lines print.
+/// Worked examples of scripts, and of their printed lines.
 pub fn worked_scripts()
     ensures scripts { WorkedScripts }
     ensures prints { WorkedPrints }

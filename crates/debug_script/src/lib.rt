@@ -1,4 +1,4 @@
-//! The script of the step debugger (docs/FORMATS.md, "Sessions"): its lines as they are read, and a session as it is printed.
+//! The script of the step debugger (docs/FORMATS.md, "Sessions"): reading its lines, and printing a session.
 #![tactic(auto)]
 
 mod broken;

@@ -1,4 +1,4 @@
-//! What a line of a script says.
+//! Reading a line of a script.
 ghost use Rattle.std.specs.Prelude.{◌≡◌, ◌==◌, ◌∷◌, ◌<◌, ◌≤◌, ℕ, List, [], MatchOption, codes, decimal, length};
 ghost use Rattle.debug_script.specs.Calls.{IsReadBy, script_letters};
 ghost use Rattle.debug_script.specs.Script.{HasFewDigits, LineSays, PartsSay, line_parts};
@@ -11,19 +11,19 @@ use vox_geom::Coord;
 /// A line of a script.
 #[derive(Clone, Copy, PartialEq, Eq, Debug)]
 pub enum ScriptLine {
-    /// The next step is made.
+    /// Makes the next step.
     Step,
-    /// The group of a leader is begun.
+    /// Begins the group of a leader.
     Group { leader: u8 },
-    /// What is begun is dropped, or else the last step is taken back.
+    /// Drops the begun groups, or undoes the last step if there are none.
     Back,
-    /// The active bots are told.
+    /// Prints the active bots.
     Bots,
-    /// A voxel and its level are told.
+    /// Prints a voxel and its level.
     Voxel { at: Coord },
 }
 
-/// The first part of a line, and what follows its space, where it has one.
+/// Returns the first part of a line, and the rest after its space, if it has one.
 #[tactic(auto, using(crate::proofs::Parts::one_part, crate::proofs::Parts::first_part))]
 fn cut_part(line: &[u8]) -> (&[u8], Option<&[u8]>)
     ensures { MatchOption result.1 (line_parts line.now ≡ result.0.now ∷ [])
@@ -36,7 +36,7 @@ fn cut_part(line: &[u8]) -> (&[u8], Option<&[u8]>)
     (&line[..end], Some(&line[end + 1..]))
 }
 
-/// The number that the part has in at most five decimal digits, without sign or leading zeros.
+/// Returns the number of a part with at most five decimal digits, without sign or leading zeros.
 fn number(part: &[u8]) -> Option<u32>
     ensures { MatchOption result ((n : ℕ) → HasFewDigits n → part.now ≡ decimal n → ⊥)
         (λ n. HasFewDigits n × (part.now ≡ decimal n)) }
@@ -57,7 +57,7 @@ fn number(part: &[u8]) -> Option<u32>
     Some(number)
 }
 
-/// The line of a word that stands alone.
+/// Returns the line of a word without arguments.
 fn read_word(word: ScriptWord, number: u32) -> Result<ScriptLine, TextRefusal>
     ensures { (r : ℕ) → IsReadBy (PartsSay r (script_letters word ∷ [])) number result }
 {
@@ -70,7 +70,7 @@ fn read_word(word: ScriptWord, number: u32) -> Result<ScriptLine, TextRefusal>
     }
 }
 
-/// The one number behind a word.
+/// Returns the one number after a word.
 fn one_number(rest: &[u8]) -> Option<u32>
     ensures { MatchOption result ((n : ℕ) → HasFewDigits n → line_parts rest.now ≡ decimal n ∷ [] → ⊥)
         (λ n. HasFewDigits n × (line_parts rest.now ≡ decimal n ∷ [])) }
@@ -82,7 +82,7 @@ fn one_number(rest: &[u8]) -> Option<u32>
     }
 }
 
-/// The number behind a word, and what follows its space.
+/// Returns the number after a word, and the rest after its space.
 fn first_number(rest: &[u8]) -> Option<(u32, &[u8])>
     ensures { MatchOption result
         ((n : ℕ) (next : List ℕ) (more : List (List ℕ)) → HasFewDigits n
@@ -95,7 +95,7 @@ fn first_number(rest: &[u8]) -> Option<(u32, &[u8])>
     Some((number, more))
 }
 
-/// The line of the word `group` and what follows it.
+/// Returns the line of the word `group` and the rest.
 fn read_group(rest: &[u8], number: u32) -> Result<ScriptLine, TextRefusal>
     ensures { (r : ℕ) → IsReadBy (PartsSay r (codes "group" ∷ line_parts rest.now)) number result }
 {
@@ -113,7 +113,7 @@ fn read_group(rest: &[u8], number: u32) -> Result<ScriptLine, TextRefusal>
     })
 }
 
-/// Three numbers behind a word.
+/// Returns the three numbers after a word.
 fn three_numbers(rest: &[u8]) -> Option<(u32, u32, u32)>
     ensures { MatchOption result
         ((x y z : ℕ) → HasFewDigits x → HasFewDigits y → HasFewDigits z
@@ -127,7 +127,7 @@ fn three_numbers(rest: &[u8]) -> Option<(u32, u32, u32)>
     Some((x, y, z))
 }
 
-/// The line of the word `voxel` and what follows it.
+/// Returns the line of the word `voxel` and the rest.
 fn read_voxel(rest: &[u8], number: u32, resolution: u16) -> Result<ScriptLine, TextRefusal>
     ensures { IsReadBy (PartsSay resolution (codes "voxel" ∷ line_parts rest.now)) number result }
 {
@@ -152,7 +152,7 @@ fn read_voxel(rest: &[u8], number: u32, resolution: u16) -> Result<ScriptLine, T
     Ok(ScriptLine::Voxel { at })
 }
 
-/// The line of a word and what follows its space.
+/// Returns the line of a word and the rest after its space.
 fn read_numbers(
     word: ScriptWord,
     rest: &[u8],
@@ -170,7 +170,7 @@ fn read_numbers(
     }
 }
 
-/// What the parts of a line of this number say.
+/// Returns the meaning of the parts of the line with this number.
 fn read_parts(line: &[u8], number: u32, resolution: u16) -> Result<ScriptLine, TextRefusal>
     ensures { IsReadBy (PartsSay resolution (line_parts line.now)) number result }
 {
@@ -184,7 +184,7 @@ fn read_parts(line: &[u8], number: u32, resolution: u16) -> Result<ScriptLine, T
     }
 }
 
-/// What the line of this number says, which has no line feed.
+/// Returns the meaning of the line with this number, which has no line feed.
 pub(crate) fn read_line(
     line: &[u8],
     number: u32,

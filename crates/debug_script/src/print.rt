@@ -1,4 +1,4 @@
-//! A session as it is printed.
+//! Printing a session.
 ghost use Rattle.std.specs.Prelude.{◌≡◌, ◌+◌, ◌++◌, ◌<◌, IfOk, IsFalse, None, OnOk, cond, false, flat_map, length, string_bytes};
 ghost use Rattle.nano_spec.specs.Grounded.{FirstUngrounded};
 ghost use Rattle.nano_spec.specs.Level.{Level};
@@ -26,14 +26,14 @@ use step_machine::{Machine, StepOk};
 use vox_geom::{Coord, Memory, Steps};
 use vox_planes::Planes;
 
-/// Puts a line at the end of the text.
+/// Appends a line to the text.
 fn put(text: &mut Vec<u8>, line: &[u8]) -> Result<(), Memory>
     ensures { OnOk result (text.new.items ≡ text.old.items ++ line.now) }
 {
     text.extend_from_slice(line).map_err(|_| Memory)
 }
 
-/// Puts the lines of bots at the end of the text.
+/// Appends the lines of bots to the text.
 #[tactic(auto, using(crate::proofs::Lines::bots_on))]
 fn put_bots(alloc: Global, text: &mut Vec<u8>, bots: &[Bot]) -> Result<(), Memory>
     ensures { OnOk result (text.new.items ≡ text.old.items ++ flat_map bot_line_of bots.now) }
@@ -45,7 +45,7 @@ fn put_bots(alloc: Global, text: &mut Vec<u8>, bots: &[Bot]) -> Result<(), Memor
     Ok(())
 }
 
-/// Puts the line of a fault at the end of the text. Want of memory has none.
+/// Appends the line of a fault to the text. Out of memory has none.
 fn put_fault(alloc: Global, text: &mut Vec<u8>, fault: &DebugFault) -> Result<(), Memory>
     ensures { OnOk result (IsPut (fault_report fault.now) text.old.items text.new.items) }
 {
@@ -64,7 +64,7 @@ fn put_fault(alloc: Global, text: &mut Vec<u8>, fault: &DebugFault) -> Result<()
     }
 }
 
-/// Puts the line of a step that was made at the end of the text.
+/// Appends the line of an accepted step to the text.
 fn put_made(
     alloc: Global,
     text: &mut Vec<u8>,
@@ -97,7 +97,7 @@ fn tell_step<L: Ledger>(
     }
 }
 
-/// Puts the line of a group that was begun at the end of the text.
+/// Appends the line of a begun group to the text.
 fn put_begun(
     alloc: Global,
     text: &mut Vec<u8>,
@@ -131,7 +131,7 @@ fn tell_group<L: Ledger>(
     }
 }
 
-/// Puts the line of an earlier point that stands again at the end of the text.
+/// Appends the line of an earlier point that is current again to the text.
 fn put_returned(alloc: Global, text: &mut Vec<u8>, debugger: &Debugger) -> Result<(), Memory>
     requires { debugger.now.spent ≡ false }
     ensures { OnOk result (text.new.items ≡ text.old.items ++ printed_report (is_returned debugger.now.session.point)) }
@@ -165,14 +165,14 @@ fn tell_bots(alloc: Global, debugger: &Debugger, text: &mut Vec<u8>) -> Result<(
     put_bots(alloc, text, debugger.middle_crew().bots())
 }
 
-/// Whether a coordinate is one of a matrix of this resolution.
+/// Returns whether a coordinate is in a matrix of this resolution.
 fn is_within(resolution: u16, at: Coord) -> bool
     ensures { result ≡ in_space resolution (point at) }
 {
     at.x < resolution && at.y < resolution && at.z < resolution
 }
 
-/// The level of a voxel. Outside of the matrix nothing is full, and so nothing has a level.
+/// Returns the level of a voxel. Outside the matrix nothing is full, and so nothing has a level.
 fn level_at<L: Ledger>(machine: &Machine, at: Coord, steps: &mut Steps<L>) -> Option<u32>
     requires { machine.now.spent ≡ false }
     ensures { Level machine.now.state.matrix at result }
@@ -183,7 +183,7 @@ fn level_at<L: Ledger>(machine: &Machine, at: Coord, steps: &mut Steps<L>) -> Op
     machine.level(at, steps)
 }
 
-/// Whether a voxel is full. Outside of the matrix nothing is.
+/// Returns whether a voxel is full. Outside the matrix nothing is.
 fn full_at<L: Ledger>(machine: &Machine, at: Coord, steps: &mut Steps<L>) -> bool
     ensures { result ≡ is_full machine.now.state.matrix at }
 {
@@ -193,7 +193,7 @@ fn full_at<L: Ledger>(machine: &Machine, at: Coord, steps: &mut Steps<L>) -> boo
     machine.matrix().full_at(at, steps)
 }
 
-/// The line of a voxel, by whether it is full and by its level.
+/// Returns the line of a voxel, by whether it is full and by its level.
 fn voxel_line(
     alloc: Global,
     at: Coord,
@@ -227,7 +227,7 @@ fn tell_voxel<L: Ledger>(
     put(text, line.as_bytes())
 }
 
-/// Answers a line of a script, and puts what it prints at the end of the text.
+/// Answers a line of a script, and appends its printed text.
 fn tell<L: Ledger>(
     alloc: Global,
     debugger: &mut Debugger,
@@ -247,8 +247,8 @@ fn tell<L: Ledger>(
     }
 }
 
-/// What a script prints over the commands of a trace, from a source on, by the profile of the contest. The source's full
-/// voxels are grounded, and (0,0,0) is void.
+/// Returns the printed text of a script over the commands of a trace, from a source on, by the profile of the contest. The source's
+/// full voxels are grounded, and (0,0,0) is void.
 pub fn print_session<L: Ledger>(
     alloc: Global,
     source: Planes,

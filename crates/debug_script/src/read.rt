@@ -1,4 +1,4 @@
-//! What a script says.
+//! Reading a script.
 ghost use Rattle.std.specs.Prelude.{◌≤◌, length};
 ghost use Rattle.debug_script.specs.Calls.{ReadsScript};
 
@@ -6,7 +6,8 @@ use crate::line::{ScriptLine, read_line};
 use std::alloc::Global;
 use trace_text::{TextFault, cut_line};
 
-/// The lines of a script over a source of this resolution, or its first faulty line, counted from 1 (docs/FORMATS.md, "Sessions").
+/// Returns the lines of a script over a source of this resolution, or its first faulty line, counted from 1 (docs/FORMATS.md,
+/// "Sessions").
 #[tactic(auto, using(crate::proofs::Reading::nothing_read))]
 pub fn read_script(
     alloc: Global,

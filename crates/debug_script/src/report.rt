@@ -10,7 +10,7 @@ use nano_spec::Bot;
 use std::alloc::{AllocError, Global};
 use vox_geom::Coord;
 
-/// The line of a bot by its parts.
+/// Returns the line of a bot by its parts.
 fn bot_parts(alloc: Global, bid: u8, place: &str, seeds: u8) -> Result<String, AllocError>
     ensures { IfOk result
         (λ s. string_bytes s ≡ concat
@@ -19,7 +19,7 @@ fn bot_parts(alloc: Global, bid: u8, place: &str, seeds: u8) -> Result<String, A
     format!(in alloc; "bot {bid} at {place} seeds {seeds}\n")
 }
 
-/// The line of a bot.
+/// Returns the line of a bot.
 pub(crate) fn bot_line(alloc: Global, bot: Bot) -> Result<String, AllocError>
     ensures { IfOk result (λ s. string_bytes s ≡ bot_line_of bot) }
 {
@@ -27,7 +27,7 @@ pub(crate) fn bot_line(alloc: Global, bot: Bot) -> Result<String, AllocError>
     bot_parts(alloc, bot.bid, place.as_str(), seeds_of(bot))
 }
 
-/// The line of a step that was made.
+/// Returns the line of an accepted step.
 pub(crate) fn made_line(
     alloc: Global,
     steps: u32,
@@ -43,28 +43,28 @@ pub(crate) fn made_line(
     }
 }
 
-/// The line of a group that was begun.
+/// Returns the line of a begun group.
 pub(crate) fn begun_line(alloc: Global, leader: u8, step: u32) -> Result<String, AllocError>
     ensures { IfOk result (λ s. string_bytes s ≡ printed_report (Begun leader step)) }
 {
     format!(in alloc; "group {leader} of step {step}\n")
 }
 
-/// The line of a number that is no leader whose group can be begun.
+/// Returns the line of a number that is no leader whose group can begin.
 pub(crate) fn no_leader_line(alloc: Global, leader: u8) -> Result<String, AllocError>
     ensures { IfOk result (λ s. string_bytes s ≡ printed_report (NoLeader leader)) }
 {
     format!(in alloc; "no leader {leader}\n")
 }
 
-/// The line of an earlier point that stands again.
+/// Returns the line of an earlier point that is current again.
 pub(crate) fn returned_line(alloc: Global, steps: u32, energy: i64) -> Result<String, AllocError>
     ensures { IfOk result (λ s. string_bytes s ≡ printed_report (Returned steps energy)) }
 {
     format!(in alloc; "back to step {steps} energy {energy}\n")
 }
 
-/// The line of a void voxel.
+/// Returns the line of a void voxel.
 pub(crate) fn void_line(alloc: Global, at: Coord) -> Result<String, AllocError>
     ensures { IfOk result (λ s. string_bytes s ≡ printed_report (IsVoid at)) }
 {
@@ -72,7 +72,7 @@ pub(crate) fn void_line(alloc: Global, at: Coord) -> Result<String, AllocError>
     format!(in alloc; "voxel {place} void\n")
 }
 
-/// The line of a full voxel and its level, if it has one.
+/// Returns the line of a full voxel and its level, if it has one.
 pub(crate) fn full_line(alloc: Global, at: Coord, level: Option<u32>) -> Result<String, AllocError>
     ensures { IfOk result (λ s. string_bytes s ≡ printed_report (IsFull at level)) }
 {

@@ -14,7 +14,7 @@ pub(crate) enum ScriptWord {
 }
 
 impl ScriptWord {
-    /// The word with these letters.
+    /// Returns the word with these letters.
     pub(crate) fn of(part: &[u8]) -> Option<ScriptWord>
         ensures { result ≡ find (λ w. bytes_eq (script_letters w) part.now) all_words }
     {

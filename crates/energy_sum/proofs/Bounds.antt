@@ -1,4 +1,4 @@
--- How much a step can cost.
+-- Bounds on the cost of a step.
 use Rattle.std.proofs.Common.{◌≡◌, ℕ, suc, ◌+◌, ◌*◌, ◌≤◌, sym, subst, arith, Bool, true, false, cond, List, [], ◌∷◌, length, map, filter}
 use Rattle.std.specs.Prelude.{ℤ, pos, negsuc, ◌+ℤ◌, ◌≤ℤ◌, ◌<ℤ◌, unsigned_abs, nat_le, count_by}
 use Rattle.std.specs.List.{AllByRecursion}

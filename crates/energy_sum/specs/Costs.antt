@@ -1,4 +1,4 @@
--- What a command costs by the voxels that it meets (task description, section on commands; docs/FORMATS.md,
+-- The cost of a command by the voxels that it meets (task description, section on commands; docs/FORMATS.md,
 -- "Commands").
 use Rattle.std.specs.Prelude.{ℕ, ◌+◌, ◌*◌, ℤ, pos, negsuc, ◌-ℤ◌, Bool, true, false, cond, ◌&&◌, not, List, ◌++◌, count_by}
 use Rattle.std.specs.List.{list_any}
@@ -25,7 +25,7 @@ filling_cost was_void was_full = pos (12 * was_void + 6 * was_full)
 abbrev pub voiding_cost : ℕ → ℕ → ℤ
 voiding_cost was_void was_full = pos (3 * was_void) -ℤ pos (12 * was_full)
 
--- the cost of a command that meets so many void and full voxels; of a fusion the primary's command has the whole cost
+-- the cost of a command that meets this many void and full voxels; in a fusion the primary's command has the whole cost
 abbrev pub cost_of : Command → ℕ → ℕ → ℤ
 cost_of Halt was_void was_full = pos 0
 cost_of Wait was_void was_full = pos 0

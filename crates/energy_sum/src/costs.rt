@@ -1,4 +1,4 @@
-//! What steps and commands cost.
+//! The costs of steps and commands.
 ghost use Rattle.std.specs.Prelude.{◌≡◌, ◌≤◌, ◌+◌, ◌*◌, pos, IsFalse};
 ghost use Rattle.vox_geom.specs.Point.{Point};
 ghost use Rattle.nano_spec.specs.Energy.{group_cost, upkeep_of};
@@ -8,7 +8,7 @@ ghost use Rattle.energy_sum.specs.Costs.{cost_of, filling_cost, met_full_count, 
 use nano_spec::{Command, Harmonics};
 use vox_geom::MOST_R;
 
-/// The number of voxels of a matrix.
+/// Returns the number of voxels of a matrix.
 #[tactic(auto, using(crate::proofs::Bounds::cube_most))]
 fn volume(r: u16) -> u32
     requires { r ≤ MOST_R }
@@ -19,7 +19,7 @@ fn volume(r: u16) -> u32
     side * side * side
 }
 
-/// What the space costs in the upkeep of a step at resolution r, under these harmonics.
+/// Returns the cost of the space in the upkeep of a step at resolution r, under these harmonics.
 pub fn space_upkeep(r: u16, harmonics: Harmonics) -> u32
     requires { r ≤ MOST_R }
     ensures value { result ≡ space_upkeep_of r harmonics }
@@ -32,7 +32,7 @@ pub fn space_upkeep(r: u16, harmonics: Harmonics) -> u32
     }
 }
 
-/// The upkeep of a step, by what the space costs in it and the number of bots at its start.
+/// Returns the upkeep of a step, by the cost of the space and the number of bots at its start.
 #[inline(always)]
 pub fn upkeep_by(space: u32, bots: u8) -> i64
     ensures { result ≡ pos (space + 20 * bots) }
@@ -40,7 +40,7 @@ pub fn upkeep_by(space: u32, bots: u8) -> i64
     i64::from(space) + 20 * i64::from(bots)
 }
 
-/// The upkeep of a step at resolution r, by the harmonics and the number of bots at its start.
+/// Returns the upkeep of a step at resolution r, by the harmonics and the number of bots at its start.
 pub fn upkeep(r: u16, harmonics: Harmonics, bots: u8) -> i64
     requires { r ≤ MOST_R }
     ensures { result ≡ upkeep_of r harmonics bots }
@@ -48,21 +48,21 @@ pub fn upkeep(r: u16, harmonics: Harmonics, bots: u8) -> i64
     upkeep_by(space_upkeep(r, harmonics), bots)
 }
 
-/// What it costs to fill voxels, of which so many were void and so many full.
+/// Returns the cost to fill voxels, of which `was_void` were void and `was_full` full.
 fn filling(was_void: u32, was_full: u32) -> i64
     ensures { result ≡ filling_cost was_void was_full }
 {
     12 * i64::from(was_void) + 6 * i64::from(was_full)
 }
 
-/// What it costs to void voxels, of which so many were void and so many full.
+/// Returns the cost to void voxels, of which `was_void` were void and `was_full` full.
 fn voiding(was_void: u32, was_full: u32) -> i64
     ensures { result ≡ voiding_cost was_void was_full }
 {
     3 * i64::from(was_void) - 12 * i64::from(was_full)
 }
 
-/// The cost of a command, by its row of the table of commands.
+/// Returns the cost of a command, by its row of the table of commands.
 fn row_cost(command: Command, was_void: u32, was_full: u32) -> i64
     ensures { result ≡ cost_of command was_void was_full }
 {
@@ -77,8 +77,10 @@ fn row_cost(command: Command, was_void: u32, was_full: u32) -> i64
     }
 }
 
-/// The cost of a command that meets so many void and so many full voxels. That of a group command is the cost of the
-/// whole group. Of a fusion the primary's command has the whole cost, and the secondary's has none.
+/// Returns the cost of a command that meets this many void and full voxels.
+///
+/// The cost of a group command is that of the whole group. In a fusion the primary's command has the whole cost, and the
+/// secondary's has none.
 #[tactic(auto, using(crate::proofs::Prices::cost_is_of_group))]
 pub fn command_cost(command: Command, was_void: u32, was_full: u32) -> i64
     ensures value { result ≡ cost_of command was_void was_full }

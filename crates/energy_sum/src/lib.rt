@@ -1,4 +1,4 @@
-//! What steps and commands cost (docs/FORMATS.md, "Commands"). Nothing here takes memory.
+//! The costs of steps and commands (docs/FORMATS.md, "Commands"). Nothing here allocates.
 #![tactic(auto)]
 
 mod costs;

@@ -29,7 +29,7 @@ fn long(rt: &impl Abort, dx: i16, dy: i16, dz: i16) -> Long {
     Long::of(Diff { dx, dy, dz }).expect(rt, "long")
 }
 
-/// The command is spelled by the bytes, and nothing less than all of them spells it.
+/// Asserts that the bytes spell the command, and no proper prefix of them does.
 fn both_ways(rt: &impl Abort, command: Command, bytes: &[u8]) {
     let encoded = encode_one(command);
     assert_eq!(rt; encoded.as_slice(), bytes, "{command:?}");
@@ -90,7 +90,7 @@ fn spellings_both_ways(rt: HostRuntime) {
     both_ways(&rt, gvoid, &[0xB0, 0x23, 0x23, 0x19]);
 }
 
-/// The commands of a trace, or why there are none, by all the ways to decode it.
+/// Returns the commands of a trace, or the reason why there are none, by all decoders.
 fn decoded(rt: &(impl Abort + AllocGlobal), trace: &[u8]) -> Result<CommandList, TraceFault> {
     let whole = decode_all(rt.alloc(), trace);
     same(rt, &whole, &decode_in_pieces(rt.alloc(), trace, 1));
@@ -106,7 +106,7 @@ fn same(rt: &impl Abort, a: &Result<CommandList, TraceFault>, b: &Result<Command
     }
 }
 
-/// The trace is these commands, by all the ways to decode it, and they are encoded as this trace.
+/// Asserts that all decoders return these commands for the trace, and that they encode to it.
 fn assert_trace(rt: &(impl Abort + AllocGlobal), trace: &[u8], commands: &[Command]) {
     match decoded(rt, trace) {
         Ok(list) => assert_eq!(rt; list.as_slice(), commands),
@@ -118,7 +118,7 @@ fn assert_trace(rt: &(impl Abort + AllocGlobal), trace: &[u8], commands: &[Comma
     }
 }
 
-/// The trace is refused for this reason.
+/// Asserts that the trace is refused for this reason.
 fn refused(rt: &(impl Abort + AllocGlobal), trace: &[u8], refusal: TraceRefusal) {
     match decoded(rt, trace) {
         Ok(_) => panic!(rt; "the trace is decoded"),
@@ -155,7 +155,7 @@ fn bytes_that_are_no_trace(rt: HostRuntime) {
     refused(&rt, &[0x77, 0x04], TraceRefusal::Bad { offset: 1 });
 }
 
-/// Takes a piece to its end, and adds its commands to the list.
+/// Takes a piece to its end, and appends its commands to the list.
 fn take_piece(
     decoder: &mut Decoder,
     commands: &mut CommandList,
@@ -183,7 +183,7 @@ fn take_piece(
     }
 }
 
-/// The commands of a trace that comes in pieces of this many bytes. It does not matter how many.
+/// Returns the commands of a trace in pieces of this many bytes, whatever their number.
 fn decode_in_pieces(alloc: Global, trace: &[u8], size: usize) -> Result<CommandList, TraceFault>
     requires { 1 ≤ size }
     ensures { Decodes trace.now result }

@@ -1,4 +1,4 @@
-//! The files of the system, of whose calls one fails; and stores over them.
+//! The files of the system with one failing call; and stores over them.
 use crate::host::{assert_file, temporary};
 use std::alloc::Allocator;
 use std::cell::Cell;
@@ -11,7 +11,7 @@ use std::test::Fail;
 use std::{fs, io};
 use vox_depot::{Depot, HostDepot, StoreFault};
 
-/// Numbers calls from 0, of which one fails.
+/// Numbers calls from 0, one of which fails.
 #[derive(Drop)]
 struct Calls {
     count: Cell<u64>,
@@ -39,7 +39,7 @@ impl Calls {
     }
 }
 
-/// A file whose calls are numbered, and that takes a few bytes a call.
+/// A file whose calls are numbered, and that takes a few bytes per call.
 #[derive(Drop)]
 struct FaultyFile<'a, F: Drop> {
     file: F,
@@ -164,8 +164,8 @@ const OLD: &[u8] = b"the old file";
 
 const NEW: &[u8] = b"the new file, which is longer";
 
-/// Stores over the old file while the call of this number fails. Afterwards the folder has one file, the whole new one
-/// if the store succeeded, or else the whole old one. Returns whether the call came.
+/// Stores over the old file while the call of this number fails. Afterwards the folder has one file: the whole new one if the store
+/// succeeded, the whole old one otherwise. Returns whether the call occurred.
 fn check_fault<R: Files + AllocGlobal + Abort>(
     rt: &R,
     folder: &str,
@@ -179,7 +179,7 @@ fn check_fault<R: Files + AllocGlobal + Abort>(
     let answer = depot.store(name, NEW);
     assert_file(rt, name, if answer.is_ok() { NEW } else { OLD })?;
     assert_eq!(rt; fs::metadata(rt, name)?.permissions().mode() & 0o777, 0o640);
-    // The two others are `.` and `..`.
+    // The other two are `.` and `..`.
     assert_eq!(rt; count_entries(rt, folder)?, 3);
     let came = calls.fails < calls.count.get();
     if calls.kind == ErrorKind::StorageFull {
@@ -207,7 +207,7 @@ fn a_store_that_fails_leaves_the_old_file(rt: HostRuntime) -> Result<(), Fail> {
                 came = came.saturating_add(1);
             }
         }
-        // Two looks at files, two openings, five writes, the sync, the permissions and the name.
+        // Two status queries, two opens, five writes, the sync, the permissions and the name.
         assert_eq!(&rt; came, 12);
     }
     fs::remove_dir_all(&rt, folder.as_str())?;

@@ -1,5 +1,5 @@
-//! Models of `model_forge` that are worked by hand. That a model is the definition's is proved; that a call succeeds where
-//! memory is there is shown here.
+//! Models of `model_forge`, computed by hand. That a model is the definition's is proved; these tests show that a call succeeds if
+//! memory suffices.
 ghost use Rattle.vox_geom.specs.Counting.{IsBlankOf};
 
 use crate::voxels::at;
@@ -13,7 +13,7 @@ use std::test::Fail;
 use vox_geom::{Coord, Memory, Steps};
 use vox_planes::Planes;
 
-/// The full voxels are these, which differ from one another.
+/// Asserts the full voxels, which differ from one another.
 fn assert_full<L: Ledger>(rt: &impl Abort, planes: &Planes, want: &[Coord], steps: &mut Steps<L>) {
     let r = planes.resolution();
     assert_eq!(rt; planes.count(steps) as usize, want.len());
@@ -46,7 +46,7 @@ fn worked_models(rt: HostRuntime) -> Result<(), Fail> {
     Ok(())
 }
 
-/// The greatest number at the greatest resolution: 400 is more than six words to a row.
+/// The greatest number at the greatest resolution: 400 needs more than six words to a row.
 #[test]
 fn the_greatest_model(rt: HostRuntime) -> Result<(), Fail> {
     let planes = forge(rt.alloc(), u32::MAX, 400)?;

@@ -1,4 +1,4 @@
-//! What the depot and the sink of `vox_depot` answer over real files.
+//! The depot and the sink of `vox_depot` over real files.
 use crate::pieces::{fetched, pattern};
 use std::io::Write;
 use std::os::unix::fs::symlink;
@@ -9,13 +9,13 @@ use std::test::Fail;
 use std::{env, fs, io, process};
 use vox_depot::{Depot, FetchFault, HostDepot, HostSink, Sink, SinkFault, StoreFault, load};
 
-// A path among the temporary files that no other test has.
+// Returns a path among the temporary files that no other test has.
 pub(crate) fn temporary(rt: &HostRuntime, name: &str) -> io::Result<PathBuf> {
     let file = format!(in rt.alloc(); "vox_depot_{name}_{}", process::id(rt.process()))?;
     Ok(env::temp_dir(rt)?.join(rt.alloc(), file.as_str())?)
 }
 
-// A file of 70,000 bytes, stored and fetched in pieces.
+// Stores a file of 70,000 bytes and fetches it in pieces.
 fn check_pieces<R: Files + AllocGlobal + Abort>(rt: &R, name: &str) -> Result<(), Fail> {
     let alloc = rt.alloc();
     let content = pattern(alloc, 70_000)?;
@@ -41,7 +41,7 @@ fn check_pieces<R: Files + AllocGlobal + Abort>(rt: &R, name: &str) -> Result<()
     Ok(())
 }
 
-// A file that becomes shorter while it is read fails, and is whole again for who begins anew.
+// A fetch of a file that becomes shorter fails, and a fetch from the start reads it whole.
 fn check_shrinking<R: Files + AllocGlobal + Abort>(rt: &R, name: &str) -> Result<(), Fail> {
     let alloc = rt.alloc();
     let mut depot = HostDepot::new(rt, alloc);
@@ -74,7 +74,7 @@ fn host_depot_stores_and_fetches(rt: HostRuntime) -> Result<(), Fail> {
     Ok(())
 }
 
-// A store through a link, or to one of two names of a file, is seen by the other name.
+// A store through a link, or to one of two names of a file, is visible by the other name.
 #[test]
 fn host_depot_stores_through_links(rt: HostRuntime) -> Result<(), Fail> {
     let path = temporary(&rt, "target")?;
@@ -95,7 +95,7 @@ fn host_depot_stores_through_links(rt: HostRuntime) -> Result<(), Fail> {
     Ok(())
 }
 
-// A writer that takes nothing.
+// A writer that accepts nothing.
 #[derive(Drop)]
 struct Stuck;
 
@@ -109,12 +109,12 @@ impl Write for Stuck {
     }
 }
 
-/// The sink answers this to bytes.
+/// Asserts the sink's answer to bytes.
 fn assert_put<S: Sink>(rt: &impl Abort, sink: &mut S, bytes: &[u8], answer: Result<(), SinkFault>) {
     assert_eq!(rt; sink.put(bytes), answer);
 }
 
-/// The file has these bytes.
+/// Asserts the bytes of the file.
 pub(crate) fn assert_file<R: Files + AllocGlobal + Abort>(
     rt: &R,
     name: &str,
@@ -125,7 +125,7 @@ pub(crate) fn assert_file<R: Files + AllocGlobal + Abort>(
     Ok(())
 }
 
-/// A sink over a file writes it, and one over a file that is open for reading alone fails.
+/// A sink over a file writes it, and one over a file that is open only for reading fails.
 fn check_sink<R: Files + AllocGlobal + Abort>(rt: &R, name: &str) -> Result<(), Fail> {
     let mut sink = HostSink::new(fs::create(rt, name)?);
     assert_put(rt, &mut sink, b"first ", Ok(()));

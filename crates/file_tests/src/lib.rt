@@ -1,6 +1,6 @@
-//! Tests of the crates that read and write files: `vox_depot`, `model_file`, `model_forge`, `trace_codec` and `trace_text`.
-//! There is no code here but tests: what the calls answer is proved, and that they succeed, what no clause says of real files,
-//! and the worked examples, are shown here.
+//! Tests of the crates that read and write files: `vox_depot`, `model_file`, `model_forge`, `trace_codec` and `trace_text`. There
+//! is no code here but tests: the answers of the calls are proved; these tests show that they succeed, the behavior of real files
+//! that no clause covers, and worked examples.
 #![tactic(auto)]
 
 #[cfg(test)]

@@ -1,4 +1,4 @@
-//! What the depot and the sink of `vox_depot` answer in memory.
+//! The depot and the sink of `vox_depot` in memory.
 use crate::pieces::{fetched, pattern};
 use std::alloc::Global;
 use std::process::Abort;
@@ -84,7 +84,7 @@ fn memory_depot_fails_by_number(rt: HostRuntime) -> Result<(), Fail> {
         assert_eq!(rt; bytes.map_err(|fault| *fault), fetch.answer, "at {number}");
     }
 
-    // The stores go on with the numbers 9, 10 and 11.
+    // The stores have the next numbers 9, 10 and 11.
     assert_eq!(rt; depot.store("B", b"new"), Ok(()));
     assert_eq!(rt; depot.store("A", b"lost"), Err(StoreFault));
     assert_eq!(rt; depot.store("B", b""), Ok(()));
@@ -109,7 +109,7 @@ fn memory_sink_fails_by_number(rt: HostRuntime) -> Result<(), Fail> {
     Ok(())
 }
 
-// With each allocation refused in turn, what answers for it is the count, and nothing is changed.
+// With each allocation failing one after another, the count explains each failure, and nothing is changed.
 #[test]
 fn refused_memory_is_counted(rt: HostRuntime) -> Result<(), Fail> {
     let alloc = rt.alloc();
@@ -144,7 +144,7 @@ fn refused_memory_is_counted(rt: HostRuntime) -> Result<(), Fail> {
     Ok(())
 }
 
-/// At most so many bytes of the file are loaded, its first ones: of this size.
+/// Asserts that a load of at most `most` bytes returns the file's first ones, of this size.
 fn assert_loaded(
     rt: &impl Abort,
     alloc: Global,
@@ -162,7 +162,7 @@ fn assert_loaded(
     }
 }
 
-/// The load of a file fails so.
+/// Asserts the fault of a load.
 fn assert_fault(
     rt: &impl Abort,
     alloc: Global,

@@ -1,4 +1,4 @@
-//! Model files of a few bytes: what `model_file` reads, judges and writes again.
+//! Model files of a few bytes, which `model_file` reads, judges and rewrites.
 use crate::voxels::{at, put};
 use model_file::{ModelFault, ModelRefusal, first_ungrounded, legal, read_model, write_model};
 use std::alloc::Global;
@@ -6,7 +6,7 @@ use std::test::Fail;
 use vox_geom::{Coord, Memory};
 use vox_planes::Planes;
 
-/// The bytes of the model that the bytes say, if it is legal.
+/// Returns the bytes of the model that the bytes hold, if it is legal.
 fn rewritten(alloc: Global, bytes: &[u8]) -> Result<Vec<u8>, ModelFault> {
     let planes = read_model(alloc, bytes)?;
     legal(alloc, &planes)?;
@@ -113,7 +113,7 @@ fn the_greatest_first_form(rt: HostRuntime) -> Result<(), Fail> {
     Ok(())
 }
 
-/// The least voxel that floats where these voxels of resolution 5 are full.
+/// Returns the least floating voxel if these voxels of resolution 5 are full.
 fn least_floating(alloc: Global, full: &[Coord]) -> Result<Option<Coord>, Memory> {
     let mut planes = Planes::empty(alloc, 5)?;
     for c in full {
@@ -122,7 +122,7 @@ fn least_floating(alloc: Global, full: &[Coord]) -> Result<Option<Coord>, Memory
     first_ungrounded(alloc, &planes)
 }
 
-/// A roof on a post is grounded, and the stone beside it is not.
+/// A roof on a post is grounded, and the stone next to it is not.
 #[test]
 fn the_least_floating_voxel(rt: HostRuntime) -> Result<(), Fail> {
     let stone = at(2, 1, 3);
@@ -131,7 +131,7 @@ fn the_least_floating_voxel(rt: HostRuntime) -> Result<(), Fail> {
     Ok(())
 }
 
-/// A stack, the floor beside it, and one more voxel: on the stack, beside its top, and in the air.
+/// A column, the floor next to it, and one more voxel: on the column, next to its top, and in the air.
 #[test]
 fn heaps_and_others(rt: HostRuntime) -> Result<(), Fail> {
     let cases = [

@@ -2,7 +2,7 @@
 use std::alloc::{AllocError, Global};
 use vox_depot::{Depot, FetchFault};
 
-/// What a fetch into so much room gives.
+/// Returns the result of a fetch into a buffer of this size.
 pub(crate) fn fetched<D: Depot>(
     alloc: Global,
     depot: &mut D,
@@ -22,7 +22,7 @@ pub(crate) fn fetched<D: Depot>(
     }
 }
 
-/// Bytes that differ from place to place.
+/// Returns bytes that differ from index to index.
 pub(crate) fn pattern(alloc: Global, count: u32) -> Result<Vec<u8>, AllocError> {
     (0..count).map(|k| (k % 251) as u8).collect(alloc)
 }

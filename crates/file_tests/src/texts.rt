@@ -2,7 +2,7 @@
 use std::test::Fail;
 use trace_text::{TextFault, TextRefusal, print_trace, read_text};
 
-/// What hand-written text is printed as, once it is read.
+/// Hand-written texts, and their printed form once they are read.
 const TEXTS: [(&[u8], &[u8]); 5] = [
     (b"", b""),
     (b"\n# nothing\r\n \t\n", b""),

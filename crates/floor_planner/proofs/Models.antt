@@ -1,4 +1,4 @@
--- What is full in a legal model, in one that lies on the floor, and in the empty one.
+-- The full voxels of a legal model, of one that lies on the floor, and of the empty one.
 use Rattle.std.proofs.Common.{◌≡◌, ℕ, ◌+◌, ◌≤◌, sym, ◌∙◌, arith, Bool, true, false, ◌&&◌, None}
 use Rattle.std.specs.Prelude.{find, pos}
 use Rattle.std.proofs.lemmas.Bool.Decides.{nat_tests}
@@ -16,7 +16,7 @@ use Rattle.floor_planner.specs.Floor.{IsFlat}
 pub full_passes : (r : ℕ) (test : Coord → Bool) (c : Coord) → is_full (matrix_where r test) c ≡ true → test c ≡ true
 full_passes r test c f = sym (full_where r test c (full_within (matrix_where r test) c f)) ∙ f
 
--- where none of the coordinates passes two tests and the first is passed, the second is not
+-- if no coordinate passes both tests and the first passes, the second does not
 second_fails : (m : Matrix) (test : Coord → Bool) (c : Coord) → find (λ d. is_full m d && test d) (all_of m) ≡ None
     → is_full m c ≡ true → test c ≡ false
 second_fails m test c none f = false_by (test c) (λ t. not_both (both f t) (find_none (λ d. is_full m d && test d) c (all_of m) none (in_coordinates m.resolution c (full_within m c f))))
@@ -27,7 +27,7 @@ flat_at : (most x y z : ℕ) → x ≤ most → y ≤ most → z ≤ most → (i
     && is_between (pos 1) (pos most) (pos y) && is_between (pos 0) (pos most) (pos z)) ≡ false → y ≡ 0
 flat_at most x y z h k l e = grind (arith, nat_tests)
 
--- where no voxel is full from the first layer on
+-- if no voxel is full from the first layer on
 pub flat_where : (m : Matrix) (most : ℕ) (region : Span) → m.resolution ≤ most + 1
     → ((p : Point) → is_within region p ≡ is_within (between (point (coord 0 1 0)) (point (coord most most most))) p)
     → find (λ c. is_full m c && is_within region (point c)) (all_of m) ≡ None → IsFlat m

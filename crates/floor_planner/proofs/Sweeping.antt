@@ -1,4 +1,4 @@
--- The sweep over the floor: how it begins, how it goes on, and what it leaves at its end.
+-- The sweep over the floor: its begin, its continuation, and its end.
 use Rattle.std.proofs.Common.{◌≡◌, ℕ, ◌+◌, ◌*◌, ◌<◌, ◌≤◌, refl, sym, ◌∙◌, ap, subst, arith, mul-le-mul, Bool, true, false, cond, ◌&&◌, ◌||◌, ◌==◌, nat_lt, length}
 use Rattle.std.specs.Prelude.{ℤ, pos}
 use Rattle.std.proofs.lemmas.Bool.Decides.{nat_tests}
@@ -42,7 +42,7 @@ at_last r a c h = grind (arith, nat_tests)
 
 -- ---- the matrix
 
--- two tests that agree where a voxel is full
+-- two tests that agree if a voxel is full
 agree : (full s t : Bool) → (full ≡ true → s ≡ t) → (full && s) ≡ (full && t)
 agree true s t h = h refl
 agree false s t h = refl
@@ -86,9 +86,9 @@ clear : (m target : Matrix) (x z : ℕ) → IsFlat target → m ≡ swept target
     → is_full m c ≡ false
 clear m target x z flat e c h = false_by (is_full m c) (λ f. let low = flat c (first_of_two _ _ (full_passes target.resolution (λ d. is_full target d && is_passed x z d) c (sym (ap (λ (n : Matrix). is_full n c) e) ∙ f))) in omega arith)
 
--- ---- the sweep goes on
+-- ---- the sweep continues
 
--- where nothing is written
+-- if nothing is written
 goes_on : (t : TapeState) (target : Matrix) (x z a b : ℕ) → IsSweptTo t target x z
     → ((c : Coord) → is_full target c ≡ true → is_passed x z c ≡ is_passed a b c)
     → x * target.resolution + z ≤ a * target.resolution + b → IsSweptTo t target a b
@@ -105,7 +105,7 @@ skipped t target x z flat s void = goes_on t target x z x (z + 1) s (λ c f. ap 
 
 -- ---- a voxel is filled from above
 
--- there is a place above a voxel that the target has
+-- there is a position above each voxel of the target
 pub place_above : (r : ℕ) (target : Matrix) (x z : ℕ) → IsLegal target → r ≡ target.resolution
     → is_full target (coord x 0 z) ≡ true → IsInSpace r (coord x 1 z)
 place_above r target x z legal e wanted =
@@ -115,13 +115,13 @@ place_above r target x z legal e wanted =
 area : (x r : ℕ) → x ≤ r → r ≤ 400 → x * r ≤ 160000
 area x r h l = let x_to_400 : x ≤ 400 = omega arith in mul-le-mul x_to_400 l
 
--- no way takes the tape past its limit
+-- no path takes the tape past its limit
 pub room_left : (t : TapeState) (target : Matrix) (x z : ℕ) (to : Coord) → IsSweptTo t target x z
     → x ≤ target.resolution → z ≤ target.resolution → target.resolution ≤ 400 → IsInSpace target.resolution to
     → t.steps + moves_to (spot t.bots) to + 2 < 1073741824
 room_left t target x z to s h k most i = let few = s.few in omega (arith, area x target.resolution h most, moves_most target.resolution (spot t.bots) to most s.placed i)
 
--- the ways to above a voxel of the floor
+-- the path to above a voxel of the floor
 pub ways_above : (t : TapeState) (target : Matrix) (x z : ℕ) → IsFlat target → IsSweptTo t target x z
     → AreVoidTo t.matrix (spot t.bots) (coord x 1 z)
 ways_above t target x z flat s = ways_between t.matrix (spot t.bots) (coord x 1 z) s.above (clear t.matrix target x z flat s.matrix)

@@ -1,4 +1,4 @@
--- Models that lie on the floor, and what a sweep over it leaves.
+-- Models that lie on the floor, and the voxels after a sweep over it.
 use Rattle.std.specs.Prelude.{◌≡◌, ℕ, ◌+◌, ◌*◌, ◌≤◌, Bool, false, ◌&&◌, ◌||◌, ◌==◌, nat_lt, length, IsTrue}
 use Rattle.vox_geom.specs.declared.coordinate.Coord.{Coord}
 use Rattle.vox_geom.specs.Space.{IsInSpace}
@@ -11,7 +11,7 @@ use Rattle.plan_tape.specs.Progress.{TapeState, spot}
 abbrev pub IsFlat : Matrix → Type 0
 IsFlat m = (c : Coord) → IsTrue (is_full m c) → c.y ≡ 0
 
--- whether a sweep by rows that has come to x and z has passed a coordinate
+-- whether a sweep by rows that has reached x and z has passed a coordinate
 abbrev pub is_passed : ℕ → ℕ → Coord → Bool
 is_passed x z c = nat_lt c.x x || (c.x == x && nat_lt c.z z)
 
@@ -19,7 +19,7 @@ is_passed x z c = nat_lt c.x x || (c.x == x && nat_lt c.z z)
 abbrev pub swept : Matrix → ℕ → ℕ → Matrix
 swept target x z = matrix_where target.resolution (λ c. is_full target c && is_passed x z c)
 
--- the tape when the sweep has come to x and z
+-- the tape when the sweep has reached x and z
 pub record IsSweptTo (t : TapeState) (target : Matrix) (x z : ℕ) : Type 0 where
   pub source : t.source ≡ empty target.resolution
   pub matrix : t.matrix ≡ swept target x z

@@ -1,4 +1,4 @@
-//! Whether a model lies on the floor.
+//! Checks whether a model lies on the floor.
 ghost use Rattle.std.specs.Prelude.{IsTrue};
 ghost use Rattle.floor_planner.specs.Floor.{IsFlat};
 
@@ -6,7 +6,7 @@ use vox_geom::{Coord, Region};
 use vox_planes::Planes;
 use voxel_reads::first_full;
 
-/// Whether each full voxel lies on the floor.
+/// Returns whether each full voxel lies on the floor.
 pub fn is_flat(model: &Planes) -> bool
     ensures flat { IsTrue result → IsFlat model.now }
     ensures told { IsFlat model.now → IsTrue result }

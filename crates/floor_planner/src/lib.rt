@@ -1,5 +1,5 @@
-//! The planner to copy: one bot makes a model that lies on the floor, from nothing. It flies a layer above the floor, under
-//! High, and fills each voxel from above.
+//! A planner to copy: one bot builds a model that lies on the floor, from nothing. It flies a layer above the floor, under High,
+//! and fills each voxel from above.
 #![tactic(auto)]
 
 mod flat;

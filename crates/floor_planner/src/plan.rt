@@ -12,7 +12,7 @@ use std::alloc::Global;
 use vox_geom::Memory;
 use vox_planes::Planes;
 
-/// The tape from the empty model, under High.
+/// Returns the tape from the empty model, under High.
 fn open(alloc: Global, target: &Planes) -> Result<Tape, Memory>
     ensures { IfOk result (λ tape. IsSweptTo tape target.now 0 0) }
 {
@@ -22,7 +22,7 @@ fn open(alloc: Global, target: &Planes) -> Result<Tape, Memory>
     Ok(tape)
 }
 
-/// A plan by one bot that makes of the empty model a legal one that lies on the floor.
+/// Plans for one bot that builds a legal model that lies on the floor from the empty model.
 pub fn plan_floor(alloc: Global, target: &Planes) -> Result<Plan, Memory>
     requires legal { IsLegal target.now }
     requires flat { IsFlat target.now }

@@ -8,7 +8,7 @@ use vox_geom::{Coord, Memory, Near};
 use vox_planes::Planes;
 use voxel_reads::is_full;
 
-/// Fills the voxel of the floor at x and z, where the target has it.
+/// Fills the voxel of the floor at x and z, if the target has it.
 fn fill_voxel(tape: &mut Tape, target: &Planes, x: u16, z: u16) -> Result<(), Memory>
     requires legal { IsLegal target.now }
     requires flat { IsFlat target.now }

@@ -1,4 +1,4 @@
--- The ways of the only bot, and whole plans.
+-- The paths of the single bot, and whole plans.
 use Rattle.std.proofs.Common.{◌≡◌, ℕ, ◌+◌, ◌-◌, ◌*◌, ◌<◌, ◌≤◌, ap, arith, mul-le-mul}
 use Rattle.nano_spec.specs.Matrix.{Matrix}
 use Rattle.vox_planes.specs.Voxel.{IsWhole}
@@ -9,7 +9,7 @@ use Rattle.group_planner.specs.Rows.{is_row, rows, rows_of_layer, runs, runs_of_
 use Rattle.group_planner.proofs.Counts.{count_below-most, sum_below-most}
 use Rattle.vox_geom.specs.Point.{coord}
 
--- ---- the only bot
+-- ---- the single bot
 
 up_moves : (r : ℕ) → 1 ≤ r → r ≤ 400 → moves_to (coord 0 0 0) (coord 0 (r - 1) 0) ≤ 27
 up_moves r h l = omega arith
@@ -27,7 +27,7 @@ down_moves y r h l = omega arith
 pub gather_moves : (x u v r : ℕ) → x < r → u < r → v < r → r ≤ 400 → moves x 0 + moves u 0 + moves v 1 + 1 ≤ 82
 gather_moves x u v r hx hu hv l = omega arith
 
--- ---- how many rows and runs there are at most
+-- ---- the most rows and runs
 
 rows_most : (m : Matrix) → rows m ≤ m.resolution * m.resolution
 rows_most m = sum_below-most (rows_of_layer m) m.resolution m.resolution (λ y. count_below-most (λ x. is_row m x y) m.resolution)

@@ -20,7 +20,7 @@ sum_below-suc f n = ap (sum_by f) (numbers_push 0 n) ∙ (sum_by_push f (numbers
 pub sum_below-more : (f : ℕ → ℕ) (n : ℕ) → sum_below f (n + 1) ≡ sum_below f n + f n
 sum_below-more f n = (let sum_is : n + 1 ≡ suc n = omega arith in ap (sum_below f) sum_is) ∙ sum_below-suc f n
 
--- where the function is 0 from one number on and before another, the sum stays
+-- if the function is 0 from one number on and before another, the sum does not change
 sum_below-gap_by : (f : ℕ → ℕ) (a n : ℕ) → ((k : ℕ) → a ≤ k → k < a + n → f k ≡ 0) → sum_below f (a + n) ≡ sum_below f a
 sum_below-gap_by f a zero h = (let sum_is : a + 0 ≡ a = omega arith in ap (sum_below f) sum_is)
 sum_below-gap_by f a (suc n) h =

@@ -1,4 +1,4 @@
--- What the next run of a row is.
+-- The next run of a row.
 use Rattle.std.proofs.Common.{◌≡◌, ℕ, zero, suc, ◌+◌, ◌-◌, ◌%◌, ◌<◌, ◌≤◌, refl, sym, ◌∙◌, ap, subst, arith, Bool, true, false, cond, min, ◌&&◌, ◌==◌, nat_lt, inl, inr}
 use Rattle.std.specs.Prelude.{◌⊎◌}
 use Rattle.std.proofs.lemmas.Bool.{cases_lt}
@@ -15,12 +15,12 @@ before-suc : (m : Matrix) (x y z : ℕ)
 unfolding full_before
 before-suc m x y z = refl
 
--- no voxel stands before the first
+-- no voxel precedes the first
 pub cut_at_start : (m : Matrix) (x y : ℕ) → IsCut m x y 0
 unfolding full_before
 cut_at_start m x y = λ t. refl
 
--- directly after a void voxel no full one stands before
+-- no full voxel directly precedes the successor of a void one
 before_void : (m : Matrix) (x y z : ℕ) → is_full_at m x y z ≡ false → full_before m x y (z + 1) ≡ 0
 before_void m x y z e = (let sum_is : z + 1 ≡ suc z = omega arith in ap (full_before m x y) sum_is) ∙ (before-suc m x y z ∙ ap (λ b. cond b (full_before m x y z + 1) 0) e)
 
@@ -53,8 +53,8 @@ full_begin : (b : Bool) (n : ℕ) → b ≡ true → n % 31 ≡ 0 → one_if (b 
 full_begin b n e f = rw (e, f) refl
 
 module _ (m : Matrix) (x y : ℕ) where
-  -- before a full voxel that comes directly after void ones, or at which no run is cut, a multiple of 31 full ones
-  -- stand
+  -- a multiple of 31 full voxels directly precedes a full voxel that comes directly after void ones, or at which no run is
+  -- cut
   at_first : (z first : ℕ) → IsCut m x y z → z ≤ first → IsAll m x y z first false → is_full_at m x y first ≡ true
       → full_before m x y first % 31 ≡ 0
   at_first z first cut l void full = by (cases_lt z first)

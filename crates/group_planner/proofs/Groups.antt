@@ -48,7 +48,7 @@ same_turned x y a b = rw (number_itself x, number_itself y, number_itself a, num
     or_true true = refl
     or_true false = refl
 
--- the bot above it stands outside
+-- the bot above is outside the region
 outside : (x y a b : ℕ) (c : Coord) → y < c.y → IsFalse (is_within (region x y a b) (point c))
 outside x y a b c h = by (is_between (pos x) (pos x) (pos c.x)) (is_between (pos a) (pos b) (pos c.z)) (flat_above y c.y h)
   where
@@ -57,7 +57,7 @@ outside x y a b c h = by (is_between (pos x) (pos x) (pos c.x)) (is_between (pos
     by true u e = rw e refl
     by false u e = refl
 
--- no corner stands twice
+-- no corner occurs twice
 no_twice : (x y a b : ℕ) → a < b → repeats (point (coord x y a) ∷ point (coord x y b) ∷ []) ≡ false
 no_twice x y a b h = rw (number_itself x, number_itself y, others a b h) refl
 
@@ -67,7 +67,7 @@ no_twice_at x y a b p q h e f = subst (λ (u : Point). repeats (u ∷ q ∷ []) 
 
 -- ---- the commands
 
--- what is so of both commands that write together with the other bot
+-- the facts of both commands that write together with the other bot
 record Together (k : Command) (full : Bool) (z : ℤ) : Type 0 where
   allowed : IsTrue (is_allowed full_profile k)
   joins : (r : ℕ) (s : Span) (p : Point) → IsCornered r s p (plus p down) (plus (plus p down) (ahead z))

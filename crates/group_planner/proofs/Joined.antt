@@ -36,7 +36,7 @@ next_is c = λ i. record { x = plus_none c.x i; y = plus_none c.y i; z = plus_on
 last_is : (x y z : ℕ) → plus (point (coord x y (z + 1))) (ahead (negsuc 0)) ≡ point (coord x y z)
 last_is x y z = λ i. record { x = plus_none x i; y = plus_none y i; z = less_one z i }
 
--- ---- the only bot splits
+-- ---- the single bot splits
 
 seeds_enough : 0 < length (seed_list (first_bot full_profile).seeds)
 unfolding seed_numbers
@@ -98,7 +98,7 @@ module _ (p : TapeState) (d : Diff) (e : d ≡ ahead (pos 1)) (alone : p.bots �
 
 -- ---- the pair joins
 
--- what fuses stands where the primary stood
+-- the result of the fusion is at the primary's position
 stays_there : (bot : Bot) (partner : Option Act) → (after_fusion bot partner).pos ≡ bot.pos
 stays_there bot None = refl
 stays_there bot (Some partner) = refl

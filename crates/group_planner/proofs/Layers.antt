@@ -85,7 +85,7 @@ emptied : (f : Bool) → cond (true && f) false f ≡ false
 emptied true = refl
 emptied false = refl
 
--- where the layers from a height on are voided, all is void there
+-- if the layers from a height on are voided, all is void there
 pub cleared : (a b : TapeState) (m : Matrix) (y n : ℕ) → CanVoidModel a m → Stamps a b m false (from_layer y) n
     → IsVoidFrom b.matrix y
 cleared a b m y n h g = λ c l. g.stamped c ∙ (ap (λ t. cond (t && is_full m c) false (is_full a.matrix c)) (at_or_above c.y y l) ∙ (ap (λ f. cond (true && is_full m c) false f) (h.alike c) ∙ emptied (is_full m c)))

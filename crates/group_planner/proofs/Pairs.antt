@@ -50,7 +50,7 @@ pub all_allowed : (profile : Profile) (k : Command) → profile ≡ full_profile
     → IsTrue (is_allowed profile k)
 all_allowed profile k e h = subst (λ (p : Profile). IsTrue (is_allowed p k)) (sym e) h
 
--- the ways of both bots lie apart where these regions do
+-- the moves of both bots are disjoint if these regions are
 pub can_move : (p : TapeState) (k l : Command) → IsPair p → IsTrue (is_allowed full_profile k)
     → IsTrue (is_allowed full_profile l) → MayGo p.matrix (point (rear p)) k → MayGo p.matrix (point (front p)) l
     → LieApart (between (point (rear p)) (goal_of (point (rear p)) k))
@@ -67,7 +67,7 @@ can_move p k l h ak al gk gl apart =
       apart = subst (λ (bots : List Bot). AreWaysApart (acts bots (k ∷ l ∷ []))) (sym both.are) ((lies, tt), (tt, tt));
     }
 
--- what a step of two commands costs
+-- the cost of a step of two commands
 pub spends : (p q : TapeState) (k l : Command) (m : Matrix) (bots : List Bot) (n : ℕ)
     → AllStep p q (k ∷ l ∷ []) m p.harmonics bots → length (spellings (k ∷ l ∷ [])) ≤ 4 + 4 * n → Spends p q n
 spends p q k l m bots n s h =
@@ -76,7 +76,7 @@ spends p q k l m bots n s h =
     let bytes = s.bytes_are in
     record { commands_are = omega (arith, added, steps); bytes_are = omega (arith, bytes, steps, h) }
 
--- a step in which no bot splits leaves the number of Fissions
+-- a step in which no bot splits does not change the number of Fissions
 pub still_one : (p q : TapeState) (k l : Command) → IsPair p → q.commands ≡ p.commands ++ k ∷ l ∷ []
     → count_by is_fission (k ∷ l ∷ []) ≡ 0 → fissions q ≡ 1
 still_one p q k l h added none = let more = fissions_more p q (k ∷ l ∷ []) 0 added none in let one = h.one_split in omega (arith, more, one)
@@ -118,7 +118,7 @@ moved_pair p q k l a b h s ea eb row free few none =
       spends = spends p q k l p.matrix _ 0 s (omega (arith, few));
     }
 
--- where a difference along an axis leads
+-- the end of a move along an axis
 pub led : (axis : Axis) (c : Coord) (at next : ℕ) (d : Diff) → component_of axis c ≡ at
     → d ≡ along axis (pos next -ℤ pos at) → plus (point c) d ≡ point (put axis c next)
 led axis c at next d e f =
@@ -127,14 +127,14 @@ led axis c at next d e f =
     ∙ (ap (λ (q : Coord). plus (point q) (along axis (pos next -ℤ pos (component_of axis c)))) (sym (put-component_of axis c))
     ∙ plus-along axis c (component_of axis c) next))
 
--- regions whose corners along z are in order lie apart
+-- regions whose corners along z are in order are disjoint
 pub apart_z : (a b c d : Coord) → a.z < c.z → a.z < d.z → b.z < c.z → b.z < d.z
     → LieApart (between (point a) (point b)) (between (point c) (point d))
 apart_z a b c d h k l m = before_z (record { near = omega (arith, ints); far = omega (arith, ints); next_near = omega (arith, ints); next_far = omega (arith, ints) })
 
 -- ---- both bots along x or y
 
--- the row where both go to
+-- the common row of both ends
 pub row_along : (r : ℕ) (axis : Axis) (a b : Coord) (next : ℕ) → (axis ≡ X) ⊎ (axis ≡ Y) → AreInRow r a b → next < r
     → AreInRow r (put axis a next) (put axis b next)
 row_along r axis a b next (inl e) h l = subst (λ (x : Axis). AreInRow r (put x a next) (put x b next)) (sym e) (record { x = l; y = h.y; z = h.z; same_x = refl; same_y = h.same_y; order = h.order })
@@ -145,13 +145,13 @@ pub z_stays : (axis : Axis) (c : Coord) (next : ℕ) → (axis ≡ X) ⊎ (axis 
 z_stays axis c next (inl e) = ap (λ (x : Axis). (put x c next).z) e
 z_stays axis c next (inr e) = ap (λ (x : Axis). (put x c next).z) e
 
--- the front stands at the same place along x and y
+-- the front bot has the same x and y
 pub same_there : (r : ℕ) (axis : Axis) (a b : Coord) → (axis ≡ X) ⊎ (axis ≡ Y) → AreInRow r a b
     → component_of axis b ≡ component_of axis a
 same_there r axis a b (inl e) h = ap (λ (x : Axis). component_of x b) e ∙ (h.same_x ∙ sym (ap (λ (x : Axis). component_of x a) e))
 same_there r axis a b (inr e) h = ap (λ (x : Axis). component_of x b) e ∙ (h.same_y ∙ sym (ap (λ (x : Axis). component_of x a) e))
 
--- their ways lie apart, since they differ in z
+-- their moves are disjoint, since they differ in z
 pub both_apart : (r : ℕ) (axis : Axis) (a b : Coord) (next : ℕ) → (axis ≡ X) ⊎ (axis ≡ Y) → AreInRow r a b
     → LieApart (between (point a) (point (put axis a next))) (between (point b) (point (put axis b next)))
 both_apart r axis a b next f h =

@@ -1,4 +1,4 @@
--- What clearing and building leave.
+-- The voxels after clearing and building.
 use Rattle.std.proofs.Common.{◌≡◌, ℕ, ◌+◌, ◌-◌, ◌<◌, ◌≤◌, refl, sym, ◌∙◌, ap, subst, arith, Bool, true, false, cond, ◌&&◌, nat_le, nat_lt}
 use Rattle.vox_geom.specs.declared.coordinate.Coord.{Coord}
 use Rattle.nano_spec.specs.Legal.{IsLegal}
@@ -29,7 +29,7 @@ can_clear a s o e h =
       top = subst (λ (m : Matrix). IsVoidFrom m (m.resolution - 1)) (sym same) (void_at_top s h);
     }
 
--- the pair stands at the top
+-- the pair is at the top
 pub top_climb : (a : TapeState) (s : Matrix) → PairIsOpened a → a.source ≡ s → climb_to a (a.matrix.resolution - 1) ≤ 30
 top_climb a s o e =
     let same_y = ap (λ (c : Coord). c.y) o.there in
@@ -46,8 +46,8 @@ emptied : (t o : Bool) → t ≡ false → cond (false && t) true (cond (true &&
 emptied t true e = sym e
 emptied t false e = sym e
 
--- where the source was voided from the lowest layer of a difference on, and the target filled from there, the voxels
--- are those of the target
+-- if the source was voided from the lowest layer of a difference on, and the target filled from there, the voxels are
+-- those of the target
 pub alike_target : (s t b d : Matrix) (low : ℕ) → IsLegal t → ((c : Coord) → c.y < low → is_full s c ≡ is_full t c)
     → ((c : Coord) → is_full b c ≡ cond (from_layer low c && is_full s c) false (is_full s c))
     → ((c : Coord) → is_full d c ≡ cond (between_layers low (t.resolution - 1) c && is_full t c) true (is_full b c))
@@ -89,7 +89,7 @@ rebuilt a b d s t low o e h wd wt same l g climb k steps =
       bytes_are = omega (arith, weight, light);
     }
 
--- how many steps lead home
+-- the number of steps home
 pub home_steps : (t b : TapeState) (s g : Matrix) → PairHasRebuilt t s g → s.resolution ≤ 400
     → s.resolution ≡ g.resolution
     → PairJoins t b (coord 0 (rear t).y 0) (moves (rear t).x 0 + moves (rear t).z 0 + moves (front t).z 1 + 1)

@@ -5,7 +5,7 @@ use Rattle.nano_spec.specs.Matrix.{Matrix, is_full}
 use Rattle.plan_tape.specs.Lowest.{IsLowest}
 use Rattle.plan_tape.proofs.LegalModels.{full_in_box}
 
--- where two legal models differ, there is room for two bots
+-- if two legal models differ, there is room for two bots
 pub room_for_two : (m n : Matrix) (y : ℕ) → IsLegal m → IsLegal n → m.resolution ≡ n.resolution → IsLowest m n y
     → 2 ≤ m.resolution
 room_for_two m n y hm hn e h = by (is_full m h.at) (is_full n h.at) refl refl

@@ -28,7 +28,7 @@ use Rattle.group_planner.specs.Writing.{one_below}
 use Rattle.group_planner.proofs.Pairs.{all_allowed, apart_z, both_bots, front_within, rear_within, spends, still_one, there}
 use Rattle.group_planner.proofs.Written.{below, set_by, still_free}
 
--- what is so of both commands that write the voxel below
+-- the facts of both commands that write the voxel below
 record Writer (k : Command) (full : Bool) : Type 0 where
   allowed : IsTrue (is_allowed full_profile k)
   may : (s : State) (all : List Act) (a : Act) → IsTrue (in_space s.matrix.resolution (plus (position a) down))
@@ -64,7 +64,7 @@ writer false = record { allowed = refl; may = λ s all a h. h; stays = refl; goa
 below_within : (r : ℕ) (a : Coord) → IsInSpace r a → 1 ≤ a.y → IsTrue (in_space r (plus (point a) down))
 below_within r a i h = let along_y = i.y in subst (λ (q : Point). IsTrue (in_space r q)) (sym (below a h)) (in_space_is r (coord a.x (a.y - 1) a.z) (record { x = i.x; y = omega arith; z = i.z }))
 
--- a bot that waits and one that writes the voxel below it, apart in z
+-- a bot that waits and one that writes the voxel below it, disjoint in z
 writes_apart : (k : Command) (full : Bool) (a b : Coord) → Writer k full → 1 ≤ a.y → a.z < b.z
     → AllByRecursion (λ s. AllByRecursion (λ t. LieApart s t) (just (point b) ∷ [])) (volatile_regions (point a) k)
 writes_apart k full a b w h l =
@@ -130,7 +130,7 @@ module _ (p : TapeState) (k : Command) (full : Bool) (e : k ≡ one_below full) 
   pub front_stays : AllByRecursion (λ x. IsTrue (stays_one x.command)) (acts p.bots (Wait ∷ k ∷ []))
   front_stays = let both = both_bots p.bots h.two in let how_it_writes = how in subst (λ (bots : List Bot). AllByRecursion (λ x. IsTrue (stays_one x.command)) (acts bots (Wait ∷ k ∷ []))) (sym both.are) (refl, (how_it_writes.stays, tt))
 
-  -- the voxel below one of the bots, in a matrix whose voxels are told by what the commands fill and void
+  -- the voxel below one of the bots, in a matrix given by the commands' Fills and Voids
   set_below : (n : Matrix) (c : Coord) → (c.x ≡ (rear p).x) → (c.y ≡ (rear p).y) → IsInSpace p.matrix.resolution c
       → n.resolution ≡ p.matrix.resolution → ((d : Coord) → IsInSpace p.matrix.resolution d
       → is_full n d ≡ cond (is_within (just (plus (point c) down)) (point d)) full (is_full p.matrix d))
@@ -176,7 +176,7 @@ module _ (p : TapeState) (k : Command) (full : Bool) (e : k ≡ one_below full) 
       → AllStep p q (l ∷ r ∷ []) q.matrix p.harmonics (bots_gone p.bots (l ∷ r ∷ []))
   calm_bots q l r s e = record { source = s.source; profile = s.profile; added = s.added; matrix = refl; harmonics = s.harmonics; bots_are = s.bots_are ∙ e; energy = s.energy; steps = s.steps; bytes_are = s.bytes_are }
 
-  -- after the step all is as these laws say
+  -- after the step all is as in these laws
   abbrev Voxels : Command → Command → Type 0
   Voxels l r = (d : Coord) → IsInSpace p.matrix.resolution d → is_full (after (state_of p) (l ∷ r ∷ [])).matrix d ≡ (is_filled (acts p.bots (l ∷ r ∷ [])) d || (is_full p.matrix d && not (is_voided (acts p.bots (l ∷ r ∷ [])) d)))
 

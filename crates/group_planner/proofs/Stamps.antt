@@ -31,7 +31,7 @@ on_line : (m : Matrix) (x y : ℕ) (c : Coord) → (c.x == x) ≡ true → (c.y 
     → is_full m c ≡ is_full_at m x y c.z
 on_line m x y c ex ey = let same_x = equal_by_test c.x x ex in let same_y = equal_by_test c.y y ey in λ i. is_full m (record { x = same_x i; y = same_y i; z = c.z })
 
--- what is written after one run more
+-- the written voxels after one run more
 run_more : (m : Matrix) (x y z : ℕ) (run : RowRun) → IsNextRun m x y z run → (c : Coord)
     → (up_to x y run.end c && is_full m c) ≡ (in_part x y run.first run.end c || (up_to x y z c && is_full m c))
 run_more m x y z run h c = by (c.x == x) (c.y == y) refl refl
@@ -75,7 +75,7 @@ run_more m x y z run h c = by (c.x == x) (c.y == y) refl refl
     by true false ex ey = rw (ex, ey) refl
     by false t ex ey = rw ex refl
 
--- what is written on the way back after one run more
+-- the written voxels on the way back after one run more
 run_before : (m : Matrix) (x y z : ℕ) (run : RowRun) → IsNextRun m x y z run → (c : Coord)
     → (in_part x y z m.resolution c && is_full m c)
     ≡ (in_part x y run.first run.end c || (in_part x y run.end m.resolution c && is_full m c))
@@ -206,7 +206,7 @@ pub stamps_line_back : (a b : TapeState) (m : Matrix) (full : Bool) (x y : ℕ)
     → Stamps a b m full (is_in_line x y) (runs_of_row m x y)
 stamps_line_back a b m full x y g = stamps_line a b m full x y m.resolution (runs_from m x y 0) (runs_of_row m x y) g (record { void = λ z l h. absurd (omega arith); none_more = refl }) (omega arith)
 
--- where the voxels that are told by another test are the same
+-- the same by another test with the same voxels
 pub stamps_as : (a b : TapeState) (m : Matrix) (full : Bool) (done all : Coord → Bool) (n k : ℕ)
     → Stamps a b m full done n → ((c : Coord) → (all c && is_full m c) ≡ (done c && is_full m c)) → n ≤ k
     → Stamps a b m full all k
@@ -236,7 +236,7 @@ stamps_more a b c m full first last all n k most g h e l = record {
   spends = spends_on a b c n k most g.spends h.spends l;
 }
 
--- what was void and is not written is void afterwards
+-- void voxels that are not written are void afterwards
 pub still_void : (a b : TapeState) (m : Matrix) (full : Bool) (done : Coord → Bool) (n height : ℕ)
     → Stamps a b m full done n → ((c : Coord) → height ≤ c.y → done c ≡ false) → IsVoidFrom a.matrix height
     → IsVoidFrom b.matrix height

@@ -40,7 +40,7 @@ wrote p q s a b n first end groups full g w few ex ey forth back =
       spends = spends_on p q s 0 groups 1 g.spends w.spends (omega arith);
     }
 
--- one bot goes to a voxel, and the other stays
+-- one bot moves to a voxel, and the other stays
 pub work_front : (u v z : ℕ) → u < z
     → 15 * (moves v z + 1) + (gap u (z + 1) + gap z (z + 1)) ≤ (gap u z + gap v z) + 45 + 2 * (z + 1 - z)
 work_front u v z h = omega arith
@@ -74,7 +74,7 @@ pub sets_at : (q s : TapeState) (u v first end : ℕ) (full : Bool) (groups : �
     → Sets q s (rear q).x ((rear q).y - 1) first end full (rear q) (front q) 1 groups
 sets_at q s u v first end full groups e f w = subst (λ z. Sets q s (rear q).x ((rear q).y - 1) z end full (rear q) (front q) 1 groups) e (subst (λ z. Sets q s (rear q).x ((rear q).y - 1) u z full (rear q) (front q) 1 groups) f w)
 
--- how far both bots are from a place further on
+-- the distance of both bots from a position further on
 pub further : (p : TapeState) (z first : ℕ) → z ≤ first → work_to p first ≤ work_to p z + 2 * (first - z)
 further p z first h = omega arith
 
@@ -87,7 +87,7 @@ pub from_end : (p : TapeState) (first end : ℕ) → first < end
     → work_at p first (end - 1) ≤ work_to p end + 2 * (end - first)
 from_end p first end h = omega arith
 
--- what is left of a row's work before a run of it
+-- the work left of a row before a run of it
 pub left_before : (now start z first end runs more all r : ℕ) → now ≤ start + 45 * runs + 2 * z → z ≤ first
     → first < end → end ≤ r → more ≡ runs + 1 → more ≤ all → start + 45 * all + 2 * r ≤ most_work
     → (now + 2 * (first - z)) + 45 + 2 * (end - first) ≤ most_work
@@ -98,7 +98,7 @@ pub left_after : (new now start z first end runs more : ℕ) → new ≤ (now + 
     → now ≤ start + 45 * runs + 2 * z → z ≤ first → first < end → more ≡ runs + 1 → new ≤ start + 45 * more + 2 * end
 left_after new now start z first end runs more g h a b d = omega arith
 
--- the same on the way back, where rest is what the runs behind have left
+-- the same on the way back, if rest is the number of runs left to the runs behind
 pub back_before : (now start z first end rest all r : ℕ) → now ≤ start + 45 * rest + 2 * (r - end) → z ≤ first
     → first < end → end ≤ r → rest + 1 ≤ all → start + 45 * all + 2 * (r - z) ≤ most_work
     → now + 45 + 2 * (end - first) ≤ most_work
@@ -109,7 +109,7 @@ pub back_after : (new now start z first end rest r : ℕ) → new ≤ now + 45 +
     → new + 2 * (first - z) ≤ start + 45 * (rest + 1) + 2 * (r - z)
 back_after new now start z first end rest r g h a b d = omega arith
 
--- how far both bots are from a place further back
+-- the distance of both bots from a position further back
 pub nearer : (p : TapeState) (z first : ℕ) → z ≤ first → work_to p z ≤ work_to p first + 2 * (first - z)
 nearer p z first h = omega arith
 

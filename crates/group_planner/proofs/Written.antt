@@ -1,4 +1,4 @@
--- What the pair writes into the row below.
+-- The voxels that the pair writes into the row below.
 use Rattle.std.proofs.Common.{◌≡◌, ℕ, ◌+◌, ◌-◌, ◌<◌, ◌≤◌, refl, sym, ◌∙◌, ap, arith, Bool, true, false, cond, ◌&&◌, ◌==◌, nat_le, nat_lt}
 use Rattle.std.specs.Prelude.{pos, ◌-ℤ◌, ◌+ℤ◌, negsuc}
 use Rattle.std.proofs.lemmas.Int.{ints}
@@ -77,12 +77,12 @@ above_part : (s u v : Bool) (w y : ℕ) → y < w → (s && w == y && u && v) �
 above_part true u v w y h = let w_is_not_y : (w == y) ≡ false = grind (arith, nat_tests) in rw w_is_not_y refl
 above_part false u v w y h = refl
 
--- what was void above the row is so afterwards
+-- void voxels above the row are void afterwards
 pub still_free : (n m : Matrix) (x y first end : ℕ) (full : Bool) (height : ℕ) → AreSet n m (in_part x y first end) full
     → y < height → IsVoidFrom m height → IsVoidFrom n height
 still_free n m x y first end full height s h v = λ c l. s c ∙ (ap (λ t. cond t full (is_full m c)) (above_part (c.x == x) (nat_le first c.z) (nat_lt c.z end) c.y y (omega arith)) ∙ v c l)
 
--- ---- the places below
+-- ---- the positions below
 
 -- the point below
 pub below : (c : Coord) → 1 ≤ c.y

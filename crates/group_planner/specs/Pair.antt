@@ -11,16 +11,16 @@ use Rattle.plan_tape.specs.Fissions.{fissions}
 use Rattle.plan_tape.specs.Leg.{IsOnward, moves, put}
 use Rattle.plan_tape.specs.Progress.{TapeState, bytes, spot, IsVoidFrom}
 
--- where the second bot is
+-- the position of the second bot
 abbrev pub second_spot : List Bot → Coord
 second_spot [] = origin
 second_spot (bot ∷ bots) = spot bots
 
--- where the rear bot stands: the first
+-- the position of the rear bot, the first
 abbrev pub rear : TapeState → Coord
 rear p = spot p.bots
 
--- where the front bot stands: the second
+-- the position of the front bot, the second
 abbrev pub front : TapeState → Coord
 front p = second_spot p.bots
 
@@ -42,12 +42,12 @@ pub record IsPair (p : TapeState) : Type 0 where
   pub in_row : AreInRow p.matrix.resolution (rear p) (front p)
   pub free : IsVoidFrom p.matrix (rear p).y
 
--- in the steps of a part of the plan at most two bots act, and so many of them fill or void a region
+-- in the steps of a part of the plan at most two bots act, and this many of them fill or void a region
 pub record Spends (old new : TapeState) (groups : ℕ) : Type 0 where
   pub commands_are : length new.commands + 2 * old.steps ≤ length old.commands + 2 * new.steps
   pub bytes_are : bytes new + 4 * old.steps ≤ bytes old + 4 * new.steps + 4 * groups
 
--- the pair has gone to two coordinates in at most so many steps, and no voxel has changed
+-- the pair has moved to two coordinates in at most this many steps, and no voxel has changed
 pub record PairGoes (old new : TapeState) (a b : Coord) (steps : ℕ) : Type 0 where
   pub source : new.source ≡ old.source
   pub matrix : new.matrix ≡ old.matrix
@@ -57,8 +57,8 @@ pub record PairGoes (old new : TapeState) (a b : Coord) (steps : ℕ) : Type 0 w
   pub steps_are : new.steps ≤ old.steps + steps
   pub spends : Spends old new 0
 
--- both bots may make a move along z in one step: each move is one towards the bot's end, and all of the rear one's way
--- lies before all of the front one's
+-- both bots may make a move along z in one step: each move is one towards the bot's end, and all of the rear one's path
+-- is before all of the front one's
 pub record MaySlide (behind rear_next rear_to ahead front_next front_to : ℕ) : Type 0 where
   pub rear_differs : behind ≢ rear_next
   pub rear_near : (rear_next ≤ behind + 15) × (behind ≤ rear_next + 15)
@@ -71,7 +71,7 @@ pub record MaySlide (behind rear_next rear_to ahead front_next front_to : ℕ) :
   pub past : behind < front_next
   pub order : rear_next < front_next
 
--- the pair has gone on towards two places of its row, by the moves that are not left
+-- the pair has moved on towards two positions of its row, in as many steps as that saves moves
 pub record Slides (old new : TapeState) (rear_to front_to : ℕ) : Type 0 where
   pub behind : ℕ
   pub ahead : ℕ
@@ -83,11 +83,11 @@ pub record Slides (old new : TapeState) (rear_to front_to : ℕ) : Type 0 where
 abbrev pub in_part : ℕ → ℕ → ℕ → ℕ → Coord → Bool
 in_part x y first end c = c.x == x && c.y == y && nat_le first c.z && nat_lt c.z end
 
--- where the test says so, the voxels are full, or else void; the others are as they were
+-- if the test holds, the voxels are full, otherwise void; the others are unchanged
 abbrev pub AreSet : Matrix → Matrix → (Coord → Bool) → Bool → Type 0
 AreSet new old test full = (c : Coord) → is_full new c ≡ cond (test c) full (is_full old c)
 
--- the pair, wherever it stands afterwards, has made voxels of a row full, or else void, in at most so many steps
+-- the pair, at any position afterwards, has made voxels of a row full, or void, in at most this many steps
 pub record Sets (old new : TapeState) (x y first end : ℕ) (full : Bool) (a b : Coord) (steps groups : ℕ) : Type 0 where
   pub source : new.source ≡ old.source
   pub resolution : new.matrix.resolution ≡ old.matrix.resolution

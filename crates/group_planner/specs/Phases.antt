@@ -16,7 +16,7 @@ use Rattle.vox_geom.specs.Point.{coord}
 abbrev pub first_at : Coord → List Bot
 first_at c = bots_at (first_bot full_profile ∷ []) c
 
--- the only bot there ever was has become two
+-- the first and single bot has become two
 pub record Splits (old new : TapeState) : Type 0 where
   pub source : new.source ≡ old.source
   pub matrix : new.matrix ≡ old.matrix
@@ -25,7 +25,7 @@ pub record Splits (old new : TapeState) : Type 0 where
   pub steps_are : new.steps ≡ old.steps + 1
   pub spends : Spends old new 0
 
--- the pair has become one bot, at a coordinate, in at most so many steps
+-- the pair has become one bot, at a coordinate, in at most this many steps
 pub record PairJoins (old new : TapeState) (c : Coord) (steps : ℕ) : Type 0 where
   pub source : new.source ≡ old.source
   pub matrix : new.matrix ≡ old.matrix
@@ -37,7 +37,7 @@ pub record PairJoins (old new : TapeState) (c : Coord) (steps : ℕ) : Type 0 wh
   pub steps_are : new.steps ≤ old.steps + steps
   pub spends : Spends old new 0
 
--- the pair stands at the top above the origin, under High, and nothing is changed
+-- the pair is at the top above the origin, under High, and nothing has changed
 pub record PairIsOpened (t : TapeState) : Type 0 where
   pub matrix : t.matrix ≡ t.source
   pub pair : IsPair t
@@ -46,7 +46,7 @@ pub record PairIsOpened (t : TapeState) : Type 0 where
   pub commands_are : length t.commands ≤ 2 * t.steps
   pub bytes_are : bytes t ≤ 4 * t.steps
 
--- how many steps a plan takes at most without its last way home, by the rows and runs of both models
+-- the most steps of a plan without its last path home, by the rows and runs of both models
 abbrev pub plan_steps : Matrix → Matrix → ℕ
 plan_steps source target =
     3 * (runs source + runs target) + 135 * (rows source + rows target) + 3 * source.resolution + 40

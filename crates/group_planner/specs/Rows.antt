@@ -7,11 +7,11 @@ use Rattle.nano_spec.specs.Matrix.{Matrix, is_full}
 unfoldable pub sum_below : (ℕ → ℕ) → ℕ → ℕ
 sum_below f n = sum_by f (numbers_below n)
 
--- 1 where it holds
+-- 1 if it holds
 abbrev pub one_if : Bool → ℕ
 one_if b = cond b 1 0
 
--- how many of the numbers below n pass a test
+-- the count of the numbers below n that pass a test
 abbrev pub count_below : (ℕ → Bool) → ℕ → ℕ
 count_below test n = sum_below (λ k. one_if (test k)) n
 
@@ -23,12 +23,12 @@ is_full_at m x y z = is_full m (record { x = x; y = y; z = z })
 abbrev pub is_row : Matrix → ℕ → ℕ → Bool
 is_row m x y = nat_lt 0 (count_below (is_full_at m x y) m.resolution)
 
--- how many full voxels stand one after another directly before z
+-- the number of consecutive full voxels directly before z
 unfoldable pub full_before : Matrix → ℕ → ℕ → ℕ → ℕ
 full_before m x y zero = 0
 full_before m x y (suc z) = cond (is_full_at m x y z) (full_before m x y z + 1) 0
 
--- whether a run begins at z: the voxel is full, and a multiple of 31 full ones stand directly before it
+-- whether a run begins at z: the voxel is full, and a multiple of 31 full ones directly precedes it
 abbrev pub begins_run : Matrix → ℕ → ℕ → ℕ → Bool
 begins_run m x y z = is_full_at m x y z && full_before m x y z % 31 == 0
 

@@ -8,14 +8,14 @@ use Rattle.group_planner.specs.Rows.{begins_run, count_below, full_before, is_fu
 abbrev pub IsAll : Matrix → ℕ → ℕ → ℕ → ℕ → Bool → Type 0
 IsAll m x y from end full = (z : ℕ) → from ≤ z → z < end → is_full_at m x y z ≡ full
 
--- the first z from one on at which the row is full, or else void, or else the end
+-- the first z from one on at which the row is full, or void, or the end if there is none
 pub record IsRunEnd (m : Matrix) (x y from end : ℕ) (full : Bool) (z : ℕ) : Type 0 where
   pub low : from ≤ z
   pub high : z ≤ end
   pub others : IsAll m x y from z (not full)
   pub here : z < end → is_full_at m x y z ≡ full
 
--- no run goes across z: where the voxel is full, a multiple of 31 full ones stand directly before it
+-- no run goes across z: if the voxel is full, a multiple of 31 full ones directly precedes it
 abbrev pub IsCut : Matrix → ℕ → ℕ → ℕ → Type 0
 IsCut m x y z = is_full_at m x y z ≡ true → full_before m x y z % 31 ≡ 0
 
@@ -27,11 +27,11 @@ pub record IsRun (m : Matrix) (x y : ℕ) (run : RowRun) : Type 0 where
   pub full : IsAll m x y run.first run.end true
   pub cut : IsCut m x y run.end
 
--- how many runs of a row begin before z
+-- the number of runs of a row that begin before z
 abbrev pub runs_before : Matrix → ℕ → ℕ → ℕ → ℕ
 runs_before m x y z = count_below (begins_run m x y) z
 
--- and how many from z on
+-- and the number from z on
 abbrev pub runs_from : Matrix → ℕ → ℕ → ℕ → ℕ
 runs_from m x y z = runs_of_row m x y - runs_before m x y z
 

@@ -1,4 +1,4 @@
--- What parts of the plan have written of a model, and what that cost.
+-- The voxels of a model written by parts of the plan, and the cost.
 use Rattle.std.specs.Prelude.{◌≡◌, ℕ, ◌+◌, ◌-◌, ◌*◌, ◌≤◌, ◌<◌, Bool, cond, ◌&&◌, nat_le, nat_lt}
 use Rattle.vox_geom.specs.declared.coordinate.Coord.{Coord}
 use Rattle.nano_spec.specs.Matrix.{Matrix, is_full}
@@ -7,7 +7,7 @@ use Rattle.plan_tape.specs.Progress.{TapeState, IsVoidFrom}
 use Rattle.group_planner.specs.Pair.{AreSet, IsPair, Spends, front, in_part, rear}
 use Rattle.group_planner.specs.Rows.{is_row, one_if, rows_of_layer, runs_of_layer, runs_of_row, sum_below}
 
--- fifteen times the steps, and how far both bots are from a place of their row
+-- fifteen times the steps, and the distance of both bots from a position of their row
 abbrev pub work_to : TapeState → ℕ → ℕ
 work_to p z = 15 * p.steps + (gap (rear p).z z + gap (front p).z z)
 
@@ -23,7 +23,7 @@ climb_to p y = p.steps + gap (rear p).y y
 abbrev pub most_work : ℕ
 most_work = 16106127360
 
--- the pair has made voxels of the row below it full, or else void, on its way forth or back along the row
+-- the pair has made voxels of the row below it full, or void, on its way forth or back along the row
 pub record WritesRun (old new : TapeState) (first end : ℕ) (full : Bool) : Type 0 where
   pub source : new.source ≡ old.source
   pub resolution : new.matrix.resolution ≡ old.matrix.resolution
@@ -35,11 +35,11 @@ pub record WritesRun (old new : TapeState) (first end : ℕ) (full : Bool) : Typ
   pub back : work_to new first ≤ work_to old end + 45 + 2 * (end - first)
   pub spends : Spends old new 1
 
--- where the test says so, the voxels that are full in the model are full, or else void; all others are as they were
+-- if the test holds, the voxels that are full in the model are full, or void; all others are unchanged
 abbrev pub AreStamped : Matrix → Matrix → Matrix → Bool → (Coord → Bool) → Type 0
 AreStamped new old model full done = (c : Coord) → is_full new c ≡ cond (done c && is_full model c) full (is_full old c)
 
--- the pair has made voxels of the model full, or else void, and so many runs at most
+-- the pair has made voxels of the model full, or void, at most this many runs
 pub record Stamps (old new : TapeState) (model : Matrix) (full : Bool) (done : Coord → Bool) (runs : ℕ) : Type 0 where
   pub source : new.source ≡ old.source
   pub resolution : new.matrix.resolution ≡ old.matrix.resolution
@@ -65,14 +65,14 @@ pub record CanVoidModel (p : TapeState) (model : Matrix) : Type 0 where
   pub alike : (c : Coord) → is_full p.matrix c ≡ is_full model c
   pub top : IsVoidFrom p.matrix (p.matrix.resolution - 1)
 
--- how many steps the runs of a row take at most, with the way to it
+-- the most steps for the runs of a row, with the path to it
 abbrev pub row_steps : Matrix → ℕ → ℕ → ℕ
 row_steps m x y = 135 * one_if (is_row m x y) + 3 * runs_of_row m x y
 
--- how many those of a layer take
+-- the most for those of a layer
 abbrev pub stamping_steps : Matrix → ℕ → ℕ
 stamping_steps m y = 135 * rows_of_layer m y + 3 * runs_of_layer m y
 
--- how many those of the layers below y take
+-- the most for those of the layers below y
 abbrev pub steps_below : Matrix → ℕ → ℕ
 steps_below m y = sum_below (stamping_steps m) y

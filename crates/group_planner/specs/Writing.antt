@@ -9,12 +9,12 @@ use Rattle.vox_geom.specs.Point.{down}
 abbrev pub ahead : ℤ → Diff
 ahead z = record { dx = pos 0; dy = pos 0; dz = z }
 
--- the command that makes the voxel below full, or else void
+-- the command that makes the voxel below full, or void
 abbrev pub one_below : Bool → Command
 one_below true = Fill down
 one_below false = Void down
 
--- the command that makes the voxels from the one below to another along z full, or else void, together with the other
+-- the command that makes the voxels from the one below to another along z full, or void, together with the other
 -- bot
 abbrev pub all_below : Bool → ℤ → Command
 all_below true z = GFill down (ahead z)

@@ -1,11 +1,11 @@
-//! How many rows and runs a model has.
+//! The number of rows and runs of a model.
 ghost use Rattle.std.specs.Prelude.{◌≡◌, ◌*◌, ◌<◌, ◌≤◌};
 ghost use Rattle.group_planner.specs.Rows.{is_row as is_row_of, rows as rows_of, rows_of_layer, runs as runs_of, runs_of_layer, runs_of_row};
 
 use crate::run::next_run;
 use vox_planes::Planes;
 
-/// Whether the line of x and y is a row: it has a full voxel.
+/// Returns whether the line of x and y is a row, that is, has a full voxel.
 fn is_row(planes: &Planes, x: u16, y: u16) -> bool
     requires x { x < planes.now.resolution }
     requires y { y < planes.now.resolution }
@@ -17,7 +17,7 @@ fn is_row(planes: &Planes, x: u16, y: u16) -> bool
     }
 }
 
-/// The number of rows of a layer.
+/// Returns the number of rows of a layer.
 fn layer_rows(planes: &Planes, y: u16) -> u32
     requires { y < planes.now.resolution }
     ensures value { result ≡ rows_of_layer planes.now y }
@@ -32,7 +32,7 @@ fn layer_rows(planes: &Planes, y: u16) -> u32
     rows
 }
 
-/// The number of rows of a model: lines of fixed x and y that have a full voxel. It takes no memory.
+/// Returns the number of rows of a model: lines of fixed x and y that have a full voxel. Allocates nothing.
 pub fn rows(planes: &Planes) -> u32
     ensures value { result ≡ rows_of planes.now }
     ensures most { result ≤ planes.now.resolution * planes.now.resolution }
@@ -44,7 +44,7 @@ pub fn rows(planes: &Planes) -> u32
     rows
 }
 
-/// The number of runs of a row.
+/// Returns the number of runs of a row.
 fn row_runs(planes: &Planes, x: u16, y: u16) -> u32
     requires x { x < planes.now.resolution }
     requires y { y < planes.now.resolution }
@@ -60,7 +60,7 @@ fn row_runs(planes: &Planes, x: u16, y: u16) -> u32
     runs
 }
 
-/// The number of runs of a layer.
+/// Returns the number of runs of a layer.
 fn layer_runs(planes: &Planes, y: u16) -> u32
     requires { y < planes.now.resolution }
     ensures value { result ≡ runs_of_layer planes.now y }
@@ -73,8 +73,8 @@ fn layer_runs(planes: &Planes, y: u16) -> u32
     runs
 }
 
-/// The number of runs of a model: longest pieces of full voxels in a row, each cut from its least z into pieces of at most
-/// 31. It takes no memory.
+/// Returns the number of runs of a model: maximal pieces of full voxels in a row, each cut from its least z into pieces of at most
+/// 31. Allocates nothing.
 pub fn runs(planes: &Planes) -> u32
     ensures value { result ≡ runs_of planes.now }
     ensures most { result ≤ planes.now.resolution * planes.now.resolution * planes.now.resolution }

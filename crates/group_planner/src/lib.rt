@@ -1,6 +1,6 @@
-//! A planner with two bots, which voids the source from the top down to the lowest layer in which it differs from the target,
-//! and fills the target from there up, from one layer above and under High. The bots stand in one row, go to the ends of its
-//! runs, from the end of the row at which they are, and fill or void each run by one group command.
+//! A planner for two bots. It voids the source from the top down to the lowest layer in which it differs from the target, and
+//! fills the target from there up, from one layer above and under High. The bots share one row, move to the ends of its runs,
+//! starting with the end of the row nearer to them, and fill or void each run by one group command.
 #![tactic(auto)]
 
 mod count;

@@ -1,4 +1,4 @@
-//! One bot becomes two, and two become one.
+//! Fission of one bot into two, and fusion into one.
 ghost use Rattle.std.specs.Prelude.{◌≡◌, ◌+◌, ◌-◌, ◌<◌, ◌≤◌, IfOk, OnOk};
 ghost use Rattle.vox_geom.specs.Space.{IsInSpace};
 ghost use Rattle.nano_spec.specs.declared.system.Harmonics.TheVariants.{High};
@@ -19,7 +19,7 @@ use step_order::bots_act;
 use vox_geom::Memory;
 use vox_planes::Planes;
 
-/// The only bot makes another one, next to it along z.
+/// Splits the single bot into two, next to each other along z.
 fn split(tape: &mut Tape) -> Result<(), Memory>
     requires alone { tape.old.bots ≡ first_at (spot tape.old.bots) }
     requires unsplit { fissions tape.old ≡ 0 }
@@ -36,7 +36,7 @@ fn split(tape: &mut Tape) -> Result<(), Memory>
     tape.act_all(&[Command::Fission(ahead(Axis::Z), 0)])
 }
 
-/// The bots, one next to the other, become one.
+/// Fuses the two bots, which are next to each other, into one.
 fn join(tape: &mut Tape) -> Result<(), Memory>
     requires pair { IsPair tape.old }
     requires beside { (front_of tape.old).z ≡ (rear_of tape.old).z + 1 }
@@ -51,7 +51,7 @@ fn join(tape: &mut Tape) -> Result<(), Memory>
     ])
 }
 
-/// The tape with two bots at the top above the origin, under High.
+/// Returns the tape with two bots at the top above the origin, under High.
 pub fn open(alloc: Global, source: Planes) -> Result<Tape, Memory>
     requires legal { IsLegal source }
     requires room { 2 ≤ source.resolution }
@@ -64,7 +64,7 @@ pub fn open(alloc: Global, source: Planes) -> Result<Tape, Memory>
     Ok(tape)
 }
 
-/// The bots become one above the origin.
+/// Fuses the bots into one above the origin.
 pub fn gather(tape: &mut Tape) -> Result<(), Memory>
     requires pair { IsPair tape.old }
     requires limit { tape.old.steps + 82 ≤ 1073741824 }

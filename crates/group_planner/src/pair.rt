@@ -9,7 +9,7 @@ use nano_spec::Command;
 use plan_tape::{Axis, Tape, next_stop, towards};
 use vox_geom::{Coord, Memory};
 
-/// Where the rear bot stands.
+/// Returns the position of the rear bot.
 pub fn rear(tape: &Tape) -> Coord
     requires { IsPair tape.now }
     ensures value { result ≡ rear_of tape.now }
@@ -19,7 +19,7 @@ pub fn rear(tape: &Tape) -> Coord
     tape.crew().bots()[0].pos
 }
 
-/// Where the front bot stands.
+/// Returns the position of the front bot.
 pub fn front(tape: &Tape) -> Coord
     requires { IsPair tape.now }
     ensures value { result ≡ front_of tape.now }
@@ -29,7 +29,7 @@ pub fn front(tape: &Tape) -> Coord
     tape.crew().bots()[1].pos
 }
 
-/// Both bots make the same move along x or y.
+/// Makes the same move along x or y with both bots.
 fn both_move(tape: &mut Tape, axis: Axis, at: u16, next: u16) -> Result<(), Memory>
     requires pair { IsPair tape.old }
     requires flat { (axis ≡ Axis.X) ⊎ (axis ≡ Axis.Y) }
@@ -49,7 +49,7 @@ fn both_move(tape: &mut Tape, axis: Axis, at: u16, next: u16) -> Result<(), Memo
     ])
 }
 
-/// The front bot moves to a z past the rear one, which waits.
+/// Moves the front bot to a z past the rear one, which waits.
 fn front_moves(tape: &mut Tape, at: u16, next: u16) -> Result<(), Memory>
     requires pair { IsPair tape.old }
     requires here { (front_of tape.old).z ≡ at }
@@ -64,7 +64,7 @@ fn front_moves(tape: &mut Tape, at: u16, next: u16) -> Result<(), Memory>
     tape.move_all(&[Command::Wait, Command::SMove(towards(Axis::Z, at, next))])
 }
 
-/// The rear bot moves to a z before the front one, which waits.
+/// Moves the rear bot to a z before the front one, which waits.
 fn rear_moves(tape: &mut Tape, at: u16, next: u16) -> Result<(), Memory>
     requires pair { IsPair tape.old }
     requires here { (rear_of tape.old).z ≡ at }
@@ -78,7 +78,7 @@ fn rear_moves(tape: &mut Tape, at: u16, next: u16) -> Result<(), Memory>
     tape.move_all(&[Command::SMove(towards(Axis::Z, at, next)), Command::Wait])
 }
 
-/// Both bots go along x or y.
+/// Moves both bots along x or y.
 fn both_go(tape: &mut Tape, axis: Axis, from: u16, to: u16) -> Result<(), Memory>
     requires pair { IsPair tape.old }
     requires flat { (axis ≡ Axis.X) ⊎ (axis ≡ Axis.Y) }
@@ -99,7 +99,7 @@ fn both_go(tape: &mut Tape, axis: Axis, from: u16, to: u16) -> Result<(), Memory
     Ok(())
 }
 
-/// Both bots go to a row, by moves along x, then y.
+/// Moves both bots to a row, along x, then y.
 pub fn go_to_row(tape: &mut Tape, x: u16, y: u16) -> Result<(), Memory>
     requires pair { IsPair tape.old }
     requires x { x < tape.old.matrix.resolution }
@@ -116,7 +116,7 @@ pub fn go_to_row(tape: &mut Tape, x: u16, y: u16) -> Result<(), Memory>
     both_go(tape, Axis::Y, from.y, y)
 }
 
-/// The front bot goes to a z past the rear one.
+/// Moves the front bot to a z past the rear one.
 pub fn front_goes(tape: &mut Tape, to: u16) -> Result<(), Memory>
     requires pair { IsPair tape.old }
     requires within { to < tape.old.matrix.resolution }
@@ -135,7 +135,7 @@ pub fn front_goes(tape: &mut Tape, to: u16) -> Result<(), Memory>
     Ok(())
 }
 
-/// The rear bot goes to a z before the front one.
+/// Moves the rear bot to a z before the front one.
 pub fn rear_goes(tape: &mut Tape, to: u16) -> Result<(), Memory>
     requires pair { IsPair tape.old }
     requires before { to < (front_of tape.old).z }
@@ -153,7 +153,7 @@ pub fn rear_goes(tape: &mut Tape, to: u16) -> Result<(), Memory>
     Ok(())
 }
 
-/// Both bots make a move along z, the rear one on its side of the front one's way.
+/// Makes a move along z with both bots, the rear one behind the path of the front one.
 fn both_slide(
     tape: &mut Tape,
     behind: u16,
@@ -184,7 +184,7 @@ fn both_slide(
     ])
 }
 
-/// Where both bots come to by their next moves along z, if they may make them in one step.
+/// Returns the ends of both bots' next moves along z, if they may make them in one step.
 fn next_slide(behind: u16, rear_to: u16, ahead: u16, front_to: u16) -> Option<(u16, u16)>
     ensures { IfSome result (λ next. MaySlide behind next.0 rear_to ahead next.1 front_to) }
 {
@@ -208,7 +208,7 @@ fn next_slide(behind: u16, rear_to: u16, ahead: u16, front_to: u16) -> Option<(u
     Some((rear_next, front_next))
 }
 
-/// Both bots go along z together, as far as neither comes into the other's way.
+/// Moves both bots along z together, as far as neither gets in the other's way.
 fn slide(tape: &mut Tape, rear_to: u16, front_to: u16) -> Result<(), Memory>
     requires pair { IsPair tape.old }
     requires within { front_to < tape.old.matrix.resolution }
@@ -226,8 +226,8 @@ fn slide(tape: &mut Tape, rear_to: u16, front_to: u16) -> Result<(), Memory>
     Ok(())
 }
 
-/// The bots go to two places of their row, together where they can. Then the one that does not stand in the other's way
-/// goes first.
+/// Moves the bots to two positions in their row, together as far as possible. Then the one that is not in the other's way moves
+/// first.
 pub fn spread(tape: &mut Tape, rear_to: u16, front_to: u16) -> Result<(), Memory>
     requires pair { IsPair tape.old }
     requires order { rear_to < front_to }

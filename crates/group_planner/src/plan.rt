@@ -36,9 +36,9 @@ fn rebuild(tape: &mut Tape, source: &Planes, target: &Planes, low: u16) -> Resul
     Ok(())
 }
 
-/// A plan that makes the target of the source, by two bots: at no time are more active. Both models are legal. With the runs
-/// and rows of both together it has at most 8 * runs + 160 * rows + 200 * r + 400 steps at resolution r, twice as many commands, and
-/// 36 * runs + 640 * rows + 800 * r + 1600 bytes. Where both models are the same, the commands are a Halt alone.
+/// Plans from the source to the target, both legal, for two bots: at no time are more active. With the runs and rows of both
+/// models together, the plan has at most 8 * runs + 160 * rows + 200 * r + 400 steps at resolution r, twice as many commands, and
+/// 36 * runs + 640 * rows + 800 * r + 1600 bytes. If both models are the same, the commands are a Halt alone.
 pub fn plan_groups(alloc: Global, source: &Planes, target: &Planes) -> Result<Plan, Memory>
     requires { AreLegalModels source.now target.now }
     ensures accepted { IfOk result

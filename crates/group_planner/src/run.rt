@@ -1,4 +1,4 @@
-//! The runs of a row, from one z on.
+//! The runs of a row, from a given z on.
 ghost use Rattle.std.specs.Prelude.{◌≡◌, ◌<◌, ◌≤◌, find, IfNone, IfSome};
 ghost use Rattle.vox_geom.specs.Counting.{IsBlankOf};
 ghost use Rattle.vox_geom.specs.Space.{IsInSpace};
@@ -12,7 +12,7 @@ use std::sync::ledger::{Blank, Ledger};
 use vox_geom::{Coord, Steps};
 use vox_planes::Planes;
 
-/// The most voxels that a run has.
+/// The longest run in voxels.
 const LONGEST: u16 = 31;
 
 /// A run: its first z, and the one after its last.
@@ -22,7 +22,7 @@ pub struct RowRun {
     pub end: u16,
 }
 
-/// The first voxel of a row that is full, or else void, counted in a ledger of its own.
+/// Returns the first voxel of a row that is full, or void, with touches counted in a ledger of its own.
 fn next_in<L: Ledger>(
     planes: &Planes,
     first: Coord,
@@ -40,7 +40,7 @@ fn next_in<L: Ledger>(
     planes.row_next(first, last, full, &mut steps)
 }
 
-/// The first z from one on and before an end at which the row of x and y is full, or else void; where there is none, the end.
+/// Returns the first z in a range at which the row of x and y is full, or void, or the end if there is none.
 fn next(planes: &Planes, first: Coord, end: u16, full: bool) -> u16
     requires x { first.x < planes.now.resolution }
     requires y { first.y < planes.now.resolution }
@@ -57,7 +57,7 @@ fn next(planes: &Planes, first: Coord, end: u16, full: bool) -> u16
     }
 }
 
-/// The first run of the row of x and y from a z on that no run goes across.
+/// Returns the first run of the row of x and y from a z on that no run goes across.
 pub fn next_run(planes: &Planes, x: u16, y: u16, z: u16) -> Option<RowRun>
     requires x { x < planes.now.resolution }
     requires y { y < planes.now.resolution }
@@ -76,7 +76,7 @@ pub fn next_run(planes: &Planes, x: u16, y: u16, z: u16) -> Option<RowRun>
     Some(RowRun { first, end })
 }
 
-/// The last run of the row of x and y, from one of its runs on.
+/// Returns the last run of the row of x and y, from one of its runs on.
 pub fn last_run(planes: &Planes, x: u16, y: u16, run: RowRun) -> RowRun
     requires x { x < planes.now.resolution }
     requires y { y < planes.now.resolution }

@@ -1,4 +1,4 @@
-//! Runs, rows and layers of a model that are filled or voided, from one layer above.
+//! Fills or voids runs, rows and layers of a model, from one layer above.
 ghost use Rattle.std.specs.Prelude.{◌≡◌, ◌+◌, ◌*◌, ◌-◌, ◌<◌, ◌≤◌, false, true, OnOk};
 ghost use Rattle.plan_tape.specs.Parts.{from_layer, layer, is_in_line};
 ghost use Rattle.plan_tape.specs.Leg.{gap};
@@ -32,7 +32,7 @@ fn write_run(tape: &mut Tape, run: RowRun, full: bool) -> Result<(), Memory>
     }
 }
 
-/// Makes the runs of the row below full or void, the first one first.
+/// Makes the runs of the row below full or void, in ascending order.
 fn write_runs(tape: &mut Tape, model: &Planes, full: bool, x: u16, y: u16) -> Result<(), Memory>
     requires ready { CanStamp tape.old model.now y }
     requires x { (rear_of tape.old).x ≡ x }
@@ -52,7 +52,7 @@ fn write_runs(tape: &mut Tape, model: &Planes, full: bool, x: u16, y: u16) -> Re
     Ok(())
 }
 
-/// Makes the runs of the row below from a z on full or void, the last one first.
+/// Makes the runs of the row below from a z on full or void, in descending order.
 fn write_runs_back(
     tape: &mut Tape,
     model: &Planes,
@@ -86,7 +86,7 @@ fn write_runs_back(
     }
 }
 
-/// How far the bots are from the ends of a run.
+/// Returns the distance of the bots from the ends of a run.
 fn way_to(tape: &Tape, run: RowRun) -> u16
     requires pair { IsPair tape.now }
     requires some { run.first < run.end }
@@ -96,7 +96,7 @@ fn way_to(tape: &Tape, run: RowRun) -> u16
     rear(tape).z.abs_diff(run.first) + front(tape).z.abs_diff(run.end - 1)
 }
 
-/// Whether the pair is nearer to the last run of the row of x and y than to the first.
+/// Returns whether the pair is nearer to the last run of the row of x and y than to the first.
 fn is_nearer_to_last(tape: &Tape, model: &Planes, x: u16, y: u16, first: RowRun) -> bool
     requires pair { IsPair tape.now }
     requires same { model.now.resolution ≡ tape.now.matrix.resolution }
@@ -107,7 +107,7 @@ fn is_nearer_to_last(tape: &Tape, model: &Planes, x: u16, y: u16, first: RowRun)
     way_to(tape, last_run(model, x, y, first)) < way_to(tape, first)
 }
 
-/// Makes the runs of the row below full or void, from the end at which the pair stands.
+/// Makes the runs of the row below full or void, starting at the nearer end.
 fn write_line(
     tape: &mut Tape,
     model: &Planes,
@@ -134,7 +134,7 @@ fn write_line(
     }
 }
 
-/// Goes to the row of x and y and makes its runs full or void.
+/// Moves to the row of x and y and makes its runs full or void.
 fn go_and_write(
     tape: &mut Tape,
     model: &Planes,
@@ -157,7 +157,7 @@ fn go_and_write(
     write_line(tape, model, full, x, y, first)
 }
 
-/// Makes the runs of the row of x and y full or void. Where there are none, the bots stay where they are.
+/// Makes the runs of the row of x and y full or void. If there are none, the bots stay.
 fn write_row(tape: &mut Tape, model: &Planes, full: bool, x: u16, y: u16) -> Result<(), Memory>
     requires ready { CanStamp tape.old model.now y }
     requires x { x < tape.old.matrix.resolution }

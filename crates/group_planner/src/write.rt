@@ -1,4 +1,4 @@
-//! How the pair writes: one voxel by one bot, or the voxels of a row by both.
+//! Writing by the pair: one voxel by one bot, or the voxels of a row by both.
 ghost use Rattle.std.specs.Prelude.{◌≡◌, ◌≢◌, ◌+◌, ◌-◌, ◌<◌, ◌≤◌, OnOk, pos, ◌-ℤ◌};
 ghost use Rattle.vox_geom.specs.declared.TheConstants.{MOST_R};
 ghost use Rattle.group_planner.specs.Pair.{IsPair, Sets, front as front_of, rear as rear_of};
@@ -11,7 +11,7 @@ use plan_tape::{Tape, signed_gap};
 use step_order::bots_act;
 use vox_geom::{Diff, Far, Memory, Near};
 
-/// The difference along z from one end of a run to the other.
+/// Returns the difference along z from one end of a run to the other.
 fn across(from: u16, to: u16) -> Far
     requires differ { from ≢ to }
     requires from { from ≤ MOST_R }
@@ -26,7 +26,7 @@ fn across(from: u16, to: u16) -> Far
     far
 }
 
-/// The command that fills, or else voids, the voxel below.
+/// Returns the command that fills or voids the voxel below.
 fn one_below(full: bool) -> Command
     ensures { result ≡ one_below_of full }
 {
@@ -37,7 +37,7 @@ fn one_below(full: bool) -> Command
     }
 }
 
-/// The command that fills, or else voids, the voxels below both bots and between.
+/// Returns the command that fills or voids the voxels below both bots and between.
 fn all_below(full: bool, from: u16, to: u16) -> Command
     requires differ { from ≢ to }
     requires from { from ≤ MOST_R }
@@ -52,7 +52,7 @@ fn all_below(full: bool, from: u16, to: u16) -> Command
     }
 }
 
-/// The rear bot makes the voxel below it full or void, and the front one waits.
+/// Makes the voxel below the rear bot full or void, while the front one waits.
 fn rear_writes(tape: &mut Tape, full: bool) -> Result<(), Memory>
     requires pair { IsPair tape.old }
     requires above { 1 ≤ (rear_of tape.old).y }
@@ -66,7 +66,7 @@ fn rear_writes(tape: &mut Tape, full: bool) -> Result<(), Memory>
     tape.act_all(&[one_below(full), Command::Wait])
 }
 
-/// The front bot makes the voxel below it full or void, and the rear one waits.
+/// Makes the voxel below the front bot full or void, while the rear one waits.
 fn front_writes(tape: &mut Tape, full: bool) -> Result<(), Memory>
     requires pair { IsPair tape.old }
     requires above { 1 ≤ (rear_of tape.old).y }
@@ -80,7 +80,7 @@ fn front_writes(tape: &mut Tape, full: bool) -> Result<(), Memory>
     tape.act_all(&[Command::Wait, one_below(full)])
 }
 
-/// Both bots make the voxels below them, and all between these, full or void.
+/// Makes the voxels below both bots, and all between these, full or void.
 fn both_write(tape: &mut Tape, full: bool) -> Result<(), Memory>
     requires pair { IsPair tape.old }
     requires above { 1 ≤ (rear_of tape.old).y }
@@ -95,7 +95,7 @@ fn both_write(tape: &mut Tape, full: bool) -> Result<(), Memory>
     tape.paint_all(&[all_below(full, first, last), all_below(full, last, first)])
 }
 
-/// Makes one voxel of the row below full or void, by the bot that need not pass the other.
+/// Makes one voxel of the row below full or void, with the bot that need not pass the other.
 pub fn write_voxel(tape: &mut Tape, z: u16, full: bool) -> Result<(), Memory>
     requires pair { IsPair tape.old }
     requires above { 1 ≤ (rear_of tape.old).y }
@@ -112,7 +112,7 @@ pub fn write_voxel(tape: &mut Tape, z: u16, full: bool) -> Result<(), Memory>
     }
 }
 
-/// Makes voxels of the row below full or void, by both bots at their ends.
+/// Makes voxels of the row below full or void, with both bots at their ends.
 pub fn write_voxels(tape: &mut Tape, first: u16, last: u16, full: bool) -> Result<(), Memory>
     requires pair { IsPair tape.old }
     requires above { 1 ≤ (rear_of tape.old).y }

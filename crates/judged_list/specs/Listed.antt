@@ -1,4 +1,4 @@
--- The list that is judged, and the voxel that it is to fill.
+-- The list to judge, and the voxel that it fills.
 use Rattle.std.specs.Prelude.{pos, List, [], ◌∷◌}
 use Rattle.vox_geom.specs.declared.coordinate.Coord.{Coord}
 use Rattle.nano_spec.specs.declared.commands.Command.{Command}

@@ -17,7 +17,7 @@ use trace_judge::judge;
 use vox_geom::{Coord, Diff, MOST_R, Memory, Near, Steps};
 use vox_planes::Planes;
 
-/// The verdict of commands that are to fill one voxel of an empty model, counted in a ledger of its own.
+/// Returns the verdict of commands that fill one voxel of an empty model, counted in a ledger of its own.
 fn judge_in<L: Ledger>(
     alloc: Global,
     r: u16,
@@ -39,7 +39,7 @@ fn judge_in<L: Ledger>(
     judge(alloc, source, &target, commands, &mut steps)
 }
 
-/// The definitions' verdict of the list, from the empty model of resolution 3 to the one with the voxel (1,0,1).
+/// Returns the definitions' verdict of the list, from the empty model of resolution 3 to the one with the voxel (1,0,1).
 pub fn judge_list(alloc: Global) -> Result<Verdict, Memory>
     ensures { IfOk result (λ v. VerdictOf (empty 3) (with_voxel (empty 3) full_voxel true) commands_of full_profile v) }
 {

@@ -1,4 +1,4 @@
-//! A program that has a list of commands judged, and prints the verdict: the smallest one around the proved machine.
+//! The smallest program around the proved machine: judges a list of commands and prints the verdict.
 #![tactic(auto)]
 
 mod listed;

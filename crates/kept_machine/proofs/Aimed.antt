@@ -1,4 +1,4 @@
--- How the differences from a target change with the voxels of a note.
+-- The number of differences from a target under the changes of a note.
 use Rattle.std.proofs.Common.{◌≡◌, ℕ, ◌+◌, ◌-◌, ◌*◌, ◌≤◌, refl, sym, ◌∙◌, ap, subst, inl, inr, arith, List, [], ◌∷◌, Bool, true, false, cond, not, ◌&&◌, ◌||◌, length, count_by, mul-le-mul}
 use Rattle.std.specs.Prelude.{filter, Option, Some, None}
 use Rattle.std.specs.List.{list_any}
@@ -33,7 +33,7 @@ use Rattle.kept_machine.proofs.Differences.{all_below, few_below}
 
 -- ---- counting
 
--- those of a list that pass a test and those that do not are all
+-- the elements of a list that pass a test and those that do not are all
 pub with_others : (p : Coord → Bool) (cells : List Coord)
     → count_by p cells + count_by (λ c. not (p c)) cells ≡ length cells
 with_others p [] = refl
@@ -66,7 +66,7 @@ module _ (a b c : Coord → Bool) (d e f : Coord → Bool) where
       let of_f : count_by f (x ∷ cells) ≡ one_if (f x) + count_by f cells = sum_by-cons (λ y. one_if (f y)) x cells in
       omega (arith, one, others, of_a, of_b, of_c, of_d, of_e, of_f)
 
--- a list whose elements differ and are in space is as good as all coordinates that it has
+-- a list of different coordinates in space counts like all its coordinates
 counted_among : (r : ℕ) (cells : List Coord) (p : Coord → Bool) → Apart cells
     → ((c : Coord) → In c cells → IsInSpace r c)
     → count_by p cells ≡ count_by (λ c. is_cell cells c && p c) (coordinates r)
@@ -135,7 +135,7 @@ module _ (m t : Matrix) (undo : Undo) (h : HaveChanged m undo) where
           ∙ one_voxel (is_cell undo.voided.items c) (is_cell undo.filled.items c) (is_full m c) (is_full t c)
           (λ e. (voided_is m undo h c (of_among undo.voided.items c e)).1) (λ e. (filled_is m undo h c (of_among undo.filled.items c e)).1)
 
--- no more voxels differ than there are
+-- a bound on the number of differing voxels
 pub few_differ : (m t : Matrix) → m.resolution ≤ 400 → difference_count m t ≤ 64000000
 few_differ m t small =
     let below = few_below m t (volume m.resolution) in
@@ -168,7 +168,7 @@ module _ (m : Matrix) (undo : Undo) (filled voided : List Coord) (filled_are : f
 
 -- ---- the count before and after
 
--- a count can be changed by the voxels of a note, and is then the other one
+-- a count can be updated by the voxels of a note, and is then the other one
 abbrev ComesTo : Matrix → KeptTarget → ℕ → ℕ → Type 0
 ComesTo new aim more less =
     (aim.differences + more ≤ 128000000) × (less ≤ aim.differences + more)

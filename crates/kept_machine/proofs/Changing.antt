@@ -1,4 +1,4 @@
--- How many voxels a step changes, by its note and by its commands.
+-- The number of voxels that a step changes, by its note and by its commands.
 use Rattle.std.proofs.Common.{◌≡◌, ◌≢◌, ℕ, zero, suc, ◌+◌, ◌*◌, ◌<◌, ◌≤◌, refl, sym, ◌∙◌, ap, inl, inr, ◌⊎◌, arith, List, [], ◌∷◌, ◌++◌, Bool, true, false, cond, not, ◌&&◌, ◌||◌, length, length-append, mul-le-mul}
 use Rattle.std.specs.Prelude.{filter, IsTrue, IsFalse}
 use Rattle.std.specs.List.{AllPairs, list_any}
@@ -106,7 +106,7 @@ module _ (m : Matrix) (undo : Undo) (h : HaveChanged m undo) where
       let joined = length-append undo.voided.items undo.filled.items in
       omega (arith, counted, same_length, no_longer, no_shorter, joined)
 
--- both lists together are as long as the voxels that changed, which are no more than there are
+-- both lists together are as long as the changed voxels, which are at most all voxels
 pub few_changed : (m : Matrix) (undo : Undo) (h : HaveChanged m undo) (n k : ℕ) → m.resolution ≤ 400
     → n ≡ length undo.filled.items → k ≡ length undo.voided.items → n + k ≤ 64000000
 few_changed m undo h n k small filled voided =

@@ -1,4 +1,4 @@
--- At how many coordinates two matrices differ, place by place.
+-- The number of coordinates at which two matrices differ, index by index.
 use Rattle.std.proofs.Common.{◌≡◌, ℕ, zero, suc, ◌+◌, ◌*◌, ◌%◌, ◌^◌, ◌<◌, ◌≤◌, refl, sym, ◌∙◌, ap, arith, zero-add, false, not, ◌&&◌, ◌||◌, ◌==◌, bit_xor}
 use Rattle.std.specs.Prelude.{count_ones, slice_index_or}
 use Rattle.std.specs.Int.{bit_at}
@@ -15,7 +15,7 @@ use Rattle.vox_planes.specs.Places.{voxel_at}
 use Rattle.vox_planes.proofs.Totals.{both_ways, counted, one_if, ones-total, total, total-add, total-same}
 use Rattle.kept_machine.specs.Calls.{difference_count}
 
--- how many of the first n places have voxels that differ
+-- the number of differing voxels below index n
 pub differing_below : Matrix → Matrix → ℕ → ℕ
 differing_below m t n = total n (λ k. one_if (differ_at m t (coordinate_at m.resolution k)))
 

@@ -1,4 +1,4 @@
--- Where calls have led to, as a run from the source: the commands so far, and where the machine stood before each step.
+-- The history of a machine as a run from the source: the commands so far, and the machine's instants before each step.
 use Rattle.std.proofs.Common.{◌≡◌, ℕ, zero, suc, ◌+◌, ◌-◌, ◌≤◌, refl, sym, ◌∙◌, ap, subst, arith, append_assoc, List, [], ◌∷◌, ◌++◌, length, length-append, take, drop, Option}
 use Rattle.std.specs.Prelude.{Some, None, true}
 use Rattle.nano_spec.specs.declared.commands.Command.{Command}
@@ -23,7 +23,7 @@ pub data Walked (from : State) : List Command → Instant → List Instant → T
       → length commands ≡ length q.state.bots → Next q.state commands (q.steps + 1) (Goes p.state)
       → p.steps ≡ q.steps + 1 → made ≡ before ++ commands → passed ≡ others ++ q ∷ [] → Walked from made p passed
 
--- what is known of a machine that calls have led to
+-- facts of a machine that calls have led to
 pub record Story (from : State) (k : Kept) : Type 0 where
   made : List Command
   passed : List Instant
@@ -98,7 +98,7 @@ module _ (source : Matrix) (profile : Profile) where
     trace = λ t e. absurd cc;
   })
 
-  -- where no step was made, no command was
+  -- if no step was made, no command was
   none_made : (made : List Command) (p : Instant) (passed : List Instant) → p.steps ≡ 0 → Walked from made p passed
       → made ≡ []
   none_made made p passed zero_steps (stands e f g) = e

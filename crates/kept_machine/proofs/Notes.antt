@@ -1,4 +1,4 @@
--- Notes one after another, and the instants that they tell.
+-- Notes one after another, and their instants.
 use Rattle.std.proofs.Common.{◌≡◌, ℕ, zero, suc, ◌-◌, ◌≤◌, refl, sym, ◌∙◌, ap, subst, arith, List, [], ◌∷◌, ◌++◌, length, take, drop}
 use Rattle.std.specs.Prelude.{None, Some, slice_get}
 use Rattle.std.proofs.lemmas.List.{drop_all}
@@ -74,7 +74,7 @@ none_last {X} (y ∷ z ∷ xs) h =
     more : z ∷ xs ≡ [] → ⊥
     more e = cc
 
--- ---- where none is kept
+-- ---- if none is kept
 
 empty_of : {X : Type 0} (xs : List X) → length xs ≤ 0 → xs ≡ []
 empty_of [] few = refl

@@ -1,4 +1,4 @@
--- How many voxels the only bot changes that fills or voids one.
+-- The number of voxels that the only bot changes when it fills or voids one.
 use Rattle.std.proofs.Common.{◌≡◌, ℕ, refl, sym, ◌∙◌, ap, subst, inl, inr, ◌⊎◌, List, [], ◌∷◌, Bool, true, false, cond, not, ◌&&◌, ◌||◌, length}
 use Rattle.std.proofs.lemmas.List.Sums.{length-filter}
 use Rattle.vox_geom.specs.declared.coordinate.Coord.{Coord}
@@ -60,7 +60,7 @@ module _ (m : Matrix) (c : Coord) (full : Bool) where
 
 -- ---- the step of the only bot
 
--- what the step leaves
+-- the result of the step
 record IsOneSet (old new : Matrix) (c : Coord) : Type 0 where
   full : Bool
   within : IsInSpace old.resolution c

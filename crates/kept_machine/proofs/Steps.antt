@@ -1,4 +1,4 @@
--- What is seen of a machine and its notes after a step, and after a step that is taken back.
+-- The view of a machine and its notes after a step, and after an undo.
 use Rattle.std.proofs.Common.{◌≡◌, ℕ, ◌-◌, refl, sym, ◌∙◌, ap, subst, List, [], ◌∷◌, ◌++◌, length, take, Option}
 use Rattle.std.specs.Prelude.{Ok, Err, Some, false}
 use Rattle.circular_buffer.specs.Buffer.{Buffer, buffer, keep_last, last_item}
@@ -82,7 +82,7 @@ module _ (v w : Situation) (notes : Buffer Undo) (commands : List Command) where
   refused_so trace fault.Memory began ended can stepped = looks_the_same v w notes stepped.stays.0 stepped.stays.1 trace
   refused_so trace fault.Spent began ended can stepped = looks_the_same v w notes stepped.stays.0 stepped.stays.1 trace
 
-  -- what is answered to a step that is made and then taken back
+  -- the answer to a step that is made and then undone
   pub would_make : (trace : Option (List Command)) (ok : StepOk) (made : StepDone) (began ended : ℕ)
       → CanStep v commands → Tells v.state w.state made → Stepped v w commands (Ok ok) began ended
       → WouldAnswer (kept_of v notes trace) commands (Ok made)
@@ -102,7 +102,7 @@ cannot_so k v notes trace commands no_step.Count same h = (same, h.0, h.1)
 cannot_so k v notes trace commands no_step.Long same h = (same, h.0, h.1, h.2)
 cannot_so k v notes trace commands no_step.Memory same h = absurd h
 
--- ---- the last step is taken back
+-- ---- the last step is undone
 
 module _ (v w : Situation) (notes rest : Buffer Undo) (undo : Undo) (kept : IsNoted v notes) (last : last_item notes.items ≡ Some undo) where
   split : notes.items ≡ take (length notes.items - 1) notes.items ++ undo ∷ []

@@ -8,7 +8,7 @@ take_front : (xs ys : List Command) → take (length xs) (xs ++ ys) ≡ xs
 take_front [] ys = refl
 take_front (x ∷ xs) ys = ap (λ (zs : List Command). x ∷ zs) (take_front xs ys)
 
--- what was added is taken away
+-- the added commands are removed
 pub as_before : (trace : Option (List Command)) (commands : List Command)
     → trace_without (trace_with trace commands) (length commands) ≡ trace
 as_before None commands = refl

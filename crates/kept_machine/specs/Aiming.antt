@@ -1,4 +1,4 @@
--- A machine's target, and at how many coordinates its matrix differs from it.
+-- A machine's target, and the number of its differences.
 use Rattle.std.specs.Prelude.{◌≡◌, ℕ, ◌+◌, not, count_by, Option, Some, None, option_map, ⊤}
 use Rattle.nano_spec.specs.Matrix.{Matrix, is_full}
 use Rattle.step_machine.specs.declared.undo.Undo.{Undo}
@@ -15,7 +15,7 @@ IsTargetCounted m None = ⊤
 IsTargetCounted m (Some aim) =
     (m.resolution ≡ aim.target.resolution) × (aim.differences ≡ difference_count m aim.target)
 
--- how many of the voxels of a note are now as in the target, and how many are not
+-- the number of a note's voxels that are now as in the target, and of those that are not
 abbrev pub became_right : Matrix → Undo → ℕ
 became_right target undo =
     count_by (is_full target) undo.filled.items + count_by (λ c. not (is_full target c)) undo.voided.items

@@ -1,4 +1,4 @@
--- What the calls of a kept machine answer and do.
+-- Answers and effects of the calls of a kept machine.
 use Rattle.std.specs.Prelude.{◌≡◌, ◌≢◌, ℕ, ◌+◌, ◌≤◌, ◌⊎◌, Bool, true, false, List, [], ◌∷◌, ◌++◌, length, count_by, Option, Some, Result, Ok, Err, ⊤}
 use Rattle.circular_buffer.specs.Buffer.{keep_last}
 use Rattle.vox_geom.specs.declared.coordinate.Coord.{Coord}
@@ -22,7 +22,7 @@ use Rattle.kept_machine.specs.declared.fault.NoStep.{NoStep}
 use Rattle.kept_machine.specs.declared.fault.NoStep.TheVariants as no_step
 use Rattle.kept_machine.specs.Kept.{Kept, kept_opening, trace_with, present, trace_without}
 
--- a machine is started over a legal source, or the source is refused as the definition refuses it
+-- a machine starts over a legal source, or the source is refused as the definition refuses it
 abbrev pub Opens : Matrix → Profile → ℕ → Result Kept ModelFault → Type 0
 Opens source profile room (Ok k) = IsLegal source × (k ≡ kept_opening source profile room)
 Opens source profile room (Err fault) = Judges source (Err fault)
@@ -33,20 +33,20 @@ OpensFile bytes profile room answer =
     ((m : Matrix) × (model bytes ≡ Ok m) × Opens m profile room answer)
     ⊎ ((fault : ModelFault) × (answer ≡ Err fault) × ReadsModel (model bytes) (Err fault))
 
--- at how many coordinates two matrices of one resolution differ
+-- the number of coordinates at which two matrices of one resolution differ
 abbrev pub difference_count : Matrix → Matrix → ℕ
 difference_count m target = count_by (differ_at m target) (all_of m)
 
--- the outcome of a step from one state to another: the energy so far, the harmonics after it, the number of active bots,
--- and how many voxels became full or void
+-- the outcome of a step from one state to another: the energy so far, the harmonics after it, the number of active bots, and
+-- the number of voxels that became full or void
 pub record Tells (old new : State) (made : StepDone) : Type 0 where
   pub energy : made.energy ≡ new.energy
   pub harmonics : made.harmonics ≡ new.harmonics
   pub active : made.active ≡ length new.bots
   pub changed : made.changed ≡ difference_count old.matrix new.matrix
 
--- a step was made of one command for each bot: it leads to the definition's state, and can be taken back as long as it
--- is among the last that are kept
+-- a step was made of one command for each bot: it leads to the definition's state, and can be undone as long as it is among the
+-- last that are kept
 pub record IsMade (old : Kept) (commands : List Command) (new : Kept) (made : StepDone) : Type 0 where
   pub some : 1 ≤ length old.state.bots
   pub each : length commands ≡ length old.state.bots
@@ -59,7 +59,7 @@ pub record IsMade (old : Kept) (commands : List Command) (new : Kept) (made : St
   pub target : new.target ≡ old.target
   pub tells : Tells old.state new.state made
 
--- what a step answers and does: one that is not made leaves all as it was
+-- answer and effect of a step: one that is not made leaves all as it was
 abbrev pub Tries : Kept → List Command → Kept → Result StepDone NoStep → Type 0
 Tries old commands new (Ok made) = IsMade old commands new made
 Tries old commands new (Err (no_step.Broken b)) =
@@ -71,7 +71,7 @@ Tries old commands new (Err no_step.Long) =
     (new ≡ old) × (1 ≤ length old.state.bots) × (length commands ≡ length old.state.bots) × (1073741824 ≤ old.steps)
 Tries old commands new (Err no_step.Memory) = new ≡ old
 
--- what a step would answer: the same as one that is made, whichever machine that would leave
+-- the answer that a step would have: that of the made step, whatever machine it would leave
 abbrev pub WouldAnswer : Kept → List Command → Result StepDone NoStep → Type 0
 WouldAnswer k commands answer = (next : Kept) × Tries k commands next answer
 
@@ -81,25 +81,25 @@ no_step_of (fault.Broken b) = no_step.Broken b
 no_step_of fault.Memory = no_step.Memory
 no_step_of fault.Spent = no_step.Memory
 
--- the last step is taken back: the machine is as it was before it, the steps before can be taken back next, and the
--- commands of the bots that are active again are no longer in the trace
+-- the last step is undone: the machine is as it was before it, the steps before can be undone next, and the commands of the
+-- bots that are active again are no longer in the trace
 pub record IsTakenBack (old new : Kept) : Type 0 where
   pub past : old.past ≡ new.past ++ present new ∷ []
   pub room : new.room ≡ old.room
   pub trace : new.trace ≡ trace_without old.trace (length new.state.bots)
   pub target : new.target ≡ old.target
 
--- what an undo answers and does: it is made whenever a step can be taken back
+-- answer and effect of an undo: it is made whenever a step can be undone
 abbrev pub Undoes : Kept → Kept → Bool → Type 0
 Undoes old new true = IsTakenBack old new
 Undoes old new false = (new ≡ old) × (old.past ≡ [])
 
--- the commands are kept from here on, unless steps were made before
+-- the machine keeps the commands from here on, unless steps were made before
 abbrev pub BeginsTrace : Kept → Kept → Bool → Type 0
 BeginsTrace old new true = (old.steps ≡ 0) × (new ≡ record old { trace = Some [] })
 BeginsTrace old new false = (1 ≤ old.steps) × (new ≡ old)
 
--- the level that the definition gives, or that the coordinate is out of space
+-- the level by the definition, or that the coordinate is out of space
 abbrev pub TellsLevel : Matrix → Coord → Result (Option ℕ) NoLevel → Type 0
 TellsLevel m c (Ok level) = IsInSpace m.resolution c × Level m c level
 TellsLevel m c (Err no_level.Outside) = IsInSpace m.resolution c → ⊥

@@ -1,4 +1,4 @@
--- What is seen of a machine that is kept, and what its parts keep.
+-- The view of a kept machine in contracts, and its invariant.
 use Rattle.std.specs.Prelude.{◌≡◌, ◌≢◌, ℕ, ◌-◌, ◌<◌, ◌≤◌, Bool, cond, List, [], ◌∷◌, ◌++◌, length, take, Option, Some, None, option_map, Result, Ok, Err}
 use Rattle.circular_buffer.specs.Buffer.{Buffer}
 use Rattle.nano_spec.specs.declared.commands.Command.{Command}
@@ -13,13 +13,13 @@ use Rattle.kept_machine.specs.declared.fault.NoStep.{NoStep}
 use Rattle.kept_machine.specs.declared.fault.NoStep.TheVariants as no_step
 use Rattle.kept_machine.specs.declared.trace.Trace.{Trace}
 
--- a state, and how many steps were made until then
+-- a state, and the number of steps made until then
 pub record Instant : Type 0 where
   pub state : State
   pub steps : ℕ
 
--- the state, the number of steps made, the instants before each of the last steps, the last one last, how many of these
--- are kept, the commands of the steps that were made and not taken back, if they are kept, and the target, if there is one
+-- the state, the number of steps made, the instants before each of the last steps (the last one last), and their maximum; the
+-- commands of the steps that were made and not undone, if they are kept; and the target, if there is one
 pub record Kept : Type 0 where
   pub state : State
   pub steps : ℕ
@@ -51,16 +51,16 @@ trace_without trace count = option_map (λ made. take (length made - count) made
 abbrev pub trace_of : Trace → Option (List Command)
 trace_of t = cond t.is_kept (Some t.commands.items) None
 
--- a trace after a step that was tried
+-- a trace after an attempted step
 abbrev pub tried : Option (List Command) → List Command → Result StepDone NoStep → Option (List Command)
 tried trace commands (Ok ok) = trace_with trace commands
 tried trace commands (Err fault) = trace
 
--- and after an undo, which took a step back or did not; `active` bots are active then
+-- and after an undo, which may have undone a step; `active` bots are active then
 abbrev pub undone : Option (List Command) → ℕ → Bool → Option (List Command)
 undone trace active is_undone = cond is_undone (trace_without trace active) trace
 
--- the present instant of a machine of the system, spent or not
+-- the present instant of a machine of the system, poisoned or not
 abbrev pub instant_of : Situation → Instant
 instant_of m = record { state = m.state; steps = m.steps }
 
@@ -78,7 +78,7 @@ abbrev pub instants_of : Instant → List Undo → List Instant
 instants_of p [] = []
 instants_of p (undo ∷ notes) = first_instant p (undo ∷ notes) ∷ instants_of p notes
 
--- what is seen of a machine, its notes and its trace, without a target
+-- the view of a machine, its notes and its trace, without a target
 abbrev pub kept_of : Situation → Buffer Undo → Option (List Command) → Kept
 kept_of m notes trace =
     record {
@@ -90,12 +90,12 @@ kept_of m notes trace =
       target = None;
     }
 
--- the steps of the notes can be taken back, one after another
+-- the steps of the notes can be undone, one after another
 abbrev pub CanBeTakenBack : Instant → List Undo → Type 0
 CanBeTakenBack p [] = Unit {0}
 CanBeTakenBack p (undo ∷ notes) = MayUndo (first_instant p notes).state undo × CanBeTakenBack p notes
 
--- what a machine and its notes keep
+-- the invariant of a machine and its notes
 pub record IsNoted (m : Situation) (notes : Buffer Undo) : Type 0 where
   pub well_formed : IsWellFormed m.state
   pub back : CanBeTakenBack (instant_of m) notes.items
@@ -106,7 +106,7 @@ pub record CanStep (m : Situation) (commands : List Command) : Type 0 where
   pub each : length commands ≡ length m.state.bots
   pub few : m.steps < 1073741824
 
--- why they cannot
+-- the reason why they cannot
 abbrev pub CannotStep : Situation → List Command → NoStep → Type 0
 CannotStep m commands (no_step.Broken b) = ⊥
 CannotStep m commands no_step.Ended = m.state.bots ≡ []

@@ -1,5 +1,4 @@
-//! A machine's target, and at how many coordinates its matrix differs from it. Each step and each undo updates the count by the
-//! voxels that it changes.
+//! A machine's target, and the number of its differences. Each step and each undo updates the count by the voxels that it changes.
 ghost use Rattle.std.specs.Prelude.{◌≡◌, ◌+◌, ◌≤◌, All, length, count_by, not, IfOk, Some};
 ghost use Rattle.vox_geom.specs.Space.{IsInSpace};
 ghost use Rattle.nano_spec.specs.Matrix.{is_full};
@@ -12,14 +11,14 @@ use step_machine::Undo;
 use vox_geom::{Coord, Memory, Steps};
 use vox_planes::Planes;
 
-/// A target, and at how many coordinates the matrix differs from it.
+/// A target, and the number of coordinates at which the matrix differs from it.
 #[derive(Drop)]
 pub struct KeptTarget {
     pub target: Planes,
     pub differences: u32,
 }
 
-/// How many voxels that a step changed are now as in the target, and how many are not.
+/// The number of changed voxels of a step that are now as in the target, and of those that are not.
 #[derive(Clone, Copy)]
 pub struct ComparedVoxels {
     pub right: u32,
@@ -84,7 +83,7 @@ pub(crate) fn count_step<L: Ledger>(
     }
 }
 
-/// Updates the count of differences for taking back the step of a note.
+/// Updates the count of differences for undoing the step of a note.
 pub(crate) fn count_undo<L: Ledger>(
     aim: &mut Option<KeptTarget>,
     matrix: &Planes,

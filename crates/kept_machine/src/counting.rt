@@ -1,4 +1,4 @@
-//! How many voxels of two matrices differ. Touches are not reported.
+//! The number of voxels in which two matrices differ. Touches are not reported.
 ghost use Rattle.std.specs.Prelude.{◌≡◌, ◌≤◌};
 ghost use Rattle.vox_geom.specs.Counting.{IsBlankOf};
 ghost use Rattle.nano_spec.specs.Model.{volume as volume_of};
@@ -9,7 +9,7 @@ use std::sync::ledger::{Blank, Ledger};
 use vox_geom::Steps;
 use vox_planes::Planes;
 
-/// How many voxels a matrix has.
+/// Returns the number of voxels of a matrix.
 fn volume(matrix: &Planes) -> u32
     ensures value { result ≡ volume_of matrix.now.resolution }
     ensures most { result ≤ 64000000 }

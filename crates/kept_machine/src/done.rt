@@ -1,4 +1,4 @@
-//! The outcome of a step that was made.
+//! The outcome of an accepted step.
 ghost use Rattle.std.specs.Prelude.{◌≡◌, length};
 ghost use Rattle.std.specs.List.{list_any};
 ghost use Rattle.kept_machine.specs.Calls.{difference_count};
@@ -9,8 +9,8 @@ use nano_spec::{Command, Harmonics};
 use step_machine::{Machine, Undo};
 use vox_planes::Planes;
 
-/// The outcome of a step that was made: the energy so far, the harmonics after it, the number of active bots, and how many
-/// voxels became full or void.
+/// The outcome of an accepted step: the energy so far, the harmonics after it, the number of active bots, and the number of voxels
+/// that became full or void.
 #[derive(Clone, Copy, PartialEq, Eq, Debug)]
 pub struct StepDone {
     pub energy: i64,
@@ -19,7 +19,7 @@ pub struct StepDone {
     pub changed: u32,
 }
 
-/// The outcome of a step that changed `changed` voxels, after which the machine is this one.
+/// Returns the outcome of a step that changed `changed` voxels and left this machine.
 pub(crate) fn done(machine: &Machine, changed: u32) -> StepDone
     ensures energy { result.energy ≡ machine.now.state.energy }
     ensures harmonics { result.harmonics ≡ machine.now.state.harmonics }
@@ -34,7 +34,7 @@ pub(crate) fn done(machine: &Machine, changed: u32) -> StepDone
     }
 }
 
-/// Whether a command fills or voids.
+/// Returns whether a command fills or voids.
 fn edits(command: &Command) -> bool
     ensures { result ≡ is_edit command.now }
 {
@@ -44,7 +44,7 @@ fn edits(command: &Command) -> bool
     }
 }
 
-/// Whether some command fills or voids. A step without such a command changes no voxel.
+/// Returns whether some command fills or voids. A step without such a command changes no voxel.
 pub(crate) fn some_edit(commands: &[Command]) -> bool
     ensures { result ≡ list_any is_edit commands.now }
 {

@@ -8,7 +8,7 @@ use nano_spec::Broken;
 use step_machine::StepFault;
 use vox_geom::Memory;
 
-/// Why a step was not made.
+/// The reason why the machine did not make a step.
 #[derive(Clone, Copy, PartialEq, Eq, Debug)]
 pub enum NoStep {
     /// The commands break this rule.
@@ -17,14 +17,14 @@ pub enum NoStep {
     Ended,
     /// There are more or fewer commands than active bots.
     Count,
-    /// The machine has made its 2^30 steps.
+    /// The machine has made 2^30 steps, and makes no more.
     Long,
     /// Out of memory.
     Memory,
 }
 
 impl NoStep {
-    /// The error for a step that the machine did not make.
+    /// Returns the error for a step that the machine did not make.
     pub(crate) fn of(fault: StepFault) -> NoStep
         ensures { result ≡ no_step_of fault }
     {
@@ -44,10 +44,10 @@ impl From<Memory> for NoStep {
     }
 }
 
-/// Why a level was not returned.
+/// The reason why the machine did not return a level.
 #[derive(Clone, Copy, PartialEq, Eq, Debug)]
 pub enum NoLevel {
-    /// The coordinate is out of space.
+    /// The coordinate is outside the matrix.
     Outside,
     /// Out of memory.
     Memory,

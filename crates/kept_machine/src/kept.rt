@@ -1,4 +1,4 @@
-//! The machine that is kept.
+//! The kept machine.
 ghost use Rattle.std.specs.Prelude.{◌≡◌, ◌≤◌, [], length, count_by, option_map, IfOk, Some};
 ghost use Rattle.nano_spec.specs.Matrix.{all_of, empty as empty_of, is_full};
 ghost use Rattle.nano_spec.specs.Verdict.{first_difference};
@@ -21,8 +21,9 @@ use step_machine::{Machine, Undo};
 use vox_geom::{Coord, Memory};
 use vox_planes::Planes;
 
-/// A machine between two steps, with notes of its last steps. Contracts see its state, the number of steps made, the states
-/// before the steps that can be taken back, the commands of all its steps, if they are kept, and its target, if it has one.
+/// A machine between two steps, with notes of its last steps. Contracts see its state, the number of steps made, and the states
+/// before the steps that can be undone. They also see the commands of all its steps, if they are kept, and its target, if it has
+/// one.
 #[derive(Drop)]
 pub struct KeptMachine {
     alloc: Global,
@@ -44,7 +45,7 @@ impl Model for KeptMachine {
 }
 
 impl KeptMachine {
-    /// Starts a machine over a legal source. Its last `room` steps can be taken back.
+    /// Starts a machine over a legal source. It can undo its last `room` steps.
     pub fn start(
         alloc: Global,
         source: Planes,
@@ -79,7 +80,7 @@ impl KeptMachine {
         KeptMachine::start(alloc, source, profile, room)
     }
 
-    /// Copies the machine: same state, number of steps, trace and target. No step can be taken back in the copy.
+    /// Copies the machine: same state, number of steps, trace and target. The copy can undo no step.
     pub fn copy(&self) -> Result<KeptMachine, Memory>
         ensures { IfOk result (λ k. k ≡ record self.now { past = [] }) }
     {
@@ -111,8 +112,8 @@ impl KeptMachine {
         true
     }
 
-    /// Sets the target and returns at how many coordinates the matrix differs from it. From here on each step and each undo
-    /// updates that number by the voxels that it changes.
+    /// Sets the target and returns the number of coordinates at which the matrix differs from it. From here on each step and each
+    /// undo updates that number by the voxels that it changes.
     pub fn aim(&mut self, target: Planes) -> u32
         requires { self.old.state.matrix.resolution ≡ target.resolution }
         ensures target { self.new ≡ record self.old { target = Some target } }
@@ -149,8 +150,8 @@ impl KeptMachine {
         judge_step::<Brand>(self.alloc, &mut self.machine, commands, Blank::new(1))
     }
 
-    /// Takes the last step back, if one is noted, and returns whether one was. If allocation fails, the step is back all the
-    /// same, and the next call takes as long as a start.
+    /// Undoes the last step, if one is noted, and returns whether it did. If allocation fails, the step is undone all the same, and
+    /// the next call takes as long as a start.
     pub fn undo(&mut self) -> bool
         ensures { Undoes self.old self.new result }
     {
@@ -163,7 +164,7 @@ impl KeptMachine {
         )
     }
 
-    /// The level of a voxel, or `None` if it is void or not grounded.
+    /// Returns the level of a voxel, or `None` if it is void or not grounded.
     pub fn level(&mut self, c: Coord) -> Result<Option<u32>, NoLevel>
         ensures stays { self.new ≡ self.old }
         ensures told { TellsLevel self.old.state.matrix c result }
@@ -171,21 +172,21 @@ impl KeptMachine {
         find_level::<Brand>(self.alloc, &mut self.machine, c, Blank::new(1))
     }
 
-    /// Whether the voxel at a coordinate is full. No voxel outside the matrix is.
+    /// Returns whether the voxel at a coordinate is full. No voxel outside the matrix is.
     pub fn full(&self, c: Coord) -> bool
         ensures { result ≡ is_full self.now.state.matrix c }
     {
         is_full_at::<Brand>(self.machine.matrix(), c, Blank::new(1))
     }
 
-    /// How many voxels are full.
+    /// Returns the number of full voxels.
     pub fn count(&self) -> u32
         ensures { result ≡ count_by (is_full self.now.state.matrix) (all_of self.now.state.matrix) }
     {
         count_full::<Brand>(self.machine.matrix(), Blank::new(1))
     }
 
-    /// The least coordinate at which the matrix and a target of its resolution differ, or `None` if they are equal.
+    /// Returns the least coordinate at which the matrix and a target of its resolution differ, or `None` if they are equal.
     pub fn difference(&self, target: &Planes) -> Option<Coord>
         requires { self.now.state.matrix.resolution ≡ target.now.resolution }
         ensures { result ≡ first_difference self.now.state.matrix target.now }
@@ -193,7 +194,7 @@ impl KeptMachine {
         least_difference::<Brand>(self.machine.matrix(), target, Blank::new(1))
     }
 
-    /// At how many coordinates the matrix and a target of its resolution differ.
+    /// Returns the number of coordinates at which the matrix and a target of its resolution differ.
     pub fn differences(&self, target: &Planes) -> u32
         requires { self.now.state.matrix.resolution ≡ target.now.resolution }
         ensures { result ≡ difference_count self.now.state.matrix target.now }
@@ -201,7 +202,7 @@ impl KeptMachine {
         count_differences::<Brand>(self.machine.matrix(), target, Blank::new(1))
     }
 
-    /// At how many coordinates the matrix differs from the target, or `None` without one. Nothing is counted anew.
+    /// Returns the number of coordinates at which the matrix differs from the target, or `None` without one. Does not recount.
     pub fn remaining(&self) -> Option<u32>
         ensures { result ≡ option_map (difference_count self.now.state.matrix) self.now.target }
     {
@@ -211,63 +212,63 @@ impl KeptMachine {
         }
     }
 
-    /// The matrix.
+    /// Returns the matrix.
     pub fn matrix(&self) -> &Planes
         ensures { result.now ≡ self.now.state.matrix }
     {
         self.machine.matrix()
     }
 
-    /// The active bots, in rising order of their bids.
+    /// Returns the active bots, in rising order of their bids.
     pub fn bots(&self) -> &[Bot]
         ensures { result.now ≡ self.now.state.bots }
     {
         self.machine.crew().bots()
     }
 
-    /// How many bots are active.
+    /// Returns the number of active bots.
     pub fn active(&self) -> u8
         ensures { result ≡ length self.now.state.bots }
     {
         self.machine.active()
     }
 
-    /// The harmonics.
+    /// Returns the harmonics.
     pub fn harmonics(&self) -> Harmonics
         ensures { result ≡ self.now.state.harmonics }
     {
         self.machine.harmonics()
     }
 
-    /// The energy spent so far.
+    /// Returns the energy spent so far.
     pub fn energy(&self) -> i64
         ensures { result ≡ self.now.state.energy }
     {
         self.machine.energy()
     }
 
-    /// The profile.
+    /// Returns the profile.
     pub fn profile(&self) -> Profile
         ensures { result ≡ self.now.state.profile }
     {
         self.machine.profile()
     }
 
-    /// How many steps were made.
+    /// Returns the number of steps made.
     pub fn steps_done(&self) -> u32
         ensures { result ≡ self.now.steps }
     {
         self.machine.steps_done()
     }
 
-    /// The commands of the steps that were made and not taken back, if they are kept.
+    /// Returns the commands of the steps that were made and not undone, if they are kept.
     pub fn trace(&self) -> Option<&[Command]>
         ensures { option_map (λ commands. commands.now) result ≡ self.now.trace }
     {
         self.trace.commands()
     }
 
-    /// How many steps can be taken back.
+    /// Returns the number of steps that can be undone.
     pub fn steps_noted(&self) -> usize
         ensures { result ≡ length self.now.past }
     {

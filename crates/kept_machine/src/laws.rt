@@ -1,4 +1,4 @@
-//! Laws of machines that are kept, each the contract of a function that does nothing.
+//! Laws of kept machines, each the contract of a function without effect.
 ghost use Rattle.std.specs.Prelude.{◌≡◌, List, Some};
 ghost use Rattle.nano_spec.specs.declared.commands.Command.{Command};
 ghost use Rattle.nano_spec.specs.declared.system.Profile.{Profile};

@@ -1,5 +1,5 @@
-//! A machine that its owner keeps between steps: the commands of each step are given one step at a time, the last steps can be
-//! taken back, and a call that is refused leaves the machine as it was.
+//! A machine that its owner keeps between steps: it makes steps of given commands and undoes the last ones, and a refused call
+//! leaves it as it was.
 #![tactic(auto)]
 
 mod aim;

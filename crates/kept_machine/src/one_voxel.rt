@@ -7,7 +7,7 @@ use nano_spec::Command;
 use step_machine::Machine;
 use vox_geom::Coord;
 
-/// The voxel that the only bot fills or voids, if its command does that.
+/// Returns the voxel that the only bot fills or voids, if its command does that.
 pub(crate) fn only_voxel(machine: &Machine, commands: &[Command]) -> Option<Coord>
     ensures { IfSome result (λ c. IsOnlyVoxel machine.now.state commands.now c) }
 {
@@ -28,7 +28,7 @@ pub(crate) fn only_voxel(machine: &Machine, commands: &[Command]) -> Option<Coor
     }
 }
 
-/// 1 if the voxel changed, else 0.
+/// Returns 1 if the voxel changed, 0 otherwise.
 pub(crate) fn changed_voxels(before: bool, after: bool) -> u32
     ensures { result ≡ one_if_apart before after }
 {

@@ -16,14 +16,14 @@ use step_machine::Machine;
 use vox_geom::{Coord, Steps};
 use vox_planes::Planes;
 
-/// Whether a coordinate is in space.
+/// Returns whether a coordinate is in space.
 pub(crate) fn is_in_space(c: Coord, r: u16) -> bool
     ensures { MatchBool result (IsInSpace r c) (IsInSpace r c → ⊥) }
 {
     c.x < r && c.y < r && c.z < r
 }
 
-/// Whether the voxel at a coordinate is full.
+/// Returns whether the voxel at a coordinate is full.
 pub(crate) fn is_full_at<L: Ledger>(matrix: &Planes, c: Coord, blank: Blank) -> bool
     requires blank { IsBlankOf blank L.name L.parts }
     ensures { result ≡ is_full matrix.now c }
@@ -35,7 +35,7 @@ pub(crate) fn is_full_at<L: Ledger>(matrix: &Planes, c: Coord, blank: Blank) -> 
     matrix.full_at(c, &mut steps)
 }
 
-/// How many voxels are full.
+/// Returns the number of full voxels.
 pub(crate) fn count_full<L: Ledger>(matrix: &Planes, blank: Blank) -> u32
     requires blank { IsBlankOf blank L.name L.parts }
     ensures { result ≡ count_by (is_full matrix.now) (all_of matrix.now) }
@@ -44,7 +44,7 @@ pub(crate) fn count_full<L: Ledger>(matrix: &Planes, blank: Blank) -> u32
     matrix.count(&mut steps)
 }
 
-/// The least coordinate at which two matrices differ.
+/// Returns the least coordinate at which two matrices differ.
 pub(crate) fn least_difference<L: Ledger>(
     matrix: &Planes,
     target: &Planes,
@@ -58,7 +58,7 @@ pub(crate) fn least_difference<L: Ledger>(
     matrix.equal(target, &mut steps)
 }
 
-/// The level of the voxel at a coordinate.
+/// Returns the level of the voxel at a coordinate.
 pub(crate) fn find_level<L: Ledger>(
     alloc: Global,
     machine: &mut Machine,

@@ -1,4 +1,4 @@
-//! Starting a machine, making steps and taking them back. Touches are not reported.
+//! Starting a machine, making and undoing steps. Touches are not reported.
 ghost use Rattle.std.specs.List.{list_any};
 ghost use Rattle.std.specs.Prelude.{◌≡◌, ◌≤◌, [], List, Option, false, length, IfOk, IfErr, Err};
 ghost use Rattle.vox_geom.specs.Counting.{IsBlankOf};
@@ -30,7 +30,7 @@ use step_machine::{Machine, Undo};
 use vox_geom::{Coord, Memory, Steps};
 use vox_planes::Planes;
 
-/// How many steps a machine makes.
+/// The most steps that a machine makes.
 const MOST_STEPS: u32 = 1_073_741_824;
 
 /// Starts a machine over a legal source, with room for the notes of `room` steps.
@@ -79,7 +79,7 @@ pub(crate) fn copy_of<L: Ledger>(
     }
 }
 
-/// Rebuilds a spent machine in its state. If memory runs out, it does not change.
+/// Rebuilds a poisoned machine in its state. If memory runs out, it does not change.
 pub(crate) fn stand_again<L: Ledger>(
     alloc: Global,
     machine: &mut Machine,
@@ -97,7 +97,7 @@ pub(crate) fn stand_again<L: Ledger>(
     Ok(())
 }
 
-/// Checks that the step can be judged: some bot is active, each has one command, and the limit of steps is not reached.
+/// Returns an error if the step cannot be judged: no bot is active, a command is missing or extra, or the step limit is reached.
 fn ready(machine: &Machine, commands: &[Command]) -> Result<(), NoStep>
     ensures can { IfOk result (λ _. CanStep machine.now commands.now) }
     ensures cannot { IfErr result (λ fault. CannotStep machine.now commands.now fault) }
@@ -281,7 +281,7 @@ pub(crate) fn step_and_keep<L: Ledger>(
     }
 }
 
-/// Makes a step that can be judged and takes it back.
+/// Makes a step that can be judged and undoes it.
 fn step_and_restore<L: Ledger>(
     machine: &mut Machine,
     commands: &[Command],
@@ -300,7 +300,7 @@ fn step_and_restore<L: Ledger>(
         Ok((_, undo)) => {
             let changed = count_changed(machine.matrix(), &undo);
             let made = done(machine, changed);
-            // The step is taken back whatever this returns: the next call rebuilds a spent machine.
+            // The step is undone whatever this returns: the next call rebuilds a poisoned machine.
             let _ = machine.restore(&undo, steps);
             Ok(made)
         }
@@ -328,7 +328,7 @@ pub(crate) fn judge_step<L: Ledger>(
     step_and_restore(machine, commands, &mut steps)
 }
 
-/// Takes the step of the last note back and returns true, or returns false if there is no note.
+/// Undoes the step of the last note and returns true, or returns false if there is no note.
 fn take_back<L: Ledger>(
     machine: &mut Machine,
     notes: &mut HeapCircularBuffer<Undo>,
@@ -354,8 +354,7 @@ fn take_back<L: Ledger>(
     true
 }
 
-/// Takes the step of the last note back, removes its commands from the trace and returns true, or returns false if there is no
-/// note.
+/// Undoes the step of the last note, removes its commands from the trace and returns true, or returns false if there is no note.
 pub(crate) fn undo_and_shorten<L: Ledger>(
     machine: &mut Machine,
     notes: &mut HeapCircularBuffer<Undo>,

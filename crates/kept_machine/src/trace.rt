@@ -6,7 +6,7 @@ use nano_spec::Command;
 use std::alloc::Global;
 use vox_geom::Memory;
 
-/// The commands of all steps that were made and not taken back, if they are kept.
+/// The commands of all steps that were made and not undone, if they are kept.
 #[derive(Drop)]
 pub struct Trace {
     pub is_kept: bool,
@@ -14,7 +14,7 @@ pub struct Trace {
 }
 
 impl Trace {
-    /// No command is kept.
+    /// Returns a trace that keeps no command.
     pub fn none(alloc: Global) -> Trace
         ensures { trace_of result ≡ None }
     {
@@ -24,7 +24,7 @@ impl Trace {
         }
     }
 
-    /// The trace before the first command.
+    /// Returns the trace before the first command.
     pub fn begin(alloc: Global) -> Trace
         ensures { trace_of result ≡ Some [] }
     {
@@ -70,7 +70,7 @@ impl Trace {
         }
     }
 
-    /// The commands, if they are kept.
+    /// Returns the commands, if they are kept.
     pub fn commands(&self) -> Option<&[Command]>
         ensures { option_map (λ commands. commands.now) result ≡ trace_of self.now }
     {

@@ -1,11 +1,11 @@
--- How many bytes and steps a plan has.
+-- The number of bytes and steps of a plan.
 use Rattle.std.proofs.Common.{◌≡◌, ℕ, zero, suc, ◌+◌, ◌-◌, ◌*◌, ◌<◌, ◌≤◌, arith}
 use Rattle.plan_tape.specs.Leg.{moves_to}
 use Rattle.layer_planner.specs.Painting.{layer_bytes}
 use Rattle.vox_geom.specs.Point.{coord}
 use Rattle.vox_geom.proofs.Sums.{most_cube}
 
--- both sweeps, the way up, the way home, two Flips and the Halt
+-- both sweeps, the path up, the path home, two Flips and the Halt
 pub total : (r : ℕ) → 1 ≤ r → r + 3 + 2 * ((r - 1) * layer_bytes r) + 2 * r + 2 ≤ 8 * r * r * r + 200
 total zero h = omega arith
 total (suc s) h = let difference_is : suc s - 1 ≡ s = omega arith in rw difference_is (omega arith)

@@ -1,4 +1,4 @@
--- How many moves lead from a row, a layer and a voxel to the next one.
+-- The number of moves from a row, a layer and a voxel to the next one.
 use Rattle.std.proofs.Common.{ℕ, ◌+◌, ◌*◌, ◌≤◌, arith}
 use Rattle.vox_geom.specs.Point.{coord}
 use Rattle.plan_tape.specs.Leg.{moves_to}

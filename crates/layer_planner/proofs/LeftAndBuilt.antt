@@ -1,4 +1,4 @@
--- What is left of a source and built of a target.
+-- The voxels left of a source and built of a target.
 use Rattle.std.proofs.Common.{◌≡◌, ℕ, ◌-◌, cond, ◌<◌, ◌≤◌, refl, sym, ◌∙◌, ap, arith, Bool, true, false}
 use Rattle.std.proofs.lemmas.Bool.Decides.{nat_tests}
 use Rattle.vox_geom.specs.declared.coordinate.Coord.{Coord}
@@ -9,7 +9,7 @@ use Rattle.layer_planner.specs.Painting.{IsPartlyBuilt}
 use Rattle.plan_tape.specs.Parts.{below_layer, from_layer}
 use Rattle.plan_tape.proofs.LegalModels.{void_at_top}
 
--- below the layer down to which the source was voided all is as it was
+-- below the layer down to which the source was voided all is unchanged
 pub left_alone : (source b nothing : Matrix) (low : ℕ) → IsPartlyBuilt b source nothing (from_layer low) → (c : Coord)
     → c.y < low → is_full b c ≡ is_full source c
 left_alone source b nothing low p c l = let not_from_layer : from_layer low c ≡ false = grind (arith, nat_tests) in p c ∙ ap (λ t. cond t (is_full nothing c) (is_full source c)) not_from_layer
@@ -19,7 +19,7 @@ pub void_from : (source b nothing : Matrix) (low : ℕ) → IsVoidFrom nothing 0
     → IsPartlyBuilt b source nothing (from_layer low) → IsVoidFrom b low
 void_from source b nothing low n p = λ c l. let from_layer_holds : from_layer low c ≡ true = grind (arith, nat_tests) in p c ∙ (ap (λ t. cond t (is_full nothing c) (is_full source c)) from_layer_holds ∙ n c (omega arith))
 
--- where all was void from a layer on and was built, the voxels are those of the target
+-- if all was void from a layer on and was built, the voxels are those of the target
 pub rebuilt_is : (b c target : Matrix) (low : ℕ) → IsLegal target → b.resolution ≡ target.resolution
     → low < b.resolution → IsVoidFrom b low → IsPartlyBuilt c b target (below_layer (b.resolution - 1))
     → AreAlike c target

@@ -59,7 +59,7 @@ full_with m c b q i = by (in_space m.resolution (point q)) refl
         none (in_space m.resolution (point q)) _ s
         ∙ sym (ap (λ t. cond t b (is_full m q)) (outside m.resolution q c i s) ∙ none (in_space m.resolution (point q)) _ s)
 
--- a voxel that is set to what the goal says
+-- a voxel that is set to the goal's
 pub painted_set : (m goal : Matrix) (c : Coord) (b : Bool) → IsInSpace m.resolution c → is_full goal c ≡ b
     → IsPartlyBuilt (with_voxel m c b) m goal (voxel c.x c.y c.z)
 painted_set m goal c b i e = λ q. full_with m c b q i ∙ by q (voxel c.x c.y c.z q) refl
@@ -69,7 +69,7 @@ painted_set m goal c b i e = λ q. full_with m c b q i ∙ by q (voxel c.x c.y c
     by q true s = sym (ap (is_full goal) (voxel-is q c s) ∙ e)
     by q false s = refl
 
--- a voxel that is what the goal says already
+-- a voxel that is the goal's already
 pub painted_yet : (m goal : Matrix) (c : Coord) → is_full m c ≡ is_full goal c
     → IsPartlyBuilt m m goal (voxel c.x c.y c.z)
 painted_yet m goal c e = λ q. by q (voxel c.x c.y c.z q) refl
@@ -131,7 +131,7 @@ module _ (a m goal : Matrix) (r : ℕ) (ra : a.resolution ≡ r) (rm : m.resolut
 
 -- ---- tapes
 
--- what is so already is painted
+-- a voxel that is the goal's already is painted
 pub paints_yet : (a : TapeState) (goal : Matrix) (done : Coord → Bool) (at : Coord) (most : ℕ) → CanSweep a goal
     → IsPartlyBuilt a.matrix a.matrix goal done → Paints a a goal done at at most
 paints_yet a goal done at most k h = record { source = refl; resolution = refl; painted = h; ready = k; bytes_are = omega arith; steps_are = omega arith }
@@ -154,7 +154,7 @@ paints_more a b c goal first last all p q s k n most h g e l = record {
   steps_are = let its_steps_are = h.steps_are in let steps_are = g.steps_are in omega arith;
 }
 
--- the way to another coordinate
+-- the path to another coordinate
 pub paints_to : (a b : TapeState) (goal : Matrix) (done : Coord → Bool) (p q s : Coord) (k n most : ℕ)
     → Paints a b goal done p q k → 2 * moves_to q s ≤ n → k + n ≤ most → Paints a b goal done p s most
 paints_to a b goal done p q s k n most h l m = record {
@@ -171,12 +171,12 @@ pub paints_few : (a b : TapeState) (goal : Matrix) (done : Coord → Bool) (p q 
     → Paints a b goal done p q k → k ≤ most → Paints a b goal done p q most
 paints_few a b goal done p q k most h l = record { source = h.source; resolution = h.resolution; painted = h.painted; ready = h.ready; bytes_are = let bytes_are = h.bytes_are in omega arith; steps_are = let steps_are = h.steps_are in omega arith }
 
--- where the voxels that are told by another test are the same
+-- the same by another test with the same voxels
 pub paints_as : (a b : TapeState) (goal : Matrix) (done all : Coord → Bool) (p q : Coord) (k : ℕ)
     → Paints a b goal done p q k → IsPartlyBuilt b.matrix a.matrix goal all → Paints a b goal all p q k
 paints_as a b goal done all p q k h i = record { source = h.source; resolution = h.resolution; painted = i; ready = h.ready; bytes_are = h.bytes_are; steps_are = h.steps_are }
 
--- painting goes on where nothing was painted above the layer
+-- painting continues if nothing was painted above the layer
 pub paints_on : (a b : TapeState) (goal : Matrix) (y : ℕ) (done : Coord → Bool) (p q : Coord) (k : ℕ)
     → CanPaint a goal y → Paints a b goal done p q k → ((c : Coord) → y + 1 ≤ c.y → done c ≡ false) → CanPaint b goal y
 paints_on a b goal y done p q k c h n = record {

@@ -1,4 +1,4 @@
--- What painting a voxel and sweeping over layers leave.
+-- The voxels after painting a voxel and sweeping over layers.
 use Rattle.std.proofs.Common.{◌≡◌, ℕ, ◌+◌, ◌-◌, ◌*◌, ◌<◌, ◌≤◌, refl, sym, ◌∙◌, ap, subst, arith, Bool, true, false, cond, length, mul-le-mul}
 use Rattle.std.specs.Prelude.{ℤ}
 use Rattle.vox_geom.specs.declared.coordinate.Coord.{Coord}

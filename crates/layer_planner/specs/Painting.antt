@@ -1,4 +1,4 @@
--- What a part of the plan has made: some voxels are those of a goal, and the others as they were.
+-- The voxels changed by a part of the plan: some are those of a goal, and the others are unchanged.
 use Rattle.std.specs.Prelude.{◌≡◌, ℕ, ◌+◌, ◌*◌, ◌≤◌, ◌<◌, Bool, cond, length}
 use Rattle.vox_geom.specs.declared.coordinate.Coord.{Coord}
 use Rattle.vox_geom.specs.Space.{IsInSpace}
@@ -9,19 +9,19 @@ use Rattle.plan_tape.specs.Fissions.{fissions}
 use Rattle.plan_tape.specs.Leg.{moves_to}
 use Rattle.plan_tape.specs.Progress.{TapeState, bytes, spot, IsVoidFrom}
 
--- where the test says so the voxels are those of the goal, and elsewhere those of the old matrix
+-- if the test holds, the voxels are those of the goal, otherwise those of the old matrix
 abbrev pub IsPartlyBuilt : Matrix → Matrix → Matrix → (Coord → Bool) → Type 0
 IsPartlyBuilt new old goal done = (c : Coord) → is_full new c ≡ cond (done c) (is_full goal c) (is_full old c)
 
--- how many bytes a row takes at most, with the way to the next one
+-- the most bytes of a row, with the moves to the next one
 abbrev pub row_bytes : ℕ → ℕ
 row_bytes r = 4 * r + 2
 
--- how many bytes a layer takes at most, with the way to the next one
+-- the most bytes of a layer, with the moves to the next one
 abbrev pub layer_bytes : ℕ → ℕ
 layer_bytes r = r * row_bytes r + r + 2
 
--- the only bot there ever was is in space, under High, and all is void from its height on
+-- the first and single bot is in space, under High, and all is void from its height on
 pub record CanSweep (p : TapeState) (goal : Matrix) : Type 0 where
   pub alone : length p.bots ≡ 1
   pub unsplit : fissions p ≡ 0
@@ -45,8 +45,8 @@ bytes_to p c = bytes p + 2 * moves_to (spot p.bots) c
 abbrev pub sweep_steps_to : TapeState → Coord → ℕ
 sweep_steps_to p c = p.steps + 2 * moves_to (spot p.bots) c
 
--- the tape has painted the voxels of which the test says so;
--- with the way to a coordinate it has so many bytes and steps more at most than it had with the way to another
+-- the tape has painted the voxels for which the test holds;
+-- its bytes and steps with those to `last` exceed the earlier ones with those to `first` by at most `most`
 pub record Paints (old new : TapeState) (goal : Matrix) (done : Coord → Bool) (first last : Coord) (most : ℕ)
     : Type 0 where
   pub source : new.source ≡ old.source

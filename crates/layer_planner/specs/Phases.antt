@@ -1,4 +1,4 @@
--- The tape before the way home.
+-- The tape before the path home.
 use Rattle.std.specs.Prelude.{◌≡◌, ◌+◌, ◌*◌, ◌≤◌}
 use Rattle.vox_geom.specs.declared.coordinate.Coord.{Coord}
 use Rattle.nano_spec.specs.Matrix.{Matrix}
@@ -8,11 +8,11 @@ use Rattle.plan_tape.specs.Progress.{TapeState, bytes, spot}
 use Rattle.layer_planner.specs.Painting.{CanSweep}
 use Rattle.vox_geom.specs.Point.{coord}
 
--- where sweeps end at the latest: above the target
+-- the last possible end of sweeps: above the target
 abbrev pub end : Matrix → Coord
 end m = coord 0 m.resolution 0
 
--- the voxels are those of the target, and with the way home, a Flip and the Halt the tape is within its bounds
+-- the voxels are those of the target, and with the path home, a Flip and the Halt the tape is within its bounds
 pub record IsRebuilt (t : TapeState) (target : Matrix) : Type 0 where
   pub matrix : t.matrix ≡ target
   pub ready : CanSweep t target

@@ -1,4 +1,4 @@
-//! Voxels, rows and layers that are made those of a goal, from one layer above.
+//! Changes voxels, rows and layers into those of a goal, from one layer above.
 ghost use Rattle.std.specs.Prelude.{◌≡◌, ◌+◌, ◌-◌, ◌*◌, ◌<◌, OnOk};
 ghost use Rattle.vox_geom.specs.declared.coordinate.Coord.{Coord as Coordinate};
 ghost use Rattle.nano_spec.specs.Matrix.{is_full as is_full_of};
@@ -13,7 +13,7 @@ use vox_geom::{Coord, Memory, Near};
 use vox_planes::Planes;
 use voxel_reads::is_full;
 
-/// Makes one voxel that of the goal, where it is not so yet.
+/// Changes one voxel into the goal's, if it differs.
 fn paint_voxel(tape: &mut Tape, goal: &Planes, x: u16, y: u16, z: u16) -> Result<(), Memory>
     requires ready { CanPaint tape.old goal.now y }
     requires x { x < tape.old.matrix.resolution }
@@ -34,7 +34,7 @@ fn paint_voxel(tape: &mut Tape, goal: &Planes, x: u16, y: u16, z: u16) -> Result
     }
 }
 
-/// Makes the row of x and y that of the goal.
+/// Changes the row of x and y into the goal's.
 fn paint_row(tape: &mut Tape, goal: &Planes, x: u16, y: u16) -> Result<(), Memory>
     requires ready { CanPaint tape.old goal.now y }
     requires x { x < tape.old.matrix.resolution }
@@ -49,7 +49,7 @@ fn paint_row(tape: &mut Tape, goal: &Planes, x: u16, y: u16) -> Result<(), Memor
     Ok(())
 }
 
-/// Makes the layer of y that of the goal.
+/// Changes the layer of y into the goal's.
 fn paint_layer(tape: &mut Tape, goal: &Planes, y: u16) -> Result<(), Memory>
     requires ready { CanPaint tape.old goal.now y }
     requires limit { sweep_steps_to tape.old (coord 0 (y + 1) 0)
@@ -86,7 +86,7 @@ pub fn clear(tape: &mut Tape, nothing: &Planes, low: u16) -> Result<(), Memory>
     Ok(())
 }
 
-/// Makes all layers those of the goal, from one up. Those below it are so already.
+/// Changes all layers from one up into the goal's. Those below are the goal's already.
 pub fn build(tape: &mut Tape, goal: &Planes, low: u16) -> Result<(), Memory>
     requires ready { CanSweep tape.old goal.now }
     requires low { low < tape.old.matrix.resolution }

@@ -36,9 +36,9 @@ fn rebuild(tape: &mut Tape, nothing: &Planes, target: &Planes, low: u16) -> Resu
     Ok(())
 }
 
-/// A plan that makes the target of the source, by one bot. Both models are legal. Its commands are spelled in at most
-/// 8 * r * r * r + 200 bytes at resolution r, and at no time is more than one bot active; where both models are the same, they
-/// are a Halt alone. Layers below the lowest one in which the models differ are left alone.
+/// Plans from the source to the target, both legal, for one bot. The commands have at most 8 * r * r * r + 200 bytes at resolution
+/// r, and at no time is more than one bot active. If both models are the same, they are a Halt alone. Layers below the lowest one
+/// in which the models differ are left alone.
 pub fn plan_layers(alloc: Global, source: &Planes, target: &Planes) -> Result<Plan, Memory>
     requires { AreLegalModels source.now target.now }
     ensures accepted { IfOk result

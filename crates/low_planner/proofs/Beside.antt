@@ -13,7 +13,7 @@ use Rattle.vox_geom.proofs.Points.{coordinate_by_parts}
 pub adjacent_below : (c b : Coord) → b.x ≡ c.x → b.z ≡ c.z → c.y ≡ b.y + 1 → IsTrue (are_adjacent c b)
 adjacent_below c b x z y = adjacent_by c b (omega arith)
 
--- beside each other in a layer
+-- neighbors in a layer
 pub beside_by : (a b : Coord) → b.y ≡ a.y → ((a.x - b.x) + (b.x - a.x)) + ((a.z - b.z) + (b.z - a.z)) ≡ 1
     → AreBesideInLayer a b
 beside_by a b y e = record { adjacent = adjacent_by a b (omega arith); level = y }
@@ -21,7 +21,7 @@ beside_by a b y e = record { adjacent = adjacent_by a b (omega arith); level = y
 pub beside-sym : (a b : Coord) → AreBesideInLayer a b → AreBesideInLayer b a
 beside-sym a b h = record { adjacent = adjacent-sym a b h.adjacent; level = sym h.level }
 
--- how far apart such coordinates are
+-- the distance of such coordinates
 pub beside_gap : (a b : Coord) → AreBesideInLayer a b → ((a.x - b.x) + (b.x - a.x)) + ((a.z - b.z) + (b.z - a.z)) ≡ 1
 beside_gap a b h = by (side_of a b h.adjacent) h.level
   where

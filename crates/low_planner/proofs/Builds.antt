@@ -1,4 +1,4 @@
--- A tape along a sweep: what is built is what was visited.
+-- A tape along a sweep: the built voxels are the visited ones.
 use Rattle.std.proofs.Common.{◌≡◌, ◌⊎◌, inl, inr, ℕ, zero, suc, ◌+◌, ◌-◌, ◌*◌, ◌<◌, ◌≤◌, refl, sym, ◌∙◌, ap, subst, arith, List, [], ◌∷◌, ◌++◌, Bool, true, false, not, ◌&&◌, ◌||◌, ◌==◌, length, map}
 use Rattle.std.specs.Prelude.{IsTrue, None, Contains, count_by}
 use Rattle.std.proofs.lemmas.List.{length-append, same_from_push}
@@ -31,7 +31,7 @@ use Rattle.low_planner.proofs.Reach.{above_in_space, moves_paid, one_move, reach
 use Rattle.plan_tape.proofs.ClearWays.{moves_most}
 use Rattle.plan_tape.proofs.LegalModels.{empty_is_void, full_within}
 
--- ---- how many voxels there are at most
+-- ---- the most voxels
 
 pub length_all : {X : Type 0} (f : ℕ → X) (n a : ℕ) → length (map f (numbers_from a n)) ≡ n
 length_all f zero a = refl
@@ -61,7 +61,7 @@ none_ends xs most last e f = let length_is = ap length e in let same_length = ap
 last_is : {X : Type 0} (xs most more : List X) (a b : X) → xs ≡ most ++ a ∷ [] → xs ≡ more ++ b ∷ [] → a ≡ b
 last_is xs most more a b e f = (same_from_push most more a b (sym e ∙ f)).1
 
--- ---- what is built
+-- ---- the built voxels
 
 module _ (m : Matrix) (s : Sweep) (p : TapeState) (h : IsSweep m s) (b : IsBuilt m s p) where
   built_is_visited : (d : Coord) → IsTrue (is_full p.matrix d) → IsVisited m s.remaining d
@@ -165,7 +165,7 @@ module _ (m : Matrix) (s t : Sweep) (p q : TapeState) (h : IsSweep m s) (b : IsB
 -- ---- the first voxel of a part
 
 module _ (m : Matrix) (s t : Sweep) (p : TapeState) (h : IsSweep m s) (g : IsSweep m t) (b : IsBuilt m s p) (c : Coord) (v : BeginsPart m s t c) where
-  -- where it rests on a full voxel, that one was visited
+  -- if it rests on a full voxel, that one was visited
   rested : FirstUnsupported m None → IsCarried p.matrix c
   rested supported = by (c.y == 0) refl v.resting
     where
@@ -187,7 +187,7 @@ module _ (m : Matrix) (s t : Sweep) (p : TapeState) (h : IsSweep m s) (g : IsSwe
   pub can_begin : IsLegal m → m.resolution ≤ 400 → FirstUnsupported m None → CanFill p c
   can_begin legal most supported = record { can_go = can_go m s p h b legal most c (full_at_visit m s p h b c v.loses.before) v.up; carried = rested supported }
 
-  -- the way there is paid by what is between both coordinates along the rows, and by the voxel
+  -- the path there is paid by the part between both coordinates along the rows, and by the voxel
   paid : 15 * moves_to (spot p.bots) (above c) ≤ distance s.at c + 43
   paid = by (ends_or_none s.trail.items)
     where
@@ -223,7 +223,7 @@ module _ (m : Matrix) (s t : Sweep) (p : TapeState) (h : IsSweep m s) (g : IsSwe
       let at : reach m.resolution t.at ≡ reach m.resolution c = ap (reach m.resolution) v.at in
       built_more m s t p q h b c (moves_to (spot p.bots) (above c) + 1) v.loses w [] v.trail (omega arith)
 
--- ---- a voxel beside the last one
+-- ---- a neighbor of the last voxel
 
 module _ (m : Matrix) (s t : Sweep) (p : TapeState) (h : IsSweep m s) (b : IsBuilt m s p) (c : Coord) (v : GoesOn s t c) where
   pub can_go_on : IsLegal m → m.resolution ≤ 400 → CanFill p c
@@ -325,7 +325,7 @@ finished m s t p legal supported h g b v = record {
     no_trail z (inl e) = e
     no_trail z (inr e) = absurd (anything_by (is_full m e.1) (on_trail_is m s p h b e.0 e.1 e.2).0.before (z e.1))
 
--- the way home and the Halt have their steps
+-- the path home and the Halt have their steps
 pub steps_home : (m : Matrix) (p : TapeState) → m.resolution ≤ 400 → IsFinished m p
     → p.steps + moves_to (spot p.bots) origin ≤ 300000100
 steps_home m p most h =

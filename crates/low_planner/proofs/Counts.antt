@@ -1,4 +1,4 @@
--- How many voxels are full, and how much a sweep has to do.
+-- The number of full voxels, and the remaining work of a sweep.
 use Rattle.std.proofs.Common.{◌≡◌, ℕ, zero, suc, ◌+◌, ◌*◌, ◌<◌, ◌≤◌, inl, inr, refl, sym, ◌∙◌, ap, arith, Bool, cond, List, [], ◌∷◌, ◌++◌, length, map}
 use Rattle.std.specs.Prelude.{count_by, Some}
 use Rattle.std.proofs.lemmas.List.{length-append}
@@ -64,7 +64,7 @@ one_less old new c h =
     let same : count_by (is_full new) (coordinates new.resolution) ≡ count_by (is_full new) (coordinates resolution) = ap (λ n. count_by (is_full new) (coordinates n)) h.resolution in
     omega arith
 
--- each visit leaves less to do
+-- each visit reduces the remaining work
 pub visit_lessens : (m : Matrix) (old new : Sweep) (v : Visit) → Visits m old new (Some v)
     → sweep_weight new < sweep_weight old
 visit_lessens m old new (First c) h =

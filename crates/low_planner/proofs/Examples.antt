@@ -11,7 +11,7 @@ use Rattle.low_planner.specs.Supported.{IsSupported, rests}
 use Rattle.low_planner.specs.Worked.{WorkedParts, two_hang}
 use Rattle.low_planner.proofs.Paths.{in_part}
 
--- a voxel that does not rest and has no full one beside it is not supported
+-- a voxel that does not rest and has no full neighbor is not supported
 hangs_alone : (m : Matrix) (c : Coord) → rests m c ≡ false
     → IsTrue (list_all (λ b. not (is_full m b && are_adjacent c b)) (all_of m)) → IsSupported m c → ⊥
 hangs_alone m c r t s = in_part m (λ a. a ≡ c → ⊥)

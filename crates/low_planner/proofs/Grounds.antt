@@ -1,4 +1,4 @@
--- A voxel that is filled on the floor, or beside a full one, leaves all grounded.
+-- Filling a voxel on the floor, or next to a full one, keeps all grounded.
 use Rattle.std.proofs.Common.{◌≡◌, ◌⊎◌, inl, inr, ℕ, refl, sym, ◌∙◌, ap, subst, List, [], ◌∷◌, Bool, true, false, cond, ◌&&◌, ◌==◌}
 use Rattle.std.specs.Prelude.{IsTrue, None}
 use Rattle.vox_geom.specs.declared.coordinate.Coord.{Coord}
@@ -17,7 +17,7 @@ use Rattle.low_planner.specs.Build.{IsCarried}
 use Rattle.low_planner.specs.Supported.{FirstUnsupported, IsSupported}
 use Rattle.plan_tape.proofs.LegalModels.{empty_is_void, full_within}
 
--- ---- what holds of each
+-- ---- facts of each voxel
 
 holds_of_each : {A : Type 0} (P : A → Type 0) (xs : List A) (x : A) → FirstFailing P xs None → In x xs → P x
 holds_of_each P [] x h i = absurd i
@@ -53,7 +53,7 @@ set_other m c d b n = by (in_space m.resolution (point d)) refl
     by true s = full_where m.resolution (λ e. cond (same_point (point e) (point c)) b (is_full m e)) d (space_by_test m.resolution d s) ∙ ap (λ t. cond t b (is_full m d)) (differ d c n)
     by false s = no_first (in_space m.resolution (point d)) _ s ∙ sym (no_first (in_space m.resolution (point d)) _ s)
 
--- where more is full, what was grounded still is
+-- if more is full, what was grounded still is
 module _ (m n : Matrix) (more : (d : Coord) → IsTrue (is_full m d) → IsTrue (is_full n d)) where
   both : (a b : Bool) → IsTrue a → IsTrue b → IsTrue (a && b)
   both true b e f = f

@@ -28,8 +28,8 @@ one_more m a b f n (d ∷ path, h) =
     let level : (a.y == d.y) ≡ true = test_equal a.y d.y (sym n.level ∙ ap (λ (v : Coord). v.y) same) in
     (a ∷ d ∷ path, rw (point_itself a, f, next, level) (second_of_two (same_point (point b) (point d)) (is_layer_path m (d ∷ path)) h))
 
--- what holds of each full voxel that rests, and of each full voxel beside one of which it holds, holds of each voxel of
--- a supported part
+-- a fact of each full voxel that rests, and of each full neighbor of a voxel with it, holds of each voxel of a supported
+-- part
 module _ (m : Matrix) (P : Coord → Type 0) (rest : (a : Coord) → IsTrue (is_full m a) → IsTrue (rests m a) → P a) (more : (a b : Coord) → IsTrue (is_full m a) → IsTrue (is_full m b) → AreBesideInLayer a b → P b → P a) where
   full_head : (b : Coord) (path : List Coord) → IsTrue (is_layer_path m (b ∷ path)) → IsTrue (is_full m b)
   full_head b [] p = first_of_two (is_full m b) (rests m b) p

@@ -1,4 +1,4 @@
--- How many moves a sweep takes, and that a bot has room above a voxel.
+-- The number of moves of a sweep, and that a bot has room above a voxel.
 use Rattle.std.proofs.Common.{◌≡◌, ℕ, ◌+◌, ◌*◌, ◌<◌, ◌≤◌, arith}
 use Rattle.std.specs.Prelude.{IsTrue}
 use Rattle.std.proofs.Math.Arith.{digits_lt}
@@ -13,7 +13,7 @@ use Rattle.low_planner.specs.Sweep.{AreBesideInLayer, reach}
 use Rattle.low_planner.proofs.Beside.{beside_gap}
 use Rattle.plan_tape.proofs.LegalModels.{full_in_box, full_within}
 
--- fifteen for each move are no more than the way, and what each of the three legs may lack of fifteen
+-- fifteen for each move are at most the path and 42, since each of the three legs may fall short by fourteen
 pub moves_paid : (a b : Coord) → 15 * moves_to a b ≤ distance a b + 42
 moves_paid a b = omega arith
 
@@ -25,7 +25,7 @@ one_move a b h = let gap_one = beside_gap a b h in let level = h.level in omega 
 pub above_in_space : (m : Matrix) (c : Coord) → IsLegal m → IsTrue (is_full m c) → IsInSpace m.resolution (above c)
 above_in_space m c h f = let is_within = full_within m c f in record { x = is_within.x; y = (full_in_box m c h f).y_end; z = is_within.z }
 
--- ---- how far a sweep goes
+-- ---- the length of a sweep
 
 pub reach_most : (r : ℕ) (c : Coord) → IsInSpace r c → reach r c ≤ 3 * (r * r * r)
 reach_most r c h =

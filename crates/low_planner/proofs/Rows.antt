@@ -87,7 +87,7 @@ next_full_is m k from e o i end c found =
 -- ---- the first voxel of a row that rests
 
 module _ (m left : Matrix) (from at c : Coord) (x : at.x ≡ from.x) (y : at.y ≡ from.y) (swept : IsSweptRow m left from at.z) where
-  -- what lies before the next full voxel was visited
+  -- the voxels before the next full voxel were visited
   before_next : IsNextFull left at c → IsSweptRow m left from c.z
   before_next n d dx dy l u r = by (cases_lt d.z at.z)
     where
@@ -107,7 +107,7 @@ module _ (m left : Matrix) (from at c : Coord) (x : at.x ≡ from.x) (y : at.y �
     first = before_next n;
   }
 
-  -- where the next full voxel does not rest
+  -- if the next full voxel does not rest
   pub swept_on : IsNextFull left at c → rests m c ≡ false → IsSweptRow m left from (c.z + 1)
   swept_on n r d dx dy l u s = by (ℕ_discrete d.z c.z)
     where
@@ -117,7 +117,7 @@ module _ (m left : Matrix) (from at c : Coord) (x : at.x ≡ from.x) (y : at.y �
           let same : d ≡ c = (λ i. record { x = (dx ∙ sym (n.x ∙ x)) i; y = (dy ∙ sym (n.y ∙ y)) i; z = e i }) in
           absurd (not_both (subst (λ (q : Coord). IsTrue (rests m q)) same s) r)
 
--- where none is full from there on
+-- if none is full from there on
 pub swept_all : (m left : Matrix) (from at : Coord) (end : ℕ) → at.x ≡ from.x → at.y ≡ from.y
     → IsSweptRow m left from at.z → IsVoidRow left at → IsSweptRow m left from end
 swept_all m left from at end x y swept none d dx dy l u r = by (cases_lt d.z at.z)
@@ -145,7 +145,7 @@ gaps_on a b c = omega arith
 pub distance_on : (a b c : Coord) → distance a c ≤ distance a b + distance b c
 distance_on a b c = omega (arith, gaps_on a.x b.x c.x, gaps_on a.y b.y c.y, gaps_on a.z b.z c.z)
 
--- the way to one coordinate, and from there to another
+-- the path to one coordinate, and from there to another
 pub reach_on : (r : ℕ) (a b c : Coord) → IsWithinReach r a b → IsWithinReach r b c → IsWithinReach r a c
 reach_on r a b c h k = let distance_sum = distance_on a b c in omega arith
 
@@ -156,7 +156,7 @@ reach_row r a b x y z =
     let product_is : 3 * r * (b.y * r + b.x) ≡ 3 * r * (a.y * r + a.x) = (λ i. 3 * r * (y i * r + x i)) in
     omega arith
 
--- where the voxels of a row that rest were visited, those before a coordinate further on in it were too
+-- if the resting voxels of a row were visited, so were those before a later coordinate of the row
 pub swept_to : (m left : Matrix) (from c : Coord) → AreSwept m left from → IsStartInRow m left from c
     → AreSwept m left c
 swept_to m left from c h s = record {
@@ -170,7 +170,7 @@ swept_to m left from c h s = record {
     by d e f l r (inl k) = h.cells d e f k r
     by d e f l r (inr k) = s.first d f e k l r
 
--- the next part begins where it begins in a row that the search has come to
+-- the next part begins at its start in a row that the search has reached
 pub start_is : (m : Matrix) (s : Sweep) (from c : Coord) → IsWithinReach m.resolution s.at from → s.at.y ≤ from.y
     → AreSwept m s.remaining from → IsStartInRow m s.remaining from c → IsPartStart m s c
 start_is m s from c near up swept h = record {
@@ -203,7 +203,7 @@ row_most r from next h l = by h.forth
     by (inl e) = omega (arith, e.0)
     by (inr e) = omega (arith, e.0)
 
--- where a search has found none
+-- if a search has found none
 pub found_none : {A : Type 0} (o : Option A) (P : Type 0) (Q : A → Type 0) → is_some o ≡ false → MatchOption o P Q → P
 found_none None P Q e h = h
 found_none (Some a) P Q e h = cc

@@ -55,7 +55,7 @@ module _ (m : Matrix) (s t : Sweep) (c : Coord) (h : IsSweep m s) (k : TakesVoxe
       by (inl e) = ap (is_full t.remaining) e ∙ k.loses.after
       by (inr n) = k.loses.others d n ∙ f
 
-  -- what is visited now is the new voxel, or was visited before
+  -- a voxel that is visited now is the new one, or was visited before
   visited_cases : (d : Coord) → IsVisited m t.remaining d → (d ≡ c) ⊎ IsVisited m s.remaining d
   visited_cases d v = by (same_or_not d c)
     where
@@ -130,7 +130,7 @@ popped m s t last h er ea ends alone trail = record {
     near a b n g (inl i) = i
     near a b n g (inr e) = anything_by (is_full s.remaining b) g (alone b (subst (λ (q : Coord). AreBesideInLayer q b) (sym e) n))
 
--- ---- what was not visited
+-- ---- voxels not visited
 
 -- a layer of which all that rests was visited, and none is on the trail, has no voxel of a supported part that was not
 -- visited

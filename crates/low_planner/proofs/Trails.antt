@@ -1,4 +1,4 @@
--- Trails: each coordinate is beside the one before it.
+-- Trails: each coordinate is next to the one before it.
 use Rattle.std.proofs.Common.{◌≡◌, List, [], ◌∷◌, ◌++◌}
 use Rattle.vox_geom.specs.declared.coordinate.Coord.{Coord}
 use Rattle.low_planner.specs.Sweep.{AreBesideInLayer, IsChain, IsTrail}

@@ -1,4 +1,4 @@
--- What a step of the bot leaves, and that its commands are plain.
+-- The effect of a step of the bot, and that its commands are plain.
 use Rattle.std.proofs.Common.{◌≡◌, ℕ, ◌+◌, refl, sym, ◌∙◌, ap, subst, arith, List, [], ◌∷◌, ◌++◌, true, length, All, append-nil}
 use Rattle.std.specs.Prelude.{ℤ}
 use Rattle.std.proofs.lemmas.List.Elements.{All-append, All-cons, All-nil}
@@ -33,7 +33,7 @@ legs_are_plain a b cs h =
 pub plain_and : (cs : List Command) (c : Command) → IsPlain c → All IsPlain cs → All IsPlain (cs ++ c ∷ [])
 plain_and cs c h k = All-append IsPlain cs (c ∷ []) k (plain_more c [] h (All-nil IsPlain))
 
--- ---- a way
+-- ---- a path
 
 pub went : (old new : TapeState) (to : Coord) → IsWorking old → Moves old new to
     → Works old new to old.matrix (moves_to (spot old.bots) to)
@@ -56,7 +56,7 @@ none_of (x ∷ xs) e = absurd (omega arith)
 no_leg : (axis : Axis) (a b : ℕ) (cs : List Command) → a ≡ b → IsLeastLeg axis a b cs → cs ≡ []
 no_leg axis a b cs e h = none_of cs (h.least ∙ (ap (λ (n : ℕ). moves a n) (sym e) ∙ no_moves a))
 
--- no commands where the bot is there
+-- no commands if the bot is there
 pub went_nowhere : (old new : TapeState) (to : Coord) → spot old.bots ≡ to → Moves old new to
     → new.commands ≡ old.commands
 went_nowhere old new to e m =

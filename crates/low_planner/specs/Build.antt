@@ -1,4 +1,4 @@
--- The tape of a bot that builds what a sweep visits.
+-- The tape of a bot that builds the voxels of a sweep.
 use Rattle.std.specs.Prelude.{◌≡◌, ◌⊎◌, ℕ, ◌+◌, ◌-◌, ◌*◌, ◌<◌, ◌≤◌, ◌&&◌, not, [], ◌∷◌, ◌++◌, IsTrue, All, length, List}
 use Rattle.vox_geom.specs.declared.coordinate.Coord.{Coord}
 use Rattle.vox_geom.specs.Point.{are_adjacent}
@@ -17,13 +17,13 @@ use Rattle.low_planner.specs.Sweep.{reach}
 abbrev pub above : Coord → Coord
 above c = record { x = c.x; y = c.y + 1; z = c.z }
 
--- the only bot is under Low, with the light profile
+-- the single bot is under Low, with the light profile
 pub record IsWorking (p : TapeState) : Type 0 where
   pub alone : length p.bots ≡ 1
   pub low : p.harmonics ≡ Low
   pub light : p.profile ≡ light_profile
 
--- the voxel would be grounded: it is on the floor, or beside a full one
+-- the voxel would be grounded: it is on the floor, or next to a full one
 abbrev pub IsCarried : Matrix → Coord → Type 0
 IsCarried m c = (c.y ≡ 0) ⊎ ((b : Coord) × IsTrue (is_full m b) × IsTrue (are_adjacent c b))
 
@@ -40,7 +40,7 @@ pub record CanFill (p : TapeState) (c : Coord) : Type 0 where
   pub can_go : CanGoAbove p c
   pub carried : IsCarried p.matrix c
 
--- the bot has come there, in so many steps without a Flip or a Fission, and the matrix is m
+-- the bot has come there, in this many steps without a Flip or a Fission, and the matrix is m
 pub record Works (old new : TapeState) (to : Coord) (m : Matrix) (count : ℕ) : Type 0 where
   pub source : new.source ≡ old.source
   pub working : IsWorking new
@@ -55,7 +55,7 @@ pub record HasNotBegun (s : Sweep) (p : TapeState) : Type 0 where
   pub at : s.at ≡ origin
   pub nothing : IsVoidFrom p.matrix 0
 
--- what the sweep has visited is built, and the bot is above the last voxel of the trail
+-- the visited voxels are built, and the bot is above the last voxel of the trail
 pub record IsBuilt (m : Matrix) (s : Sweep) (p : TapeState) : Type 0 where
   pub source : p.source ≡ empty m.resolution
   pub working : IsWorking p

@@ -1,11 +1,11 @@
--- Why there is no plan, and what a plan has.
+-- The reasons for having no plan, and the facts of a plan.
 use Rattle.std.specs.Prelude.{ℕ, Some, ⊤}
 use Rattle.nano_spec.specs.Matrix.{Matrix}
 use Rattle.low_planner.specs.declared.fault.LowFault.{LowFault}
 use Rattle.low_planner.specs.declared.fault.LowFault.TheVariants.{Unsupported, Memory}
 use Rattle.low_planner.specs.Supported.{FirstUnsupported}
 
--- the number by which a refusal is printed
+-- the printed number of a refusal
 abbrev pub low_fault_number : LowFault → ℕ
 low_fault_number (Unsupported at) = 1
 low_fault_number Memory = 2

@@ -1,5 +1,5 @@
--- Which voxels of a layer are supported. A part is a largest set of full voxels of one layer that are connected within
--- it; a part above the floor is supported where one of its voxels has a full voxel right below it.
+-- The supported voxels of a layer. A part is a maximal set of full voxels of one layer that are connected within it; a
+-- part above the floor is supported if one of its voxels has a full voxel right below it.
 use Rattle.std.specs.Prelude.{Bool, false, ◌&&◌, ◌||◌, ◌==◌, List, [], ◌∷◌, Option, IsTrue}
 use Rattle.vox_geom.specs.declared.coordinate.Coord.{Coord}
 use Rattle.vox_geom.specs.Point.{are_adjacent, below}
@@ -27,6 +27,6 @@ is_layer_path_from m c path = begins_at c path && is_layer_path m path
 abbrev pub IsSupported : Matrix → Coord → Type 0
 IsSupported m c = (path : List Coord) × IsTrue (is_layer_path_from m c path)
 
--- at is the least voxel of all parts that are unsupported, or `None` where each part is supported
+-- at is the least voxel of all unsupported parts, or `None` if each part is supported
 abbrev pub FirstUnsupported : Matrix → Option Coord → Type 0
 FirstUnsupported m at = FirstFailing (λ c. IsTrue (is_full m c) → IsSupported m c) (all_of m) at

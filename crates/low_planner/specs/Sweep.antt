@@ -1,5 +1,4 @@
--- A sweep over a model: which voxels it has not visited, the trail through the part that it visits, and where that part
--- began.
+-- A sweep over a model: the voxels not visited yet, the trail through the current part, and the start of that part.
 use Rattle.std.specs.Prelude.{◌≡◌, ◌≢◌, ℕ, ◌+◌, ◌*◌, ◌<◌, ◌≤◌, false, List, [], ◌∷◌, ◌++◌, IsTrue, Contains, length, Option, Some, None, ◌⊎◌}
 use Rattle.vox_geom.specs.declared.coordinate.Coord.{Coord}
 use Rattle.vox_geom.specs.Point.{are_adjacent}
@@ -36,7 +35,7 @@ pub record IsNextFull (m : Matrix) (from c : Coord) : Type 0 where
   pub full : IsTrue (is_full m c)
   pub first : (d : Coord) → d.x ≡ from.x → d.y ≡ from.y → from.z ≤ d.z → d.z < c.z → is_full m d ≡ false
 
--- the voxels of a coordinate's row that rest and lie before a component z were visited, from the coordinate on
+-- the resting voxels of a coordinate's row before a component z were visited, from the coordinate on
 abbrev pub IsSweptRow : Matrix → Matrix → Coord → ℕ → Type 0
 IsSweptRow m left from end =
     (d : Coord) → d.x ≡ from.x → d.y ≡ from.y → from.z ≤ d.z → d.z < end → IsTrue (rests m d) → is_full left d ≡ false
@@ -53,7 +52,7 @@ pub record IsStartInRow (m left : Matrix) (from c : Coord) : Type 0 where
 
 -- ---- the order of a sweep: layers from the floor up, rows by rising x, cells by rising z
 
--- all voxels that rest and come before a coordinate were visited
+-- all resting voxels before a coordinate were visited
 pub record AreSwept (m left : Matrix) (at : Coord) : Type 0 where
   pub layers : (c : Coord) → c.y < at.y → IsTrue (rests m c) → is_full left c ≡ false
   pub rows : (c : Coord) → c.y ≡ at.y → c.x < at.x → IsTrue (rests m c) → is_full left c ≡ false
@@ -63,11 +62,11 @@ pub record AreSwept (m left : Matrix) (at : Coord) : Type 0 where
 abbrev pub AreAllSwept : Matrix → Matrix → Type 0
 AreAllSwept m left = (c : Coord) → IsTrue (rests m c) → is_full left c ≡ false
 
--- no less than the way along all rows from the first coordinate to one
+-- an upper bound of the path along all rows from the first coordinate to one
 abbrev pub reach : ℕ → Coord → ℕ
 reach r c = 3 * r * (c.y * r + c.x) + c.z
 
--- the way from one coordinate to another is no longer than what is between them along the rows
+-- the path from one coordinate to another is no longer than the part between them along the rows
 abbrev pub IsWithinReach : ℕ → Coord → Coord → Type 0
 IsWithinReach r a b = reach r a + distance a b ≤ reach r b
 
@@ -91,7 +90,7 @@ pub record IsPartStart (m : Matrix) (s : Sweep) (c : Coord) : Type 0 where
 
 -- ---- the trail
 
--- each coordinate is beside the one before it
+-- each coordinate is next to the one before it
 abbrev pub IsChain : Coord → List Coord → Type 0
 IsChain a [] = Unit {0}
 IsChain a (b ∷ more) = AreBesideInLayer a b × IsChain b more
@@ -101,8 +100,8 @@ abbrev pub IsTrail : Coord → List Coord → Type 0
 IsTrail at [] = Unit {0}
 IsTrail at (a ∷ more) = (a ≡ at) × IsChain a more
 
--- the sweep of a matrix has come so far: what was visited is supported,
--- and beside a voxel that was visited none of its layer is left, unless it is on the trail
+-- the progress of the sweep of a matrix: the visited voxels are supported,
+-- and next to a visited voxel none of its layer is left, unless it is on the trail
 pub record IsSweep (m : Matrix) (s : Sweep) : Type 0 where
   pub resolution : s.remaining.resolution ≡ m.resolution
   pub fewer : (c : Coord) → is_full m c ≡ false → is_full s.remaining c ≡ false
@@ -115,7 +114,7 @@ pub record IsSweep (m : Matrix) (s : Sweep) : Type 0 where
   pub trail : IsTrail s.at s.trail.items
   pub on_trail : (c : Coord) → Contains s.trail.items c → IsVisited m s.remaining c × (c.y ≡ s.at.y)
 
--- the voxel is full no longer, and all others are as they were
+-- the voxel is no longer full, and all others are unchanged
 pub record LosesVoxel (old new : Matrix) (c : Coord) : Type 0 where
   pub resolution : new.resolution ≡ old.resolution
   pub before : IsTrue (is_full old c)
@@ -139,7 +138,7 @@ pub record BeginsPart (m : Matrix) (old new : Sweep) (c : Coord) : Type 0 where
   pub up : old.at.y ≤ c.y
   pub near : IsWithinReach m.resolution old.at c
 
--- the sweep goes on to a voxel beside the last one of the trail
+-- the sweep continues to a voxel next to the last one of the trail
 pub record GoesOn (old new : Sweep) (c : Coord) : Type 0 where
   pub most : List Coord
   pub last : Coord
@@ -166,7 +165,7 @@ pub record EndsSweep (m : Matrix) (old new : Sweep) : Type 0 where
   pub at : new.at ≡ old.at
   pub all : AreAllSwept m new.remaining
 
--- what the sweep did
+-- the action of the sweep
 abbrev pub Visits : Matrix → Sweep → Sweep → Option Visit → Type 0
 Visits m old new (Some (First c)) = BeginsPart m old new c
 Visits m old new (Some (Onward c)) = GoesOn old new c

@@ -14,7 +14,7 @@ use plan_tape::Tape;
 use vox_geom::{Coord, Memory, Near};
 use vox_planes::Planes;
 
-/// Goes to a coordinate. The three ways are void.
+/// Moves to a coordinate. All three legs are void.
 pub fn go(tape: &mut Tape, to: Coord) -> Result<(), Memory>
     requires working { IsWorking tape.old }
     requires within { IsInSpace tape.old.matrix.resolution to }
@@ -26,7 +26,7 @@ pub fn go(tape: &mut Tape, to: Coord) -> Result<(), Memory>
     tape.go(to)
 }
 
-/// Goes to the coordinate right above a voxel.
+/// Moves to the coordinate right above a voxel.
 fn go_above(tape: &mut Tape, c: Coord) -> Result<(), Memory>
     requires { CanGoAbove tape.old c }
     ensures { OnOk result
@@ -36,7 +36,7 @@ fn go_above(tape: &mut Tape, c: Coord) -> Result<(), Memory>
     go(tape, Coord { y: c.y + 1, ..c })
 }
 
-/// Goes to the coordinate right above a voxel, and fills it.
+/// Moves to the coordinate right above a voxel, and fills it.
 fn fill(tape: &mut Tape, c: Coord) -> Result<(), Memory>
     requires { CanFill tape.old c }
     ensures { OnOk result
@@ -48,7 +48,7 @@ fn fill(tape: &mut Tape, c: Coord) -> Result<(), Memory>
     tape.fill(Near::down())
 }
 
-/// Fills what the sweep visits.
+/// Fills the voxels that the sweep visits.
 pub fn build(tape: &mut Tape, sweep: &mut Sweep, target: &Planes) -> Result<(), Memory>
     requires legal { IsLegal target.now }
     requires supported { FirstUnsupported target.now None }

@@ -1,21 +1,21 @@
-//! Why a model is not planned.
+//! The reasons for having no plan.
 ghost use Rattle.std.specs.Prelude.{◌≡◌};
 ghost use Rattle.low_planner.specs.declared.fault.LowFault.TheVariants.{Memory};
 ghost use Rattle.low_planner.specs.Fault.{low_fault_number};
 
 use vox_geom::{Coord, Memory};
 
-/// Why there is no plan.
+/// The reason for having no plan.
 #[derive(Clone, Copy, PartialEq, Eq, Debug)]
 pub enum LowFault {
     /// The least voxel of all parts that are unsupported.
     Unsupported { at: Coord },
-    /// There was no memory.
+    /// Out of memory.
     Memory,
 }
 
 impl LowFault {
-    /// The number by which the refusal is printed.
+    /// Returns the number of the refusal in printed lines.
     pub fn number(self) -> u8
         ensures { result ≡ low_fault_number self }
     {

@@ -10,7 +10,7 @@ pub fn one_unsupported()
     ensures { (m : Matrix) (a b : Option Coord) → FirstUnsupported m a → FirstUnsupported m b → a ≡ b }
 {}
 
-/// Worked examples of parts that are supported, and of the least voxel of those that are not.
+/// Worked examples of supported parts, and of the least voxel of unsupported ones.
 pub fn worked_parts()
     ensures { WorkedParts }
 {}

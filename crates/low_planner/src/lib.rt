@@ -1,5 +1,5 @@
-//! A planner with one bot, which builds a model under Low all the time: layer by layer from the floor up, from one layer
-//! above, and each part of a layer along its voxels, from one that has a full voxel right below it.
+//! A planner for one bot, which builds a model under Low all the time: layer by layer from the floor up, from one layer above.
+//! It builds each part of a layer along its voxels, starting at one that has a full voxel right below it.
 #![tactic(auto)]
 
 mod build;

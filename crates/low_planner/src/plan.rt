@@ -20,7 +20,7 @@ use std::alloc::Global;
 use vox_geom::{Coord, Memory};
 use vox_planes::Planes;
 
-/// The tape before the first command, over the empty model of this resolution.
+/// Returns the tape before the first command, over the empty model of this resolution.
 fn start(alloc: Global, target: &Planes) -> Result<Tape, Memory>
     ensures { IfOk result (λ t. t ≡ starting (empty target.now.resolution) light_profile) }
 {
@@ -28,7 +28,7 @@ fn start(alloc: Global, target: &Planes) -> Result<Tape, Memory>
     Tape::start_as(alloc, nothing, Profile::light())
 }
 
-/// The tape once all is built.
+/// Returns the tape after building.
 fn erect(alloc: Global, target: &Planes) -> Result<Tape, Memory>
     requires legal { IsLegal target.now }
     requires supported { FirstUnsupported target.now None }
@@ -40,7 +40,7 @@ fn erect(alloc: Global, target: &Planes) -> Result<Tape, Memory>
     Ok(tape)
 }
 
-/// The plan, once the bot is home.
+/// Returns the plan, once the bot is home.
 fn close(mut tape: Tape, target: &Planes) -> Result<Plan, Memory>
     requires finished { IsFinished target.now tape }
     requires legal { IsLegal target.now }
@@ -59,9 +59,12 @@ fn close(mut tape: Tape, target: &Planes) -> Result<Plan, Memory>
     Ok(tape.finish())
 }
 
-/// A plan that builds the target, by one bot under Low all the time. The target is legal. Its commands have no Flip and no
-/// Fission, so at no time is more than one bot active, and at most 4 * full + r * r * r + 200 steps at resolution r, where full is the number of full voxels; where the
-/// target is empty, they are a Halt alone. There is none exactly where some part is unsupported.
+/// Plans for one bot that builds the target, which is legal, under Low all the time. Returns `Unsupported` exactly if some part is
+/// unsupported.
+///
+/// The commands have no Flip and no Fission, so at no time is more than one bot active. They take at most
+/// 4 * full + r * r * r + 200 steps at resolution r, full being the number of full voxels. If the target is empty, they are a
+/// Halt alone.
 pub fn plan_low(alloc: Global, target: &Planes) -> Result<Plan, LowFault>
     requires { IsLegal target.now }
     ensures unsupported { IfErr result (HasCause target.now) }

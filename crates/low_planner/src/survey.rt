@@ -1,4 +1,4 @@
-//! Whether each part of each layer is supported.
+//! Checks whether each part of each layer is supported.
 ghost use Rattle.std.specs.Prelude.{◌≡◌, [], IfOk, OnOk};
 ghost use Rattle.low_planner.specs.Supported.{FirstUnsupported};
 ghost use Rattle.low_planner.specs.Sweep.{AreAllSwept, IsSweep};
@@ -9,7 +9,7 @@ use std::alloc::Global;
 use vox_geom::{Coord, Memory};
 use vox_planes::Planes;
 
-/// Visits all voxels of all parts that are supported.
+/// Visits all voxels of all supported parts.
 fn finish(sweep: &mut Sweep, target: &Planes) -> Result<(), Memory>
     requires { IsSweep target.now sweep.old }
     ensures sweep { OnOk result (IsSweep target.now sweep.new) }
@@ -20,7 +20,7 @@ fn finish(sweep: &mut Sweep, target: &Planes) -> Result<(), Memory>
     Ok(())
 }
 
-/// The least voxel of all parts that are unsupported: `None` where each part is supported.
+/// Returns the least voxel of all unsupported parts, or `None` if each part is supported.
 pub fn first_unsupported(alloc: Global, target: &Planes) -> Result<Option<Coord>, Memory>
     ensures { IfOk result (FirstUnsupported target.now) }
 {

@@ -13,18 +13,18 @@ use vox_geom::{Coord, Memory, Region};
 use vox_planes::Planes;
 use voxel_reads::{first_full, is_full};
 
-/// What a sweep comes to next.
+/// The next visit of a sweep.
 #[derive(Clone, Copy, Debug)]
 pub enum Visit {
     /// The first voxel of a part: it has a full voxel right below it, or is on the floor.
     First(Coord),
-    /// A voxel beside the last one of the trail.
+    /// A neighbor of the last voxel of the trail.
     Onward(Coord),
-    /// The voxel before the last one of the trail, which is left.
+    /// The voxel before the last one of the trail; the trail gets shorter.
     Back(Coord),
 }
 
-/// A sweep: the voxels that were not visited yet, the trail through the part that is visited, and where the last part began.
+/// A sweep: the voxels not visited yet, the trail through the current part, and the start of that part.
 #[derive(Drop)]
 pub struct Sweep {
     pub remaining: Planes,
@@ -32,7 +32,7 @@ pub struct Sweep {
     pub at: Coord,
 }
 
-/// Whether a part may begin at the voxel: it is on the floor, or the voxel right below it is full.
+/// Returns whether a part may begin at the voxel: it is on the floor, or the voxel right below it is full.
 fn rests(target: &Planes, c: Coord) -> bool
     requires { IsInSpace target.now.resolution c }
     ensures { result ≡ rests_of target.now c }
@@ -40,7 +40,7 @@ fn rests(target: &Planes, c: Coord) -> bool
     c.y == 0 || is_full(target, Coord { y: c.y - 1, ..c })
 }
 
-/// The first full voxel of a row, from a coordinate on.
+/// Returns the first full voxel of a row, from a coordinate on.
 fn next_full(planes: &Planes, from: Coord) -> Option<Coord>
     requires { IsInSpace planes.now.resolution from }
     ensures { MatchOption result (IsVoidRow planes.now from) (IsNextFull planes.now from) }
@@ -49,7 +49,7 @@ fn next_full(planes: &Planes, from: Coord) -> Option<Coord>
     first_full(planes, &Region::of(from, Coord { z: end, ..from }))
 }
 
-/// Where the next row begins.
+/// Returns the start of the next row.
 fn next_row(from: Coord, resolution: u16) -> Coord
     requires x { from.x < resolution }
     requires y { from.y < resolution }
@@ -72,7 +72,7 @@ fn next_row(from: Coord, resolution: u16) -> Coord
 }
 
 impl Sweep {
-    /// A sweep that has visited nothing.
+    /// Returns a sweep that has visited nothing.
     pub fn begin(alloc: Global, target: &Planes) -> Result<Sweep, Memory>
         ensures sweep { IfOk result (IsSweep target.now) }
         ensures remaining { IfOk result (λ s. s.remaining ≡ target.now) }
@@ -86,7 +86,7 @@ impl Sweep {
         })
     }
 
-    /// The last coordinate of the trail.
+    /// Returns the last coordinate of the trail.
     fn last(&self) -> Option<Coord>
         ensures { MatchOption result (self.now.trail.items ≡ [])
             (λ c. (most : List Coordinate) × (self.now.trail.items ≡ most ++ c ∷ [])) }
@@ -94,7 +94,7 @@ impl Sweep {
         self.trail.last().copied()
     }
 
-    /// Leaves the last coordinate of the trail.
+    /// Removes the last coordinate of the trail.
     fn shorten(&mut self)
         ensures trail { (most : List Coordinate) (c : Coordinate) → self.old.trail.items ≡ most ++ c ∷ []
             → self.new.trail.items ≡ most }
@@ -104,7 +104,7 @@ impl Sweep {
         let _ = self.trail.pop();
     }
 
-    /// Whether the voxel is there and was not visited.
+    /// Returns whether the voxel is full and was not visited.
     fn is_left(&self, x: u16, y: u16, z: u16) -> bool
         ensures { result ≡ is_full_of self.now.remaining (coord x y z) }
     {
@@ -112,7 +112,7 @@ impl Sweep {
         x < r && y < r && z < r && is_full(&self.remaining, Coord { x, y, z })
     }
 
-    /// A voxel that was not visited, beside a coordinate in its layer.
+    /// Returns a voxel that was not visited, next to a coordinate in its layer.
     fn beside(&self, c: Coord) -> Option<Coord>
         requires { IsInSpace self.now.remaining.resolution c }
         ensures { MatchOption result ((d : Coordinate) → AreBesideInLayer c d → is_full_of self.now.remaining d ≡ false)
@@ -135,7 +135,7 @@ impl Sweep {
         None
     }
 
-    /// Visits a voxel, which becomes the last one of the trail.
+    /// Visits a voxel, and appends it to the trail.
     fn take(&mut self, c: Coord) -> Result<(), Memory>
         requires { IsTrue (is_full_of self.old.remaining c) }
         ensures takes { OnOk result (TakesVoxel self.old self.new c) }
@@ -149,7 +149,7 @@ impl Sweep {
         Ok(())
     }
 
-    /// The first voxel of a row, from a coordinate on, that was not visited and at which a part may begin.
+    /// Returns the first voxel of a row, from a coordinate on, that was not visited and at which a part may begin.
     fn start_in_row(&self, target: &Planes, from: Coord) -> Option<Coord>
         requires within { IsInSpace target.now.resolution from }
         requires same { self.now.remaining.resolution ≡ target.now.resolution }
@@ -170,7 +170,7 @@ impl Sweep {
         None
     }
 
-    /// The next voxel that was not visited and at which a part may begin.
+    /// Returns the next voxel that was not visited and at which a part may begin.
     fn start(&self, target: &Planes) -> Option<Coord>
         requires same { self.now.remaining.resolution ≡ target.now.resolution }
         requires place { IsInSpace target.now.resolution self.now.at }
@@ -206,7 +206,7 @@ impl Sweep {
         }
     }
 
-    /// Visits the next voxel, or goes back on the trail: `None` once all is visited that can be.
+    /// Visits the next voxel, or goes back on the trail. Returns `None` once all reachable voxels are visited.
     pub fn next(&mut self, target: &Planes) -> Result<Option<Visit>, Memory>
         requires { IsSweep target.now self.old }
         ensures sweep { IfOk result (λ _. IsSweep target.now self.new) }

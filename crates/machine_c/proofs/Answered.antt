@@ -1,4 +1,4 @@
--- Commands that bytes spell, and what a step of them comes to.
+-- Commands that bytes spell, and the outcome of a step of them.
 use Rattle.std.proofs.Common.{◌≡◌, ℕ, List, ◌∷◌, ◌∙◌}
 use Rattle.nano_spec.specs.declared.commands.Command.{Command}
 use Rattle.nano_spec.specs.Cutting.{Cutting}

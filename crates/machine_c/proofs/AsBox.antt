@@ -1,4 +1,4 @@
--- A handle that has a machine, and its parts, own what a box of the machine owns.
+-- A handle with a machine, and its parts, own the same as a box of the machine.
 use mir.Syntax.{impl, tnil, dnil}
 use mathlib.Core.List.{[]}
 use denote.RattleType.{RattleType}

@@ -1,4 +1,4 @@
--- A trace that is played step by step.
+-- A trace played step by step.
 use Rattle.std.proofs.Common.{◌≡◌, ℕ, ◌+◌, ◌-◌, ◌≤◌, ◌<◌, refl, sym, ap, subst, inl, inr, arith, List, [], length, take, drop}
 use Rattle.std.specs.Prelude.{Option, Some, None, Err}
 use Rattle.std.proofs.Math.Seq.{take-add}
@@ -18,7 +18,7 @@ use Rattle.machine_c.specs.declared.stepping.StepAnswer.{StepAnswer}
 use Rattle.machine_c.specs.declared.stepping.StepAnswer.TheVariants.{Made, Refused, Unread}
 use Rattle.machine_c.specs.Playing.{ArePlayed, EndsPlay, IsFrontMade, IsPlayed, StopsAt, bad_byte_of, none, one_more, refused_at}
 
--- a step that is refused leaves the machine as it was
+-- a refused step leaves the machine as it was
 pub stays_so : (old new : Kept) (commands : List Command) (f : NoStep) → Tries old commands new (Err f) → new ≡ old
 stays_so old new commands (no_step.Broken b) h = h.0
 stays_so old new commands no_step.Ended h = h.0
@@ -26,7 +26,7 @@ stays_so old new commands no_step.Count h = h.0
 stays_so old new commands no_step.Long h = h.0
 stays_so old new commands no_step.Memory h = h
 
--- steps are made of the first bytes of a trace, so many
+-- `made` steps are made of the first `used` bytes of a trace
 pub record HavePlayed (old : Kept) (trace : List ℕ) (most : ℕ) (new : Kept) (made used : ℕ) : Type 0 where
   pub few : made ≤ most
   pub within : used ≤ length trace
@@ -35,7 +35,7 @@ pub record HavePlayed (old : Kept) (trace : List ℕ) (most : ℕ) (new : Kept) 
 pub none_played : (old : Kept) (trace : List ℕ) (most : ℕ) → HavePlayed old trace most old 0 0
 none_played old trace most = record { few = omega arith; within = omega arith; steps = none refl refl refl }
 
--- a step more, of what is left of the trace
+-- one more step, of the rest of the trace
 pub played_more : (old : Kept) (trace : List ℕ) (most : ℕ) (between new : Kept) (made used size : ℕ)
     → HavePlayed old trace most between made used → made < most
     → IsFrontMade between (take (length trace - used) (drop used trace)) size new

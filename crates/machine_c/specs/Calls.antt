@@ -1,4 +1,4 @@
--- What the calls do to a handle, and what they return.
+-- The effect of the calls on a handle, and their results.
 use Rattle.std.specs.Prelude.{◌≡◌, ℕ, ◌≤◌, ◌<◌, ◌⊎◌, Bool, true, false, List, [], ◌++◌, length, map, drop, Option, Some, None, Result, Ok, Err}
 use Rattle.vox_geom.specs.declared.coordinate.Coord.{Coord}
 use Rattle.vox_geom.specs.Space.{IsInSpace}
@@ -52,7 +52,7 @@ abbrev pub refusal_by : Result Kept ModelFault → ModelTold
 refusal_by (Ok k) = number_refusal 0 0 0
 refusal_by (Err fault) = fault_told fault
 
--- a machine is started over the model that the bytes say, unless `notes` is more than are kept
+-- a machine starts over the model that the bytes hold, unless `notes` is above the maximum
 abbrev pub IsStarted : List ℕ → Bool → ℕ → Option Kept → Option Kept → ModelTold → ℕ → Type 0
 IsStarted bytes light notes old new told status =
     ((4096 < notes) × (new ≡ old) × (told ≡ number_refusal 0 0 0) × (status ≡ ARGUMENT))
@@ -60,14 +60,14 @@ IsStarted bytes light notes old new told status =
     × (answer : Result Kept ModelFault) × OpensFile bytes (profile_by light) notes answer
     × Starts old new status answer × (told ≡ refusal_by answer))
 
--- a machine is started over the empty model, unless `notes` is more than are kept, or there is no such model
+-- a machine starts over the empty model, unless `notes` is above the maximum, or there is no such model
 abbrev pub IsStartedEmpty : ℕ → Bool → ℕ → Option Kept → Option Kept → ℕ → Type 0
 IsStartedEmpty r light notes old new status =
     (((4096 < notes) ⊎ (r ≡ 0) ⊎ (400 < r)) × (new ≡ old) × (status ≡ ARGUMENT)) ⊎ ((notes ≤ 4096) × (1 ≤ r) × (r ≤ 400)
     × (answer : Result Kept ModelFault) × Opens (empty r) (profile_by light) notes answer
     × Starts old new status answer)
 
--- a copy is in the machine's state, and no step can be taken back in it
+-- a copy has the machine's state, and can undo no step
 abbrev pub IsCopied : Option Kept → Option Kept → Option Kept → ℕ → Type 0
 IsCopied None before after status = (after ≡ before) × (status ≡ NO_MACHINE)
 IsCopied (Some k) before after status =
@@ -105,13 +105,13 @@ abbrev pub rule_told : StepAnswer → BrokenTold
 rule_told (Refused (no_step.Broken b)) = broken_told b
 rule_told _ = none_broken
 
--- the first byte of the command that is bad or cut
+-- the first byte of the bad or cut command
 abbrev pub offset_by : StepAnswer → ℕ
 offset_by (Unread (trace_fault.Refused (Bad offset))) = offset
 offset_by (Unread (trace_fault.Refused (Cut offset))) = offset
 offset_by _ = 0
 
--- how many voxels a step changes
+-- the number of voxels that a step changes
 abbrev pub changed_by : StepAnswer → ℕ
 changed_by (Made made) = made.changed
 changed_by _ = 0
@@ -121,7 +121,7 @@ abbrev pub high_of : Harmonics → ℕ
 high_of Low = 0
 high_of High = 1
 
--- the machine after a step, and why the step was refused
+-- the machine after a step, and the reason for a refusal
 abbrev pub step_told : Kept → StepAnswer → StepTold
 step_told k answer =
     record {
@@ -134,7 +134,7 @@ step_told k answer =
       changed = changed_by answer;
     }
 
--- a step is made of the bytes
+-- a step of the bytes
 abbrev pub IsStepped : Option Kept → List ℕ → Option Kept → StepTold → StepTold → ℕ → Type 0
 IsStepped None bytes new before after status = (new ≡ None) × (after ≡ before) × (status ≡ NO_MACHINE)
 IsStepped (Some old) bytes new before after status =
@@ -146,13 +146,13 @@ abbrev pub status_of_undo : Bool → ℕ
 status_of_undo true = DONE
 status_of_undo false = NO_NOTE
 
--- the last step is taken back
+-- the last step is undone
 abbrev pub IsUndone : Option Kept → Option Kept → ℕ → Type 0
 IsUndone None new status = (new ≡ None) × (status ≡ NO_MACHINE)
 IsUndone (Some old) new status =
     (k : Kept) × (new ≡ Some k) × (answer : Bool) × Undoes old k answer × (status ≡ status_of_undo answer)
 
--- ---- what calls return
+-- ---- the results of calls
 
 -- the machine's state in numbers
 abbrev pub machine_told : Kept → MachineTold
@@ -170,14 +170,14 @@ abbrev pub IsMachineTold : Option Kept → MachineTold → MachineTold → ℕ �
 IsMachineTold None before after status = (after ≡ before) × (status ≡ NO_MACHINE)
 IsMachineTold (Some k) before after status = (after ≡ machine_told k) × (status ≡ DONE)
 
--- what a call gives: all of it to the front of the buffer, or only its size if the buffer is too small
+-- all elements go to the front of the buffer, or only the size is returned if the buffer is too small
 abbrev pub GivesAll : {X : Type 0} → List X → List X → List X → ℕ → ℕ → Type 0
 GivesAll given before after count status =
     (count ≡ length given)
     × (((length given ≤ length before) × (after ≡ given ++ drop (length given) before) × (status ≡ DONE))
     ⊎ ((length before < length given) × (after ≡ before) × (status ≡ TOO_SMALL)))
 
--- nothing is given: the buffer is as it was, and the count is 0
+-- the buffer is unchanged, and the count is 0
 abbrev pub GivesNothing : {X : Type 0} → List X → List X → ℕ → Type 0
 GivesNothing before after count = (after ≡ before) × (count ≡ 0)
 
@@ -215,7 +215,7 @@ IsLevelTold (Some k) c before after status =
     (answer : Result (Option ℕ) NoLevel) × TellsLevel k.state.matrix c answer
     × (after ≡ level_by before answer) × (status ≡ status_of_level answer)
 
--- how many voxels are full
+-- the number of full voxels
 abbrev pub IsCounted : Option Kept → ℕ → ℕ → ℕ → Type 0
 IsCounted None before after status = (after ≡ before) × (status ≡ NO_MACHINE)
 IsCounted (Some k) before after status = (after ≡ full_count k.state.matrix) × (status ≡ DONE)

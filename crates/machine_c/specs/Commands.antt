@@ -1,4 +1,4 @@
--- How many commands a trace has.
+-- The number of commands of a trace.
 use Rattle.std.specs.Prelude.{◌≡◌, ℕ, List, length, Result, Ok, Err}
 use Rattle.nano_spec.specs.declared.commands.Command.{Command}
 use Rattle.nano_spec.specs.Cutting.{Cutting}
@@ -13,7 +13,7 @@ abbrev pub CountsCommands : List ℕ → Result ℕ TraceFault → Type 0
 CountsCommands bytes (Ok count) = (commands : List Command) × Cutting bytes commands × (count ≡ length commands)
 CountsCommands bytes (Err fault) = Decodes bytes (Err fault)
 
--- the status, the number, and the first byte of the command that is bad or cut
+-- the status, the number, and the first byte of the bad or cut command
 abbrev pub status_of_commands : Result ℕ TraceFault → ℕ
 status_of_commands (Ok count) = DONE
 status_of_commands (Err (trace_fault.Refused refusal)) = COMMANDS
@@ -28,7 +28,7 @@ offset_of (Err (trace_fault.Refused (Bad offset))) = offset
 offset_of (Err (trace_fault.Refused (Cut offset))) = offset
 offset_of _ = 0
 
--- the call returns how many commands the bytes of a trace spell
+-- the call returns the number of commands that the bytes of a trace spell
 abbrev pub AreCommandsTold : List ℕ → ℕ → ℕ → ℕ → Type 0
 AreCommandsTold bytes count offset status =
     (answer : Result ℕ TraceFault) × CountsCommands bytes answer

@@ -1,4 +1,4 @@
--- A machine's matrix beside a target.
+-- Comparison of a machine's matrix with a target.
 use Rattle.std.specs.Prelude.{◌≡◌, ◌≢◌, ℕ, List, Option, Some, None, Ok, Err}
 use Rattle.nano_spec.specs.Matrix.{Matrix}
 use Rattle.nano_spec.specs.Model.{model}
@@ -13,7 +13,7 @@ use Rattle.machine_c.specs.declared.told.ModelTold.{ModelTold}
 use Rattle.machine_c.specs.declared.told.PlaceTold.{PlaceTold}
 use Rattle.machine_c.specs.Told.{fault_told, number_refusal}
 
--- what the bytes of a target come to beside a matrix; the target need not be legal
+-- the comparison of a matrix with the bytes of a target, which need not be legal
 abbrev pub Compares : Kept → List ℕ → TargetAnswer → Type 0
 Compares k bytes Same =
     (m : Matrix) × (model bytes ≡ Ok m) × (m.resolution ≡ k.state.matrix.resolution)
@@ -40,7 +40,7 @@ abbrev pub refusal_of_target : TargetAnswer → ModelTold
 refusal_of_target (Refused fault) = fault_told fault
 refusal_of_target _ = number_refusal 0 0 0
 
--- a target is compared with the matrix of a machine
+-- the matrix of a machine is compared with a target
 abbrev pub IsCompared : Option Kept → List ℕ → PlaceTold → PlaceTold → ModelTold → ModelTold → ℕ → Type 0
 IsCompared None bytes before after refusal_before refusal status =
     (after ≡ before) × (refusal ≡ refusal_before) × (status ≡ NO_MACHINE)

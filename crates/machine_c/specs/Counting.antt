@@ -1,4 +1,4 @@
--- How many voxels of a machine's matrix differ from a target, counted at once or kept.
+-- The number of voxels of a machine's matrix that differ from a target, counted by a call or kept.
 use Rattle.std.specs.Prelude.{◌≡◌, ◌≢◌, ◌⊎◌, ℕ, List, Option, Some, None, Ok, Err}
 use Rattle.nano_spec.specs.Matrix.{Matrix}
 use Rattle.nano_spec.specs.Model.{model}
@@ -12,7 +12,7 @@ use Rattle.machine_c.specs.declared.status.TheConstants.{DONE, MEMORY, MODEL, NO
 use Rattle.machine_c.specs.declared.told.ModelTold.{ModelTold}
 use Rattle.machine_c.specs.Told.{fault_told, number_refusal}
 
--- what is counted of the bytes of a target beside a matrix; the target need not be legal
+-- the differences of a matrix and the bytes of a target, which need not be legal
 abbrev pub Counts : Kept → List ℕ → CountAnswer → Type 0
 Counts k bytes (Counted count) =
     (m : Matrix) × (model bytes ≡ Ok m) × (m.resolution ≡ k.state.matrix.resolution)
@@ -35,7 +35,7 @@ abbrev pub refusal_of_count : CountAnswer → ModelTold
 refusal_of_count (Refused fault) = fault_told fault
 refusal_of_count _ = number_refusal 0 0 0
 
--- the call returns at how many coordinates the matrix of a machine and a target differ
+-- the call returns the number of coordinates at which the matrix of a machine and a target differ
 abbrev pub AreDifferencesTold : Option Kept → List ℕ → ℕ → ℕ → ModelTold → ModelTold → ℕ → Type 0
 AreDifferencesTold None bytes before after refusal_before refusal status =
     (after ≡ before) × (refusal ≡ refusal_before) × (status ≡ NO_MACHINE)
@@ -43,7 +43,7 @@ AreDifferencesTold (Some k) bytes before after refusal_before refusal status =
     (answer : CountAnswer) × Counts k bytes answer
     × (after ≡ differences_by answer) × (refusal ≡ refusal_of_count answer) × (status ≡ status_of_count answer)
 
--- the model that the bytes say is the machine's target, if its differences were counted; else the machine is as it was
+-- the model that the bytes hold is the machine's target, if its differences were counted; otherwise the machine is unchanged
 abbrev pub KeepsTarget : Kept → List ℕ → Kept → CountAnswer → Type 0
 KeepsTarget old bytes new (Counted count) =
     (m : Matrix) × (model bytes ≡ Ok m) × (new ≡ record old { target = Some m })
@@ -57,7 +57,7 @@ IsTargetSet (Some old) bytes new before after refusal_before refusal status =
     (k : Kept) × (new ≡ Some k) × (answer : CountAnswer) × Counts old bytes answer × KeepsTarget old bytes k answer
     × (after ≡ differences_by answer) × (refusal ≡ refusal_of_count answer) × (status ≡ status_of_count answer)
 
--- the call returns at how many coordinates the matrix of a machine differs from its target, if it has one
+-- the call returns the number of coordinates at which the matrix of a machine differs from its target, if it has one
 abbrev pub IsRemainingTold : Option Kept → ℕ → ℕ → ℕ → Type 0
 IsRemainingTold None before after status = (after ≡ before) × (status ≡ NO_MACHINE)
 IsRemainingTold (Some k) before after status =

@@ -1,4 +1,4 @@
--- Steps that are judged and not made.
+-- Judging steps without making them.
 use Rattle.std.specs.Prelude.{◌≡◌, ◌==◌, ℕ, ℤ, List, length, Option, Some, None}
 use Rattle.nano_spec.specs.declared.commands.Command.{Command}
 use Rattle.nano_spec.specs.declared.system.Harmonics.{Harmonics}
@@ -9,16 +9,14 @@ use Rattle.machine_c.specs.declared.stepping.StepAnswer.TheVariants.{Made}
 use Rattle.machine_c.specs.declared.told.JudgedTold.{JudgedTold}
 use Rattle.machine_c.specs.Calls.{ComesTo, StepComesTo, bit_of, changed_by, high_of, offset_by, rule_told, status_of_step}
 
--- what a step of commands, or of the bytes of commands, would come to: the same as one that is made, whichever machine
--- that would leave
+-- the outcome of a step if the machine made it: a step of commands, or of the bytes that spell them
 abbrev pub WouldStep : Kept → List Command → StepAnswer → Type 0
 WouldStep k commands answer = (next : Kept) × StepComesTo k commands next answer
 
 abbrev pub WouldComeTo : Kept → List ℕ → StepAnswer → Type 0
 WouldComeTo k bytes answer = (next : Kept) × ComesTo k bytes next answer
 
--- the energy, the active bots and the harmonics that the machine would have, which a step that would be refused leaves as
--- they are
+-- the energy, the active bots and the harmonics after the step; a refused step changes none of them
 abbrev pub energy_by : ℤ → StepAnswer → ℤ
 energy_by energy (Made made) = made.energy
 energy_by energy _ = energy
@@ -31,12 +29,12 @@ abbrev pub harmonics_by : Harmonics → StepAnswer → Harmonics
 harmonics_by harmonics (Made made) = made.harmonics
 harmonics_by harmonics _ = harmonics
 
--- 1 if the step would leave no bot
+-- 1 if no bot is left after the step, otherwise 0
 abbrev pub halts_by : StepAnswer → ℕ
 halts_by (Made made) = bit_of (made.active == 0)
 halts_by _ = 0
 
--- what a judgement of a step returns
+-- the results of judging a step
 abbrev pub judged_told : Kept → StepAnswer → JudgedTold
 judged_told k answer =
     record {
@@ -49,7 +47,7 @@ judged_told k answer =
       changed = changed_by answer;
     }
 
--- a step of the bytes is judged
+-- the call judges the step that the bytes spell; without a machine it changes nothing
 abbrev pub IsJudged : Option Kept → List ℕ → JudgedTold → JudgedTold → ℕ → Type 0
 IsJudged None bytes before after status = (after ≡ before) × (status ≡ NO_MACHINE)
 IsJudged (Some k) bytes before after status =

@@ -1,4 +1,4 @@
--- What a handle owns.
+-- The ownership of a handle.
 use Rattle.std.specs.Prelude.{◌≡◌}
 use Rattle.kept_machine.specs.Kept.{Kept}
 use base.Fml.{Fml, ftrue, fex}

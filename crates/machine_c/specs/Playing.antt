@@ -1,4 +1,4 @@
--- Traces that are played on a machine.
+-- Playing traces on a machine.
 use Rattle.std.specs.Prelude.{◌≡◌, ◌≢◌, ℕ, ◌+◌, ◌-◌, ◌≤◌, ◌<◌, ◌⊎◌, List, [], ◌++◌, length, take, drop, Option, Some, None, Err, ⊤}
 use Rattle.nano_spec.specs.declared.commands.Command.{Command}
 use Rattle.nano_spec.specs.Cutting.{Cutting, Decoding}
@@ -19,24 +19,24 @@ use Rattle.machine_c.specs.declared.told.PlayedTold.{PlayedTold}
 use Rattle.machine_c.specs.Calls.{ComesTo, high_of, rule_told, status_of_step}
 use Rattle.machine_c.specs.Told.{none_broken}
 
--- ---- the steps that are made
+-- ---- the made steps
 
--- so many steps are made of the bytes, one after another: each is made, as a step is, of the bytes behind those of the
--- steps before it
+-- this number of steps is made of the bytes, one after another, each of the bytes behind those of the steps before
+-- it
 pub data ArePlayed (old : Kept) : List ℕ → ℕ → Kept → Type 0 where
   none : {bytes : List ℕ} {count : ℕ} {new : Kept} → bytes ≡ [] → count ≡ 0 → new ≡ old → ArePlayed old bytes count new
   one_more : {bytes : List ℕ} {count : ℕ} {new : Kept} (before here : List ℕ) (others : ℕ) (between : Kept)
       (made : StepDone) → ArePlayed old before others between → ComesTo between here new (Made made)
       → bytes ≡ before ++ here → count ≡ others + 1 → ArePlayed old bytes count new
 
--- a step is made of the first bytes, so many
+-- a step is made of the first `size` bytes
 abbrev pub IsFrontMade : Kept → List ℕ → ℕ → Kept → Type 0
 IsFrontMade old bytes size new =
     (size ≤ length bytes) × (made : StepDone) × ComesTo old (take size bytes) new (Made made)
 
 -- ---- the step that is not made
 
--- the commands of the next step of so many bots, which begins the bytes: one for each bot, unless the bytes end before
+-- the commands of the next step of `active` bots, at the front of the bytes: one for each bot, unless the bytes end before
 pub record IsNextStep (bytes : List ℕ) (active : ℕ) (here : List ℕ) (commands : List Command) : Type 0 where
   pub cut : Cutting here commands
   pub few : length commands ≤ active
@@ -44,19 +44,19 @@ pub record IsNextStep (bytes : List ℕ) (active : ℕ) (here : List ℕ) (comma
   pub follows : bytes ≡ here ++ rest
   pub whole : (length commands ≡ active) ⊎ (rest ≡ [])
 
--- the first byte of a command that is bad or cut
+-- the first byte of a bad or cut command
 abbrev pub refused_at : TraceRefusal → ℕ
 refused_at (Bad offset) = offset
 refused_at (Cut offset) = offset
 
--- the bytes have a command that is bad or cut before each of so many bots has its own
+-- the bytes have a bad or cut command before each of `active` bots has its own
 abbrev pub IsUnread : List ℕ → ℕ → TraceFault → Type 0
 IsUnread bytes active (trace_fault.Refused refusal) =
     Decoding bytes (Err (why_no_trace refusal))
     × (before : List Command) × Cutting (take (refused_at refusal) bytes) before × (length before < active)
 IsUnread bytes active trace_fault.Memory = ⊤
 
--- why the step that begins the bytes is not made: a step of its commands is refused, or its bytes are no commands
+-- the reason why the step at the front of the bytes is not made: it is refused, or its bytes are no commands
 abbrev pub StopsAt : Kept → List ℕ → StepAnswer → Type 0
 StopsAt k bytes (Made made) = ⊥
 StopsAt k bytes (Refused fault) =
@@ -66,20 +66,20 @@ StopsAt k bytes (Unread fault) = IsUnread bytes (length k.state.bots) fault
 
 -- ---- a whole trace
 
--- why no more steps are made, of those that are left to make and of the bytes that are left: none are left, or the next
--- step is not made
+-- the reason why no more steps are made: no step or byte is left, or the next step is not
+-- made
 abbrev pub EndsPlay : Kept → ℕ → List ℕ → Option StepAnswer → Type 0
 EndsPlay k left rest None = (left ≡ 0) ⊎ (rest ≡ [])
 EndsPlay k left rest (Some answer) = (1 ≤ left) × (rest ≢ []) × StopsAt k rest answer
 
--- a trace is played: at most so many steps are made, of its first bytes
+-- a played trace: at most `most` steps are made, of its first bytes
 pub record IsPlayed (old : Kept) (trace : List ℕ) (most : ℕ) (new : Kept) (played : Played) : Type 0 where
   pub few : played.made ≤ most
   pub within : played.used ≤ length trace
   pub steps : ArePlayed old (take played.used trace) played.made new
   pub ends : EndsPlay new (most - played.made) (drop played.used trace) played.stop
 
--- the status, the broken rule, and the first byte of the command that is bad or cut, behind so many bytes
+-- the status, the broken rule, and the first byte of the bad or cut command, counted from the beginning of the trace
 abbrev pub status_of_play : Option StepAnswer → ℕ
 status_of_play None = DONE
 status_of_play (Some answer) = status_of_step answer
@@ -92,7 +92,7 @@ abbrev pub bad_byte_of : ℕ → Option StepAnswer → ℕ
 bad_byte_of used (Some (Unread (trace_fault.Refused refusal))) = used + refused_at refusal
 bad_byte_of used _ = 0
 
--- the machine after a trace, and why the next step was refused
+-- the machine after a trace, and the reason why the next step was refused
 abbrev pub played_told : Kept → Played → PlayedTold
 played_told k played =
     record {
@@ -106,7 +106,7 @@ played_told k played =
       broken = rule_of_stop played.stop;
     }
 
--- a trace is played on the machine of a handle
+-- a trace played on the machine of a handle
 abbrev pub IsTracePlayed : Option Kept → List ℕ → ℕ → Option Kept → PlayedTold → PlayedTold → ℕ → Type 0
 IsTracePlayed None trace most new before after status = (new ≡ None) × (after ≡ before) × (status ≡ NO_MACHINE)
 IsTracePlayed (Some old) trace most new before after status =

@@ -1,4 +1,4 @@
--- What calls return, in numbers.
+-- The results of calls, in numbers.
 use Rattle.std.specs.Prelude.{ℕ}
 use Rattle.vox_geom.specs.declared.coordinate.Coord.{Coord}
 use Rattle.nano_spec.specs.declared.outcomes.Broken.{Broken}
@@ -12,11 +12,11 @@ use Rattle.machine_c.specs.declared.told.BotTold.{BotTold}
 use Rattle.machine_c.specs.declared.told.BrokenTold.{BrokenTold}
 use Rattle.machine_c.specs.declared.told.ModelTold.{ModelTold}
 
--- a rule that is broken
+-- a broken rule
 abbrev pub broken_told : Broken → BrokenTold
 broken_told b = record { rule = rule_number b.rule; step = b.step; bid = b.bid; x = b.at.x; y = b.at.y; z = b.at.z }
 
--- no rule is
+-- no broken rule
 abbrev pub none_broken : BrokenTold
 none_broken = record { rule = 0; step = 0; bid = 0; x = 0; y = 0; z = 0 }
 
@@ -24,15 +24,15 @@ none_broken = record { rule = 0; step = 0; bid = 0; x = 0; y = 0; z = 0 }
 abbrev pub bot_told : Bot → BotTold
 bot_told b = record { seeds = b.seeds; bid = b.bid; x = b.pos.x; y = b.pos.y; z = b.pos.z }
 
--- a refusal that has numbers, and one that has a voxel
+-- a refusal with numbers, and one with a voxel
 abbrev pub number_refusal : ℕ → ℕ → ℕ → ModelTold
 number_refusal number want have = record { number = number; want = want; have = have; x = 0; y = 0; z = 0 }
 
 abbrev pub voxel_refusal : ℕ → Coord → ModelTold
 voxel_refusal number at = record { number = number; want = 0; have = 0; x = at.x; y = at.y; z = at.z }
 
--- a refusal of a model: how many bytes it wants, what it has (the resolution, bytes or voxels, or the index of a run),
--- the voxel
+-- a refusal of a model: the required number of bytes, the actual number (the resolution, bytes or voxels, or the index of a
+-- run), the voxel
 abbrev pub model_told : ModelRefusal → ModelTold
 model_told NoByte = number_refusal 1 0 0
 model_told (Resolution r) = number_refusal 2 0 r

@@ -1,4 +1,4 @@
-//! How many commands a trace has.
+//! The number of commands of a trace.
 ghost use Rattle.std.specs.Prelude.{◌≡◌};
 ghost use Rattle.machine_c.specs.Commands.{AreCommandsTold, CountsCommands, commands_by, offset_of, status_of_commands};
 
@@ -16,7 +16,7 @@ fn count_commands(alloc: Global, bytes: &[u8]) -> Result<u64, TraceFault>
     }
 }
 
-/// The status of a count.
+/// Returns the status of a count.
 fn count_status(answer: Result<u64, TraceFault>) -> u32
     ensures { result ≡ status_of_commands answer }
 {
@@ -27,7 +27,7 @@ fn count_status(answer: Result<u64, TraceFault>) -> u32
     }
 }
 
-/// The number of commands, 0 if the bytes are none.
+/// Returns the number of commands, 0 if the bytes are none.
 fn count_of(answer: Result<u64, TraceFault>) -> u64
     ensures { result ≡ commands_by answer }
 {
@@ -37,7 +37,7 @@ fn count_of(answer: Result<u64, TraceFault>) -> u64
     }
 }
 
-/// The first byte of the command that is bad or cut.
+/// Returns the first byte of the bad or cut command.
 fn offset(answer: Result<u64, TraceFault>) -> u64
     ensures { result ≡ offset_of answer }
 {

@@ -1,4 +1,4 @@
-//! A machine's matrix beside a target.
+//! Comparison of a machine's matrix with a target.
 ghost use Rattle.std.specs.Prelude.{◌≡◌};
 ghost use Rattle.machine_c.specs.Comparing.{IsCompared, Compares, place_by, refusal_of_target, status_of_target};
 
@@ -10,12 +10,12 @@ use model_file::{ModelFault, read_model};
 use std::alloc::Global;
 use vox_geom::Coord;
 
-/// What a target comes to.
+/// The outcome of a comparison with a target.
 #[derive(Clone, Copy)]
 pub enum TargetAnswer {
     /// The matrix is the target.
     Same,
-    /// They differ there first.
+    /// The least coordinate at which they differ.
     Differs(Coord),
     /// The target is of another resolution.
     Unlike,
@@ -24,7 +24,7 @@ pub enum TargetAnswer {
 }
 
 impl TargetAnswer {
-    /// The status of the answer.
+    /// Returns the status of the answer.
     fn status(self) -> u32
         ensures { result ≡ status_of_target self }
     {
@@ -37,7 +37,7 @@ impl TargetAnswer {
         }
     }
 
-    /// The coordinate of a difference.
+    /// Returns the coordinate of a difference.
     fn place(self) -> PlaceTold
         ensures { result ≡ place_by self }
     {
@@ -47,7 +47,7 @@ impl TargetAnswer {
         }
     }
 
-    /// The refusal of the bytes.
+    /// Returns the refusal of the bytes.
     fn refusal(self) -> ModelTold
         ensures { result ≡ refusal_of_target self }
     {
@@ -58,7 +58,7 @@ impl TargetAnswer {
     }
 }
 
-/// Compares the matrix with the model that the bytes say.
+/// Compares the matrix with the model that the bytes hold.
 fn compare(alloc: Global, machine: &KeptMachine, target: &[u8]) -> TargetAnswer
     ensures { Compares machine.now target.now result }
 {

@@ -1,4 +1,4 @@
-//! How many voxels of a machine's matrix differ from a target, counted at once or kept.
+//! The number of voxels of a machine's matrix that differ from a target, counted by a call or kept.
 ghost use Rattle.std.specs.Prelude.{◌≡◌};
 ghost use Rattle.machine_c.specs.Counting.{AreDifferencesTold, Counts, IsTargetSet, IsRemainingTold, KeepsTarget, differences_by, refusal_of_count, status_of_count};
 
@@ -9,7 +9,7 @@ use kept_machine::KeptMachine;
 use model_file::{ModelFault, read_model};
 use std::alloc::Global;
 
-/// What is counted of a target.
+/// The outcome of a count.
 #[derive(Clone, Copy)]
 pub enum CountAnswer {
     /// The number of coordinates at which the matrix and the target differ.
@@ -21,7 +21,7 @@ pub enum CountAnswer {
 }
 
 impl CountAnswer {
-    /// The status of the answer.
+    /// Returns the status of the answer.
     fn status(self) -> u32
         ensures { result ≡ status_of_count self }
     {
@@ -33,7 +33,7 @@ impl CountAnswer {
         }
     }
 
-    /// At how many coordinates they differ.
+    /// Returns the number of coordinates at which they differ.
     fn differences(self) -> u32
         ensures { result ≡ differences_by self }
     {
@@ -43,7 +43,7 @@ impl CountAnswer {
         }
     }
 
-    /// The refusal of the bytes.
+    /// Returns the refusal of the bytes.
     fn refusal(self) -> ModelTold
         ensures { result ≡ refusal_of_count self }
     {
@@ -127,7 +127,7 @@ pub extern "C" fn nanobot_machine_aim(
     answer.status()
 }
 
-/// Returns at how many coordinates the matrix differs from the machine's target. Nothing is counted anew.
+/// Returns the number of coordinates at which the matrix differs from the machine's target. Does not recount.
 #[unsafe(no_mangle)]
 pub extern "C" fn nanobot_machine_remaining(
     alloc: Global,

@@ -1,4 +1,4 @@
-//! What a caller in C keeps of a machine between two calls: a pointer to it, or null.
+//! A C caller's handle of a machine: a pointer to it, or null.
 ghost use Rattle.std.specs.Prelude.{◌≡◌};
 ghost use Rattle.kept_machine.specs.Kept.{Kept};
 ghost use Rattle.std.specs.Option.{MatchOption};
@@ -26,7 +26,7 @@ impl Model for Handle {
 }
 
 impl Handle {
-    /// The handle with no machine.
+    /// Returns a handle with no machine.
     pub fn empty(alloc: Global) -> Handle
         ensures { result.machine ≡ None }
     {
@@ -36,7 +36,7 @@ impl Handle {
         }
     }
 
-    /// The handle with the machine of a box.
+    /// Returns the handle with the machine of a box.
     fn of_parts(parts: Parts<KeptMachine, Global>) -> Handle
         ensures { result.machine ≡ Some parts.value }
     {
@@ -47,7 +47,7 @@ impl Handle {
         }
     }
 
-    /// The box of the machine, if there is one.
+    /// Returns the box of the machine, if there is one.
     fn into_parts(self) -> Option<Parts<KeptMachine, Global>>
         ensures { MatchOption result (self.machine ≡ None) (λ p. self.machine ≡ Some p.value) }
     {
@@ -62,7 +62,7 @@ impl Handle {
         }
     }
 
-    /// The machine, which is in the handle no more.
+    /// Takes the machine out of the handle.
     pub fn take(&mut self, alloc: Global) -> Option<Box<KeptMachine>>
         ensures empty { self.new.machine ≡ None }
         ensures taken { MatchOption result (self.old.machine ≡ None) (λ b. self.old.machine ≡ Some b.value) }
@@ -74,7 +74,7 @@ impl Handle {
         }
     }
 
-    /// Puts a machine into the handle. One that was there is freed.
+    /// Puts a machine into the handle. Frees an earlier one.
     pub fn put(&mut self, machine: Box<KeptMachine>)
         ensures { self.new.machine ≡ Some machine.value }
     {

@@ -1,4 +1,4 @@
-//! Steps that are judged and not made.
+//! Judging steps without making them.
 ghost use Rattle.std.specs.Prelude.{◌≡◌};
 ghost use Rattle.machine_c.specs.Judging.{IsJudged, WouldComeTo, WouldStep, active_by, energy_by, halts_by, harmonics_by, judged_told};
 
@@ -12,7 +12,7 @@ use nano_spec::{Command, Harmonics};
 use std::alloc::Global;
 use trace_codec::decode_all;
 
-/// What the step of these commands would come to.
+/// Returns the outcome that the step of these commands would have.
 fn judge_of(machine: &mut KeptMachine, commands: &[Command]) -> StepAnswer
     ensures stays { machine.new ≡ machine.old }
     ensures answer { WouldStep machine.old commands.now result }
@@ -23,7 +23,7 @@ fn judge_of(machine: &mut KeptMachine, commands: &[Command]) -> StepAnswer
     }
 }
 
-/// What the step of the commands that the bytes spell would come to. One command takes no memory to be read.
+/// Returns the outcome that the step of the spelled commands would have. Reading one command does not allocate.
 fn judge_by(alloc: Global, machine: &mut KeptMachine, bytes: &[u8]) -> StepAnswer
     ensures stays { machine.new ≡ machine.old }
     ensures answer { WouldComeTo machine.old bytes.now result }
@@ -37,7 +37,7 @@ fn judge_by(alloc: Global, machine: &mut KeptMachine, bytes: &[u8]) -> StepAnswe
     }
 }
 
-/// 1 if the step would leave no bot, else 0.
+/// Returns 1 if the step would leave no bot, 0 otherwise.
 fn halts(answer: StepAnswer) -> u32
     ensures { result ≡ halts_by answer }
 {
@@ -47,7 +47,7 @@ fn halts(answer: StepAnswer) -> u32
     }
 }
 
-/// The energy that the machine would have: that of the step, or its own if the step would be refused.
+/// Returns the energy that the machine would have: that of the step, or its own if the step would be refused.
 fn energy_after(energy: i64, answer: StepAnswer) -> i64
     ensures { result ≡ energy_by energy answer }
 {
@@ -57,7 +57,7 @@ fn energy_after(energy: i64, answer: StepAnswer) -> i64
     }
 }
 
-/// How many bots would be active.
+/// Returns the number of bots that would be active.
 fn active_after(active: u8, answer: StepAnswer) -> u8
     ensures { result ≡ active_by active answer }
 {
@@ -67,7 +67,7 @@ fn active_after(active: u8, answer: StepAnswer) -> u8
     }
 }
 
-/// The harmonics that the machine would have.
+/// Returns the harmonics that the machine would have.
 fn harmonics_after(harmonics: Harmonics, answer: StepAnswer) -> Harmonics
     ensures { result ≡ harmonics_by harmonics answer }
 {
@@ -77,7 +77,7 @@ fn harmonics_after(harmonics: Harmonics, answer: StepAnswer) -> Harmonics
     }
 }
 
-/// The numbers of a step that would have this outcome.
+/// Returns the numbers of a step that would have this outcome.
 fn told_of(machine: &KeptMachine, answer: StepAnswer) -> JudgedTold
     ensures { result ≡ judged_told machine.now answer }
 {
@@ -92,7 +92,7 @@ fn told_of(machine: &KeptMachine, answer: StepAnswer) -> JudgedTold
     }
 }
 
-/// Tells what a step would come to: the bytes are those that `nanobot_machine_step` takes. The machine is left as it was.
+/// Returns the outcome that a step would have: the bytes are those of `nanobot_machine_step`. The machine is left as it was.
 #[unsafe(no_mangle)]
 pub extern "C" fn nanobot_machine_judge(
     alloc: Global,

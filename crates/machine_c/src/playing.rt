@@ -1,4 +1,4 @@
-//! Traces that are played on a machine.
+//! Playing traces on a machine.
 ghost use Rattle.std.specs.Prelude.{◌≡◌, ◌≤◌, [], ◌∷◌, ◌++◌, length, take, IfOk, IfErr};
 ghost use Rattle.machine_c.specs.Playing.{IsFrontMade, IsNextStep, IsPlayed, IsTracePlayed, IsUnread, StopsAt, bad_byte_of, rule_of_stop, status_of_play};
 
@@ -13,7 +13,7 @@ use std::alloc::Global;
 use trace_codec::{One, TraceFault, TraceRefusal, decode_one};
 use vox_geom::Memory;
 
-/// How far a trace was played: the steps that were made, their bytes, and why the next step was not made, if that ended it.
+/// The result of playing a trace: the steps made, their bytes, and the reason why the next step was not made, if there was one.
 #[derive(Clone, Copy)]
 pub struct Played {
     pub made: u32,
@@ -22,7 +22,7 @@ pub struct Played {
 }
 
 impl Played {
-    /// The status of the call.
+    /// Returns the status of the call.
     fn status(self) -> u32
         ensures { result ≡ status_of_play self.stop }
     {
@@ -32,7 +32,7 @@ impl Played {
         }
     }
 
-    /// The rule that is broken.
+    /// Returns the broken rule.
     fn broken_rule(self) -> BrokenTold
         ensures { result ≡ rule_of_stop self.stop }
     {
@@ -42,7 +42,7 @@ impl Played {
         }
     }
 
-    /// The first byte of the command that is bad or cut, counted from the beginning of the trace.
+    /// Returns the first byte of the bad or cut command, counted from the beginning of the trace.
     fn bad_byte(self, trace: &[u8]) -> u64
         requires { bad_byte_of self.used self.stop ≤ length trace.now }
         ensures { result ≡ bad_byte_of self.used self.stop }
@@ -57,7 +57,7 @@ impl Played {
     }
 }
 
-/// Adds a command to a list.
+/// Appends a command to a list.
 fn add(commands: &mut Vec<Command>, command: Command) -> Result<(), Memory>
     ensures { IfOk result (λ _. commands.new.items ≡ commands.old.items ++ command ∷ []) }
 {
@@ -102,8 +102,8 @@ fn cut_step(bytes: &[u8], active: usize, commands: &mut Vec<Command>) -> Result<
     Ok(size)
 }
 
-/// Makes the step that the bytes begin with, and returns how many bytes it takes. The list is the caller's, so that steps
-/// share its memory.
+/// Makes the step at the front of the bytes, and returns the number of bytes it takes. The caller's list lets steps share its
+/// memory.
 fn play_step(
     machine: &mut KeptMachine,
     bytes: &[u8],
@@ -158,8 +158,8 @@ fn play(alloc: Global, machine: &mut KeptMachine, trace: &[u8], most: u32) -> Pl
     }
 }
 
-/// Makes at most `most` steps of a trace one after another, until one is refused or the bytes end, and says how far it came.
-/// A step that is refused leaves the machine as the step before it left it.
+/// Makes at most `most` steps of a trace one after another, until one is refused or the bytes end, and returns the progress. A
+/// refused step leaves the machine in the state before it.
 #[unsafe(no_mangle)]
 pub extern "C" fn nanobot_machine_play(
     alloc: Global,

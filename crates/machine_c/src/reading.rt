@@ -40,7 +40,7 @@ pub extern "C" fn nanobot_machine_tell(
     DONE
 }
 
-/// 1 under high harmonics.
+/// Returns 1 for High, 0 for Low.
 pub(crate) fn high(harmonics: Harmonics) -> u32
     ensures { result ≡ high_of harmonics }
 {
@@ -84,7 +84,7 @@ pub extern "C" fn nanobot_machine_bots(
     status
 }
 
-/// The coordinate, if it is in space.
+/// Returns the coordinate, if it is in space.
 fn place(r: u16, x: u32, y: u32, z: u32) -> Option<Coord>
     ensures { MatchOption result (IsInSpace r (coord x y z) → ⊥) (λ c. (c ≡ coord x y z) × IsInSpace r c) }
 {
@@ -99,7 +99,7 @@ fn place(r: u16, x: u32, y: u32, z: u32) -> Option<Coord>
     None
 }
 
-/// Writes 1 if the voxel at a coordinate is full, else 0.
+/// Writes 1 if the voxel at a coordinate is full, 0 otherwise.
 #[unsafe(no_mangle)]
 pub extern "C" fn nanobot_machine_full(
     alloc: Global,
@@ -126,7 +126,7 @@ pub extern "C" fn nanobot_machine_full(
     status
 }
 
-/// The level at a coordinate, if that is in space.
+/// Returns the level at a coordinate, if that is in space.
 fn level_at(machine: &mut KeptMachine, x: u32, y: u32, z: u32) -> Result<Option<u32>, NoLevel>
     ensures stays { machine.new ≡ machine.old }
     ensures told { TellsLevel machine.old.state.matrix (coord x y z) result }
@@ -200,7 +200,7 @@ pub fn give_bytes(bytes: &[u8], out: &mut [u8], size: &mut usize) -> u32
     DONE
 }
 
-/// Gives the matrix as the bytes of a model.
+/// Writes the matrix as the bytes of a model.
 #[unsafe(no_mangle)]
 pub extern "C" fn nanobot_machine_model(
     alloc: Global,

@@ -1,4 +1,4 @@
-//! Machines that are started, copied and ended.
+//! Starting, copying and ending machines.
 ghost use Rattle.std.specs.Prelude.{◌≡◌, ◌≤◌, [], IfOk, IfErr, IfSome, None, Ok, Err};
 ghost use Rattle.nano_spec.specs.Matrix.{empty as empty_of};
 ghost use Rattle.kept_machine.specs.Calls.{Opens, OpensFile};
@@ -14,10 +14,10 @@ use std::alloc::Global;
 use vox_geom::MOST_R;
 use vox_planes::Planes;
 
-/// The most steps that can be taken back.
+/// The most steps that can be undone.
 const MOST_NOTES: u32 = 4096;
 
-/// The light profile, or that of the contest.
+/// Returns the light profile, or that of the contest.
 fn profile(light: bool) -> Profile
     ensures value { result ≡ profile_by light }
     ensures seeds { result.seeds ≤ 39 }
@@ -29,7 +29,7 @@ fn profile(light: bool) -> Profile
     }
 }
 
-/// The status of a start that was refused.
+/// Returns the status of a refused start.
 fn status(fault: ModelFault) -> u32
     ensures { result ≡ status_of_start fault }
 {
@@ -39,7 +39,7 @@ fn status(fault: ModelFault) -> u32
     }
 }
 
-/// A machine over the model that the bytes say, on the heap.
+/// Returns a machine over the model that the bytes hold, on the heap.
 fn open_file(
     alloc: Global,
     model: &[u8],
@@ -56,7 +56,7 @@ fn open_file(
     }
 }
 
-/// A machine over the empty model, on the heap.
+/// Returns a machine over the empty model, on the heap.
 fn open_empty(
     alloc: Global,
     resolution: u16,
@@ -76,7 +76,7 @@ fn open_empty(
     }
 }
 
-/// Puts a machine over the model of the bytes into the handle, before its first step. One that was there is freed.
+/// Puts a machine over the model of the bytes into the handle, before its first step. Frees an earlier one.
 #[unsafe(no_mangle)]
 pub extern "C" fn nanobot_machine_start(
     alloc: Global,
@@ -104,7 +104,7 @@ pub extern "C" fn nanobot_machine_start(
     }
 }
 
-/// Puts a machine over the empty model of the resolution into the handle, before its first step. One that was there is freed.
+/// Puts a machine over the empty model of the resolution into the handle, before its first step. Frees an earlier one.
 #[unsafe(no_mangle)]
 pub extern "C" fn nanobot_machine_start_empty(
     alloc: Global,
@@ -127,7 +127,7 @@ pub extern "C" fn nanobot_machine_start_empty(
     }
 }
 
-/// A machine in the state of the one that is given, on the heap.
+/// Returns a machine in the same state as the given one, on the heap.
 fn boxed_copy(alloc: Global, machine: &KeptMachine) -> Option<Box<KeptMachine>>
     ensures { IfSome result (λ copy. copy.value ≡ record machine.now { past = [] }) }
 {
@@ -137,7 +137,7 @@ fn boxed_copy(alloc: Global, machine: &KeptMachine) -> Option<Box<KeptMachine>>
     }
 }
 
-/// Puts a machine in the same state into another handle. One that was there is freed. No step can be taken back in it.
+/// Puts a machine in the same state into another handle. Frees an earlier one. The copy can undo no step.
 #[unsafe(no_mangle)]
 pub extern "C" fn nanobot_machine_copy(alloc: Global, handle: &mut Handle, copy: &mut Handle) -> u32
     ensures same { handle.new.machine ≡ handle.old.machine }

@@ -1,12 +1,12 @@
 //! The statuses of the calls.
 
-/// The call did what it says.
+/// The call succeeded.
 pub const DONE: u32 = 0;
 
 /// The commands of the step break a rule.
 pub const BROKEN: u32 = 1;
 
-/// A number that is passed is none that the call takes.
+/// An argument is out of range.
 pub const ARGUMENT: u32 = 2;
 
 /// The model is refused.
@@ -15,7 +15,7 @@ pub const MODEL: u32 = 3;
 /// The bytes are no commands.
 pub const COMMANDS: u32 = 4;
 
-/// There was no memory.
+/// Allocation failed.
 pub const MEMORY: u32 = 7;
 
 /// The buffer is too small.
@@ -27,10 +27,10 @@ pub const NO_MACHINE: u32 = 11;
 /// No bot is active.
 pub const ENDED: u32 = 12;
 
-/// The commands are not as many as the active bots.
+/// The number of commands is not that of the active bots.
 pub const COUNT: u32 = 13;
 
-/// The machine has made as many steps as it makes.
+/// The machine has made its maximum of steps.
 pub const LONG: u32 = 14;
 
 /// No earlier step is noted.

@@ -1,4 +1,4 @@
-//! Steps that are made and taken back.
+//! Making and undoing steps.
 ghost use Rattle.std.specs.Prelude.{◌≡◌, [], ◌∷◌, IfSome};
 ghost use Rattle.nano_spec.specs.Cutting.{Cutting};
 ghost use Rattle.machine_c.specs.Calls.{StepComesTo, ComesTo, IsStepped, IsUndone, changed_by, rule_told, offset_by, status_of_step, status_of_undo};
@@ -12,19 +12,19 @@ use nano_spec::Command;
 use std::alloc::Global;
 use trace_codec::{One, TraceFault, TraceRefusal, decode_all, decode_one};
 
-/// What the bytes of a step come to.
+/// The outcome of a step whose commands are given as bytes.
 #[derive(Clone, Copy)]
 pub enum StepAnswer {
     /// The step was made.
     Made(StepDone),
-    /// The commands of the bytes make no step.
+    /// The machine did not make the step.
     Refused(NoStep),
-    /// The bytes are no commands.
+    /// The bytes were not decoded.
     Unread(TraceFault),
 }
 
 impl StepAnswer {
-    /// The status of the answer.
+    /// Returns the status of the answer.
     pub fn status(self) -> u32
         ensures { result ≡ status_of_step self }
     {
@@ -40,7 +40,7 @@ impl StepAnswer {
         }
     }
 
-    /// The rule that is broken.
+    /// Returns the broken rule, all fields 0 if there is none.
     pub fn broken_rule(self) -> BrokenTold
         ensures { result ≡ rule_told self }
     {
@@ -50,7 +50,7 @@ impl StepAnswer {
         }
     }
 
-    /// The first byte of the command that is bad or cut.
+    /// Returns the offset of the bad or cut command, or 0 if there is none.
     pub fn offset(self) -> u64
         ensures { result ≡ offset_by self }
     {
@@ -61,7 +61,7 @@ impl StepAnswer {
         }
     }
 
-    /// How many voxels the step changes.
+    /// Returns the number of voxels that the step changes.
     pub fn changed(self) -> u32
         ensures { result ≡ changed_by self }
     {
@@ -72,7 +72,7 @@ impl StepAnswer {
     }
 }
 
-/// The command that the bytes spell, if they spell exactly one.
+/// Returns the command that the bytes spell, if they spell exactly one.
 pub fn only_command(bytes: &[u8]) -> Option<Command>
     ensures { IfSome result (λ command. Cutting bytes.now (command ∷ [])) }
 {
@@ -97,7 +97,7 @@ fn step_of(machine: &mut KeptMachine, commands: &[Command]) -> StepAnswer
     }
 }
 
-/// Makes the step of the commands that the bytes spell. One command takes no memory to be read.
+/// Makes the step that the bytes spell. A single command is decoded without allocation.
 fn step_by(alloc: Global, machine: &mut KeptMachine, bytes: &[u8]) -> StepAnswer
     ensures { ComesTo machine.old bytes.now machine.new result }
 {
@@ -110,8 +110,8 @@ fn step_by(alloc: Global, machine: &mut KeptMachine, bytes: &[u8]) -> StepAnswer
     }
 }
 
-/// Makes one step: the bytes spell one command for each active bot, in rising order of their bids. A step that is refused leaves
-/// the machine as it was.
+/// Makes one step. The bytes spell one command for each active bot, in rising order of their bids. A refused step leaves the
+/// machine as it was.
 #[unsafe(no_mangle)]
 pub extern "C" fn nanobot_machine_step(
     alloc: Global,
@@ -138,7 +138,7 @@ pub extern "C" fn nanobot_machine_step(
     answer.status()
 }
 
-/// The status of an undo, by whether a step was taken back.
+/// Returns the status of an undo.
 fn undo_status(is_undone: bool) -> u32
     ensures { result ≡ status_of_undo is_undone }
 {
@@ -148,7 +148,7 @@ fn undo_status(is_undone: bool) -> u32
     NO_NOTE
 }
 
-/// Takes the last step back, if one is noted.
+/// Undoes the last step, if one is noted.
 #[unsafe(no_mangle)]
 pub extern "C" fn nanobot_machine_undo(alloc: Global, handle: &mut Handle) -> u32
     ensures { IsUndone handle.old.machine handle.new.machine result }

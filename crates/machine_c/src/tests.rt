@@ -1,5 +1,5 @@
-//! Each export as a caller in C calls it. The energies are those of the rules: at resolution 3 a step costs 101 with one bot under
-//! low harmonics, a move 2 for each voxel, and a voxel that becomes full 12.
+//! Each export as a C caller calls it. The energies are those of the rules: at resolution 3 a step costs 101 with one bot under low
+//! harmonics, a move 2 for each voxel, and a filled voxel 12.
 use crate::commands::nanobot_commands;
 use crate::comparing::nanobot_machine_compare;
 use crate::counting::{
@@ -43,7 +43,7 @@ const WAIT: &[u8] = &[0xFE];
 
 const HALT: &[u8] = &[0xFF];
 
-/// A machine of resolution 3 over the empty model, with this many notes.
+/// Returns a machine of resolution 3 over the empty model, with this many notes.
 fn empty_of_three(rt: &impl Abort, alloc: Global, notes: u32) -> Handle {
     let mut handle = Handle::empty(alloc);
     assert_eq!(rt;
@@ -53,7 +53,7 @@ fn empty_of_three(rt: &impl Abort, alloc: Global, notes: u32) -> Handle {
     handle
 }
 
-/// A step ends with this status, energy and number of steps, and breaks this rule, 0 for none.
+/// Asserts the status, energy and number of steps of a step, and the rule that it breaks, 0 for none.
 fn assert_steps(
     rt: &impl Abort,
     alloc: Global,
@@ -79,7 +79,7 @@ fn assert_steps(
     assert_eq!(rt; told.broken.rule, rule);
 }
 
-/// A step would end with this status and energy, leave a bot or none, and break this rule, 0 for none.
+/// Asserts the status and energy that a step would have, whether it leaves a bot, and the rule that it breaks, 0 for none.
 fn assert_judged(
     rt: &impl Abort,
     alloc: Global,
@@ -105,7 +105,7 @@ fn assert_judged(
     assert_eq!(rt; told.broken.rule, rule);
 }
 
-/// A trace is played so far: the status, the steps that are made, their bytes, and the first byte of a bad or cut command.
+/// Asserts the result of playing a trace: the status, the steps made, their bytes, and the first byte of a bad or cut command.
 fn assert_plays(
     rt: &impl Abort,
     alloc: Global,
@@ -132,7 +132,7 @@ fn assert_plays(
     assert_eq!(rt; told.offset, offset);
 }
 
-/// The trace of the machine has these bytes.
+/// Asserts the bytes of the machine's trace.
 fn assert_trace(rt: &impl Abort, alloc: Global, handle: &mut Handle, bytes: &[u8]) {
     let mut trace = [7u8; 8];
     let mut size = 0;
@@ -144,7 +144,7 @@ fn assert_trace(rt: &impl Abort, alloc: Global, handle: &mut Handle, bytes: &[u8
     assert_eq!(rt; trace.get(..size), Some(bytes));
 }
 
-/// The matrix differs from the model at `want` coordinates.
+/// Asserts that the matrix differs from the model at `want` coordinates.
 fn assert_differs(rt: &impl Abort, alloc: Global, handle: &mut Handle, target: &[u8], want: u32) {
     let mut count = 7;
     let mut refusal = ModelTold::none();
@@ -155,12 +155,12 @@ fn assert_differs(rt: &impl Abort, alloc: Global, handle: &mut Handle, target: &
     assert_eq!(rt; count, want);
 }
 
-/// The last step is taken back, with this status.
+/// Asserts the status of an undo.
 fn assert_undone(rt: &impl Abort, alloc: Global, handle: &mut Handle, status: u32) {
     assert_eq!(rt; nanobot_machine_undo(alloc, handle), status);
 }
 
-/// The machine has made `steps` steps, of which `noted` can be taken back.
+/// Asserts that the machine has made `steps` steps and can undo `noted` of them.
 fn assert_stands(rt: &impl Abort, alloc: Global, handle: &mut Handle, steps: u32, noted: u64) {
     let mut told = MachineTold {
         energy: 7,
@@ -176,14 +176,14 @@ fn assert_stands(rt: &impl Abort, alloc: Global, handle: &mut Handle, steps: u32
     assert_eq!(rt; told.resolution, 3);
 }
 
-/// The number of full voxels is `want`.
+/// Asserts the number of full voxels.
 fn assert_counts(rt: &impl Abort, alloc: Global, handle: &mut Handle, full: u32) {
     let mut count = 7;
     assert_eq!(rt; nanobot_machine_count(alloc, handle, &mut count), 0);
     assert_eq!(rt; count, full);
 }
 
-/// The level at a coordinate, or the status of none.
+/// Asserts the level at a coordinate, or the status if it has none.
 fn assert_level(rt: &impl Abort, alloc: Global, handle: &mut Handle, y: u32, status: u32) {
     let mut level = 7;
     assert_eq!(rt;
@@ -384,7 +384,7 @@ fn differences_are_counted(rt: HostRuntime) -> Result<(), Fail> {
     Ok(())
 }
 
-/// The status and the number of voxels that still differ from the target are these.
+/// Asserts the status and the number of voxels that still differ from the target.
 fn assert_remains(rt: &impl Abort, alloc: Global, handle: &mut Handle, want: (u32, u32)) {
     let mut count = 7;
     let status = nanobot_machine_remaining(alloc, handle, &mut count);

@@ -1,4 +1,4 @@
-//! What calls return, as C sees it.
+//! The results of calls, in C layout.
 ghost use Rattle.std.specs.Prelude.{◌≡◌};
 ghost use Rattle.machine_c.specs.Told.{bot_told, broken_told, fault_told, model_told};
 
@@ -6,7 +6,7 @@ use model_file::{ModelFault, ModelRefusal};
 use nano_spec::{Bot, Broken};
 use vox_geom::Coord;
 
-/// A rule that a step breaks: its number, the number of the step, the bot, and where. All are 0 where none is broken.
+/// A broken rule: its number, the number of the step, the bot, and the coordinate. All are 0 if none is broken.
 #[repr(C)]
 #[derive(Clone, Copy)]
 pub struct BrokenTold {
@@ -18,8 +18,8 @@ pub struct BrokenTold {
     pub z: u32,
 }
 
-/// What a step came to: where the machine stands after the call, in its energy, steps and active bots; the first byte of the
-/// command that is bad or cut; the rule that is broken; 1 under high harmonics; and how many voxels the step changed.
+/// The result of a step: the machine's energy, steps and active bots after the call; the first byte of the bad or cut command; the
+/// broken rule; 1 for High; and the number of voxels that the step changed.
 #[repr(C)]
 #[derive(Clone, Copy)]
 pub struct StepTold {
@@ -32,8 +32,8 @@ pub struct StepTold {
     pub changed: u32,
 }
 
-/// How far a trace was played: where the machine stands after the call, in its energy, steps, active bots and harmonics; how many
-/// steps were made, of how many bytes; the first byte of the command that is bad or cut; and the rule that is broken.
+/// The result of playing a trace: the machine's energy, steps, active bots and harmonics after the call; the number of steps made
+/// and of their bytes; the first byte of the bad or cut command; and the broken rule.
 #[repr(C)]
 #[derive(Clone, Copy)]
 pub struct PlayedTold {
@@ -47,9 +47,8 @@ pub struct PlayedTold {
     pub broken: BrokenTold,
 }
 
-/// What a step would come to: the energy that the machine would have, the first byte of the command that is bad or cut, 1 where no
-/// bot would be left, the rule that would be broken, how many bots would be active, 1 under the harmonics of High then, and how
-/// many voxels would change.
+/// The result that a step would have: the machine's energy, the number of active bots, and the number of voxels that would change;
+/// 1 if no bot would be left, and 1 for High after it; the first byte of the bad or cut command; and the broken rule.
 #[repr(C)]
 #[derive(Clone, Copy)]
 pub struct JudgedTold {
@@ -62,7 +61,7 @@ pub struct JudgedTold {
     pub changed: u32,
 }
 
-/// Where a machine stands. `high` is 1 under high harmonics, and `noted` steps can be taken back.
+/// The state of a machine. `high` is 1 for High, and `noted` steps can be undone.
 #[repr(C)]
 #[derive(Clone, Copy)]
 pub struct MachineTold {
@@ -74,7 +73,7 @@ pub struct MachineTold {
     pub noted: u64,
 }
 
-/// An active bot. Bit k of `seeds` says that it can make the bot k.
+/// An active bot. Bit k of `seeds` means that it has the seed k.
 #[repr(C)]
 #[derive(Clone, Copy)]
 pub struct BotTold {
@@ -94,7 +93,7 @@ pub struct PlaceTold {
     pub z: u32,
 }
 
-/// Why a model is refused: the number of the refusal, and what belongs to it. Numbers that do not are 0.
+/// A refusal of a model: its number, and its details. Details that do not apply are 0.
 #[repr(C)]
 #[derive(Clone, Copy)]
 pub struct ModelTold {
@@ -107,7 +106,7 @@ pub struct ModelTold {
 }
 
 impl BrokenTold {
-    /// No rule.
+    /// Returns no rule.
     pub fn none() -> BrokenTold
         ensures { result ≡ record { rule = 0; step = 0; bid = 0; x = 0; y = 0; z = 0 } }
     {
@@ -121,7 +120,7 @@ impl BrokenTold {
         }
     }
 
-    /// The numbers of a broken rule.
+    /// Returns the numbers of a broken rule.
     pub fn of(broken: Broken) -> BrokenTold
         ensures { result ≡ broken_told broken }
     {
@@ -137,7 +136,7 @@ impl BrokenTold {
 }
 
 impl BotTold {
-    /// The numbers of a bot.
+    /// Returns the numbers of a bot.
     pub fn of(bot: &Bot) -> BotTold
         ensures { result ≡ bot_told bot.now }
     {
@@ -152,7 +151,7 @@ impl BotTold {
 }
 
 impl PlaceTold {
-    /// The numbers of a coordinate.
+    /// Returns the numbers of a coordinate.
     pub fn of(at: Coord) -> PlaceTold
         ensures { result ≡ record { x = at.x; y = at.y; z = at.z } }
     {
@@ -165,14 +164,14 @@ impl PlaceTold {
 }
 
 impl ModelTold {
-    /// No refusal.
+    /// Returns no refusal.
     pub fn none() -> ModelTold
         ensures { result ≡ record { number = 0; want = 0; have = 0; x = 0; y = 0; z = 0 } }
     {
         ModelTold::with_sizes(0, 0, 0)
     }
 
-    /// A refusal that has numbers.
+    /// Returns a refusal with numbers.
     fn with_sizes(number: u32, want: u32, have: u32) -> ModelTold
         ensures { result ≡ record { number = number; want = want; have = have; x = 0; y = 0; z = 0 } }
     {
@@ -186,7 +185,7 @@ impl ModelTold {
         }
     }
 
-    /// A refusal that has a voxel.
+    /// Returns a refusal with a voxel.
     fn with_place(number: u32, at: Coord) -> ModelTold
         ensures { result ≡ record { number = number; want = 0; have = 0; x = at.x; y = at.y; z = at.z } }
     {
@@ -200,7 +199,7 @@ impl ModelTold {
         }
     }
 
-    /// The numbers of a refusal; all 0 if memory ran out.
+    /// Returns the numbers of a refusal; all 0 if memory ran out.
     pub fn of(fault: ModelFault) -> ModelTold
         ensures { result ≡ fault_told fault }
     {
@@ -210,7 +209,7 @@ impl ModelTold {
         }
     }
 
-    /// The numbers of a refusal.
+    /// Returns the numbers of a refusal.
     fn of_refusal(refusal: ModelRefusal) -> ModelTold
         ensures { result ≡ model_told refusal }
     {

@@ -9,7 +9,7 @@ use nano_spec::Command;
 use std::alloc::Global;
 use trace_codec::encode_all;
 
-/// The status of a trace that was to be begun, by whether it was.
+/// Returns the status of a call that begins a trace, by whether it did.
 fn keep_status(is_begun: bool) -> u32
     ensures { result ≡ status_of_keep is_begun }
 {
@@ -43,7 +43,7 @@ fn give_commands(alloc: Global, commands: &[Command], out: &mut [u8], size: &mut
     }
 }
 
-/// Gives the bytes of the commands of all steps that were made and not taken back, if they are kept.
+/// Writes the bytes of the commands of all steps that were made and not undone, if they are kept.
 #[unsafe(no_mangle)]
 pub extern "C" fn nanobot_machine_trace(
     alloc: Global,

@@ -1,4 +1,4 @@
--- A search begins beside what is out already: what stands on the floor or on one another.
+-- A search begins at the neighbors of the voxels that are removed already: the supported columns.
 use Rattle.std.proofs.Common.{◌≡◌, ℕ, zero, suc, not, ◌&&◌, ◌+◌, ◌-◌, ◌^◌, ◌<◌, ◌≤◌, refl, sym, ◌∙◌, ap, arith, Bool, true, false, ◌==◌, [], min, inl, inr}
 use Rattle.std.specs.Prelude.{IsTrue, ◌⊎◌}
 use Rattle.std.specs.Int.{bit_not, w64}
@@ -22,7 +22,7 @@ use Rattle.model_file.specs.Flood.{AreOut, HasFound, IsAmong, IsBegun, IsBeside,
 use Rattle.model_file.proofs.Floods.{below_count, both_true, full_within, its_place, takes_none, takes_then, takes_wider, void_by}
 use Rattle.model_file.proofs.Spreads.{in_none}
 
--- ---- what is stacked is grounded
+-- ---- supported columns are grounded
 
 stacked_grounded : (m : Matrix) (c : Coord) (y : ℕ) → is_full_up_to m c y ≡ true
     → Grounded m (record { x = c.x; y = y; z = c.z })
@@ -65,13 +65,13 @@ begun_still m a b h t = record {
     grounded c k true e = (t.taken c (record { before = e; after = k.after })).0
     grounded c k false e = h.grounded c (record { before = k.before; after = e })
 
--- of no area or of one with nothing out around which something is left
+-- of an area in which no removed voxel has a remaining neighbor
 pub looks_none : (m : Matrix) (area : Coord → Type 0) (a : Flood)
     → ((c d : Coord) → area c → IsTaken m a.remaining c → IsTrue (are_adjacent c d) → is_full a.remaining d ≡ false)
     → LooksAround m area a a
 looks_none m area a bare = record { takes = takes_none (Grounded m) a a refl (λ d. refl) refl; bare = bare }
 
--- a coordinate beside another lies in its layer or in one beside that
+-- a coordinate next to another lies in its layer or in an adjacent one
 pub near_layers : (a b : Coord) → IsTrue (are_adjacent a b) → (a.y ≤ b.y + 1) × (b.y ≤ a.y + 1)
 near_layers a b h = by (side_of a b h)
   where
@@ -83,7 +83,7 @@ near_layers a b h = by (side_of a b h)
     by (below e f g) = (omega arith, omega arith)
     by (behind e f g) = (omega arith, omega arith)
 
--- of a layer where none is left there and beside it
+-- of a layer if no voxel remains in it and in the adjacent ones
 pub looks_bare_layer : (m : Matrix) (a : Flood) (y : ℕ)
     → ((d : Coord) → y ≤ d.y + 1 → d.y ≤ y + 1 → is_full a.remaining d ≡ false) → LooksAround m (λ d. d.y ≡ y) a a
 looks_bare_layer m a y bare = looks_none m (λ d. d.y ≡ y) a (λ c d area t n.
@@ -110,7 +110,7 @@ looks_wider m one all a b wider h = record {
   bare = λ c d area t n. h.bare c d (wider c (full_within m c t.before) area) t n;
 }
 
--- ---- a stretch
+-- ---- a segment
 
 module _ (m left : Matrix) (first : Coord) (count own bits : ℕ) (few : count ≤ 64) (size : count ≡ min (m.resolution - first.z) 64)
     (mine : (k : ℕ) → k < count → bit own k ≡ (bit (2 ^ 64 - 1) k && is_full left (at first (first.z + k)))) (fits : own < 2 ^ 64)
@@ -142,13 +142,13 @@ module _ (m left : Matrix) (first : Coord) (count own bits : ℕ) (few : count �
         record { x = a.x; y = a.y; from = a.from; to = a.to; here = out_is c a.x a.y a.from difference_below ∙ (λ i. not (t.after i) && t.before i) };
   }
 
--- beside the voxels that are out nothing is left
+-- no neighbor of the removed voxels remains
 pub looks_bare : (m : Matrix) (a : Flood) (first : Coord) (bits : ℕ) → AreOut m a.remaining first bits
     → ((d : Coord) → IsBeside (record { first = first; bits = bits }) d → is_full a.remaining d ≡ false)
     → LooksAround m (IsNextTo first) a a
 looks_bare m a first bits o none = looks_none m (IsNextTo first) a (λ c d area t n. none d (record { one = c; among = o.all c area t; adjacent = n }))
 
--- what was left beside them was taken
+-- the remaining neighbors of the voxels were removed
 pub looks_taken : (m : Matrix) (a b : Flood) (first : Coord) (bits : ℕ) → IsBegun m a → AreOut m a.remaining first bits
     → TakesOut (IsBeside (record { first = first; bits = bits })) a b
     → ((d : Coord) → IsBeside (record { first = first; bits = bits }) d → is_full b.remaining d ≡ false)
@@ -159,7 +159,7 @@ looks_taken m a b first bits h o t none = record {
   bare = λ c d area u n. none d (record { one = c; among = o.all c area u; adjacent = n });
 }
 
--- ---- a stretch of which nothing is left
+-- ---- a segment of which nothing remains
 
 pub none_left : (m : Matrix) (first : Coord) (count bits : ℕ) → count ≤ 64 → count ≡ min (m.resolution - first.z) 64 →
     ((k : ℕ) → k < count → bit 0 k ≡ (bit bits k && is_full m (at first (first.z + k)))) →
@@ -182,7 +182,7 @@ none_left m first count bits few size h d a = by (cases_lt d.z (first.z + count)
         (sym (void (d.z - first.z)) ∙ (h (d.z - first.z) difference_below ∙ ap (λ c. bit bits (d.z - first.z) && is_full m c) (its_place first d a.x a.y a.from)))
     by (inr l) = void_by m d (λ i. let along_z = i.z in let up_to = a.to in let from = a.from in absurd (omega arith))
 
--- the word that says which are left has no bit
+-- the word of the remaining voxels has no bit
 pub nothing_left : (m : Matrix) (first : Coord) (bits : ℕ) → bits ≡ 0 → (d : Coord)
     → IsAmong (record { first = first; bits = bits }) d → is_full m d ≡ false
 nothing_left m first bits e d a =

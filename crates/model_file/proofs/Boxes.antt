@@ -1,4 +1,4 @@
--- Which coordinates are in the whole matrix, in its faces and in the legal box.
+-- The coordinates of the whole matrix, of its faces and of the legal box.
 use Rattle.std.proofs.Common.{◌≡◌, ℕ, ◌+◌, ◌-◌, ◌<◌, ◌≤◌, refl, sym, ◌∙◌, ap, subst, arith, Bool, true, false, ◌&&◌, ◌||◌, not, pos, min, max, find, Option, Some, None, is_some}
 use Rattle.std.specs.Prelude.{nat_le, nat_lt}
 use Rattle.std.proofs.lemmas.Bool.Decides.{nat_tests}
@@ -32,7 +32,7 @@ within_is : (low high c : Coord) → low.x ≤ high.x → low.y ≤ high.y → l
 unfolding in_box
 within_is low high c x y z = λ i. between_is low.x high.x c.x x i && between_is low.y high.y c.y y i && between_is low.z high.z c.z z i
 
--- what a search of a box has found
+-- the result of a search of a box
 pub box_least : (m : Matrix) (k : Corners) (low high : Coord) (o : Option Coord) → k ≡ corners low high → low.x ≤ high.x
     → low.y ≤ high.y → low.z ≤ high.z → o ≡ find (λ c. is_full m c && is_within (span k) (point c)) (all_of m)
     → LeastOf m.resolution (λ c. is_full m c && in_box low high c) o
@@ -65,7 +65,7 @@ least_of_all m k e o h c found =
     least_same m.resolution (λ c. is_full m c && in_box zero_corner (end_corner e) c) (is_full m) (λ c i. and_by_second (is_full m c) (in_box zero_corner (end_corner e) c) (in_all m.resolution e c i h)) o
     (box_least m k zero_corner (end_corner e) o c (omega arith) (omega arith) (omega arith) found)
 
--- ---- a layer and those beside it
+-- ---- a layer and the adjacent ones
 
 near_layer : (y v e r : ℕ) → v < r → e + 1 ≡ r → y ≤ v + 1 → v ≤ y + 1
     → (nat_le (max y 1 - 1) v && nat_le v (min (y + 1) e)) ≡ true
@@ -86,7 +86,7 @@ pub no_answer : (o : Option Coord) → is_some o ≡ false → o ≡ None
 no_answer None e = refl
 no_answer (Some c) e = cc
 
--- where a search of the layers finds none, none of their voxels is full
+-- if a search of the layers finds none, none of their voxels is full
 pub none_in_layers : (m : Matrix) (k : Corners) (y e : ℕ) (o : Option Coord) → y < m.resolution → e + 1 ≡ m.resolution
     → k ≡ corners (under_corner y) (over_corner y e)
     → o ≡ find (λ c. is_full m c && is_within (span k) (point c)) (all_of m) → o ≡ None

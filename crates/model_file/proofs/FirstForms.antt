@@ -36,7 +36,7 @@ matrix_is m r f er el h = λ i. record { resolution = er i; voxels = same i }
 
 -- ---- reading
 
--- a word's mask of so many bits does not overflow
+-- a word's mask of that many bits does not overflow
 mask_power : (count : ℕ) → count ≤ 57 → 1 * 2 ^ count % 2 ^ 64 ≡ 2 ^ count
 mask_power count few =
     let most : 2 ^ count ≤ 2 ^ 57 = pow-le-pow_right {n = 2} (omega arith) few in
@@ -132,7 +132,7 @@ bits_sum n l =
 no_bit : (n count i : ℕ) → n < 2 ^ count → count ≤ i → bit n i ≡ false
 no_bit n count i l h = ap (λ d. d == 1) (bit_at_above n count i l h)
 
--- the byte of so many voxels
+-- the byte of that many voxels
 pub byte_of : (voxels : List Bool) (k count byte : ℕ) → count ≤ 8 → byte < 2 ^ count
     → ((i : ℕ) → i < count → bit byte i ≡ get_or voxels (8 * k + i) false)
     → ((i : ℕ) → count ≤ i → i < 8 → get_or voxels (8 * k + i) false ≡ false) → byte ≡ byte_at voxels k

@@ -102,7 +102,7 @@ has_cases a b s e d h = of (Contains-push_cases a.found.items s h.stretch (subst
     of (inl k) = inl (record { stretch = h.stretch; is_found = k; among = h.among })
     of (inr q) = inr (subst (λ (t : Stretch). IsAmong t d) (sym q) h.among)
 
--- nothing was taken
+-- nothing was removed
 pub takes_none : (near : Coord → Type 0) (a b : Flood) → b.remaining.resolution ≡ a.remaining.resolution
     → ((d : Coord) → is_full b.remaining d ≡ is_full a.remaining d) → b.found.items ≡ a.found.items → TakesOut near a b
 takes_none near a b r same found = record {
@@ -151,7 +151,7 @@ pub both_true : (a b : Bool) → (a && b) ≡ true → (a ≡ true) × (b ≡ tr
 both_true true b h = (refl, h)
 both_true false b h = cc
 
--- a bit of a word that has so many bits
+-- a bit of a word that has that many bits
 pub below_count : (n count k : ℕ) → n < 2 ^ count → bit n k ≡ true → k < count
 below_count n count k l b = by (cases_lt k count)
   where
@@ -179,7 +179,7 @@ module _ (a b : Flood) (first : Coord) (count bits taken : ℕ) (r : b.remaining
   pub fewer_in_row : (d : Coord) → is_full a.remaining d ≡ false → is_full b.remaining d ≡ false
   fewer_in_row d f = left d ∙ ap (λ t. t && not (is_marked first count bits d)) f
 
-  -- a voxel of the row that was there is one of those that were taken, and it is there no longer
+  -- a voxel of the row is among the removed ones if and only if it is in the segment and was full
   taken_bit : (d : Coord) → d.x ≡ first.x → d.y ≡ first.y → first.z ≤ d.z → d.z < first.z + count
       → bit taken (d.z - first.z) ≡ (bit bits (d.z - first.z) && is_full a.remaining d)
   taken_bit d x y l u = was (d.z - first.z) (omega arith) ∙ ap (λ c. bit bits (d.z - first.z) && is_full a.remaining c) (its_place first d x y l)
@@ -192,7 +192,7 @@ module _ (a b : Flood) (first : Coord) (count bits taken : ℕ) (r : b.remaining
       none true = refl
       none false = refl
 
-  -- where none was taken, all stay
+  -- if none was removed, all stay
   pub row_same : taken ≡ 0 → (d : Coord) → is_full b.remaining d ≡ is_full a.remaining d
   row_same z d = left d ∙ by (is_full a.remaining d) (is_marked first count bits d) refl refl
     where
@@ -213,7 +213,7 @@ module _ (a b : Flood) (first : Coord) (count bits taken : ℕ) (r : b.remaining
       × (d.z < first.z + count) × (bit bits (d.z - first.z) ≡ true)
   row_parts d t = parts_of first count bits d (was_marked (is_full a.remaining d) (is_full b.remaining d) (is_marked first count bits d) t.before (left d) t.after)
 
-  -- a voxel that was taken is among those that were asked for, and among those that were taken
+  -- a voxel that was removed is among those of the segment
   pub row_asked : (d : Coord) → IsTaken a.remaining b.remaining d → IsAmong (record { first = first; bits = bits }) d
   row_asked d t =
       let parts_of_row = row_parts d t in
@@ -311,7 +311,7 @@ takes_then near a b c h k = record {
     start s (inl m) = h.starts s m
     start s (inr m) = inr (subst (λ (n : ℕ). IsInSpace n s.first × (s.first.z % 64 ≡ 0)) h.resolution m)
 
--- what is near by a narrower word is near by a wider one
+-- a coordinate that is near by a narrower word is near by a wider one
 pub takes_wider : (near far : Coord → Type 0) (a b : Flood)
     → ((d : Coord) → IsTrue (is_full a.remaining d) → near d → far d) → TakesOut near a b → TakesOut far a b
 takes_wider near far a b wider h = record {
@@ -324,7 +324,7 @@ takes_wider near far a b wider h = record {
   weighs = h.weighs;
 }
 
--- ---- what is not there
+-- ---- voxels that do not remain
 
 pub void_by : (m : Matrix) (d : Coord) → (IsInSpace m.resolution d → ⊥) → is_full m d ≡ false
 void_by m d out = by (is_full m d) refl
@@ -333,7 +333,7 @@ void_by m d out = by (is_full m d) refl
     by false e = refl
     by true e = absurd (out (full_within m d e))
 
--- of a stretch nothing is there after its row was taken
+-- no voxel of a segment remains after its row was removed
 pub gone_row : (a b : Flood) (first : Coord) (count bits taken : ℕ)
     (r : b.remaining.resolution ≡ a.remaining.resolution) (few : count ≤ 64)
     (was : (k : ℕ) → k < count → bit taken k ≡ (bit bits k && is_full a.remaining (at first (first.z + k))))
@@ -346,14 +346,14 @@ gone_row a b first count bits taken r few was left size d h = by (cases_lt d.z (
     by (inl l) = row_gone a b first count bits taken r few was left d h.x h.y h.from l h.here
     by (inr l) = void_by b.remaining d (λ i. let along_z = i.z in let up_to = h.to in let from = h.from in absurd (omega arith))
 
--- ---- around a stretch
+-- ---- around a segment
 
--- a stretch beside another was taken
+-- a segment next to another was removed
 pub takes_beside : (a b : Flood) (s t : Stretch) → TakesOut (IsAmong t) a b
     → ((d : Coord) → IsInSpace a.remaining.resolution d → IsAmong t d → IsBeside s d) → TakesOut (IsBeside s) a b
 takes_beside a b s t h near = takes_wider (IsAmong t) (IsBeside s) a b (λ d f k. near d (full_within a.remaining d f) k) h
 
--- the seven stretches beside one were taken
+-- the seven segments next to one were removed
 pub takes_around : (a b c d e f g h : Flood) (s : Stretch) → IsStart MOST_R s → a.remaining.resolution ≤ MOST_R
     → s.bits < 2 ^ 64 → TakesOut
     (IsAmong (record { first = record { x = s.first.x + 1; y = s.first.y; z = s.first.z }; bits = s.bits })) a b

@@ -1,4 +1,4 @@
--- In a heap each full voxel is grounded, by the voxels under it.
+-- Without overhangs each full voxel is grounded, by the voxels below it.
 use Rattle.std.proofs.Common.{◌≡◌, ℕ, zero, suc, refl, arith, List, [], ◌∷◌, inl, inr}
 use Rattle.std.specs.Prelude.{IsTrue, ◌⊎◌, None}
 use Rattle.vox_geom.specs.declared.coordinate.Coord.{Coord}
@@ -10,7 +10,7 @@ use Rattle.vox_geom.specs.Point.{below as under}
 use Rattle.vox_planes.specs.Heap.{IsHeap}
 use Rattle.vox_geom.proofs.Adjacent.{adjacent_by}
 
--- a voxel so high up is grounded
+-- a voxel at this height is grounded
 grounded_from : (m : Matrix) → IsHeap m → (y : ℕ) (c : Coord) → c.y ≡ y → IsTrue (is_full m c) → Grounded m c
 grounded_from m heap zero c e f = on_floor m c f e
 grounded_from m heap (suc y) c e f = by (heap c f) (grounded_from m heap y (under c) (omega arith))

@@ -27,7 +27,7 @@ abbrev AreRuns : ℕ → List ℕ → Type 0
 AreRuns index [] = Unit {0}
 AreRuns index (n ∷ ns) = (n ≡ 0 → index ≡ 0) × AreRuns (index + 1) ns
 
--- the runs that bytes say, written again
+-- the runs that bytes encode, written again
 record IsSaid (index : ℕ) (bytes ns : List ℕ) : Type 0 where
   again : flat_map four_bytes ns ≡ bytes
   runs : AreRuns index ns
@@ -122,7 +122,7 @@ lengths_back (suc k ∷ ns) index n false l h =
 runs_again : (n : ℕ) (ns : List ℕ) → AreRuns 0 (n ∷ ns) → run_lengths 0 false (voxels_of false (n ∷ ns)) ≡ n ∷ ns
 runs_again n ns h = same_voxels n 0 false (voxels_of true ns) ∙ (ap (λ v. run_lengths v false (voxels_of true ns)) (zero-add n) ∙ lengths_back ns 1 n false (omega arith) h.1)
 
--- there are runs where there are voxels
+-- there are runs if there are voxels
 none_said : (total : ℕ) (bytes : List ℕ) → 0 < total → runs_in total 0 0 bytes ≡ Ok [] → ⊥
 none_said total [] p h = by (nat_lt 0 total) (some total p) h
   where
@@ -224,7 +224,7 @@ cut_length used [] = refl
 cut_length used (b ∷ []) = refl
 cut_length used (b ∷ c ∷ more) = ap suc (cut_length used (c ∷ more))
 
--- the voxels that the bytes say
+-- the voxels that the bytes encode
 abbrev said_voxels : ℕ → List ℕ → List Bool
 said_voxels r bytes = map (voxel_bit bytes) (numbers_below (volume r))
 

@@ -1,4 +1,4 @@
--- How a search from the floor goes on, and what it has found at its end.
+-- How a search from the floor proceeds, and its result at the end.
 use Rattle.std.proofs.Common.{◌≡◌, ℕ, zero, suc, not, ◌&&◌, bit_or, max, ◌+◌, ◌-◌, ◌%◌, ◌^◌, ◌<◌, ◌≤◌, refl, sym, ◌∙◌, ap, subst, arith, Bool, true, false, ◌==◌, List, [], ◌∷◌, ◌++◌, length, inl, inr}
 use Rattle.std.specs.Prelude.{IsTrue, ◌⊎◌, All, Contains, find, Option, Some, None, cond}
 use Rattle.std.specs.Int.{bit_at}
@@ -26,7 +26,7 @@ use Rattle.model_file.proofs.Stretches.{is_one, moved, near_moved, one_of}
 use Rattle.model_file.proofs.Floods.{fewer_in_row, full_within, row_asked, row_taken, row_was, has_cases, has_last, has_more, has_same}
 use Rattle.model_file.specs.Flood.{HasFound, IsAmong, IsBeside, IsFlood, IsStart, IsTaken, TakesOut}
 
--- a stretch that was found is looked around
+-- a segment of the frontier is expanded
 pub flood_more : (m : Matrix) (s popped new : Flood) (p : Stretch) → IsFlood m s → popped.remaining ≡ s.remaining
     → s.found.items ≡ popped.found.items ++ p ∷ [] → TakesOut (IsBeside p) popped new
     → ((d : Coord) → IsBeside p d → is_full new.remaining d ≡ false) → IsFlood m new
@@ -72,7 +72,7 @@ flood_more m s popped new p fl same items t gone = record {
         of (inl h) = t.kept a h
         of (inr h) = anything_by (is_full new.remaining b) f (gone b (record { one = a; among = h; adjacent = n }))
 
--- stretches that were found begin where stretches do
+-- segments of the frontier begin at each 64th coordinate
 pub found_starts : (near : Coord → Type 0) (popped new : Flood)
     → All (IsStart popped.remaining.resolution) popped.found.items → TakesOut near popped new
     → All (IsStart popped.remaining.resolution) new.found.items
@@ -84,7 +84,7 @@ found_starts near popped new starts t = All-weaker (Contains new.found.items) (I
     by s (inl k) = All-contains (IsStart popped.remaining.resolution) popped.found.items s starts k
     by s (inr k) = record { within = k.0; each = k.1 }
 
--- a stretch is widened by what is beside it in its own word
+-- a segment is widened by its neighbors in its own word
 module _ (popped new : Flood) (p : Stretch) (count more : ℕ) (r : new.remaining.resolution ≡ popped.remaining.resolution) (few : count ≤ 64)
     (was : (k : ℕ) → k < count → bit more k ≡ (bit (moved p.bits) k && is_full popped.remaining (at p.first (p.first.z + k))))
     (cut : (d : Coord) → is_full new.remaining d ≡ (is_full popped.remaining d && not (is_marked p.first count (moved p.bits) d)))
@@ -181,7 +181,7 @@ in_none f d e h = let length_is : length f.found.items ≡ 0 = ap length e in le
 
 -- ---- the end
 
--- what is left is not grounded
+-- the remaining voxels are not grounded
 left_floats : (m : Matrix) (f : Flood) → IsFlood m f → f.found.items ≡ [] → (c : Coord) → IsTrue (is_full f.remaining c)
     → Grounded m c → ⊥
 left_floats m f fl none c t =
@@ -206,7 +206,7 @@ first_failing {A = A} P test bad good (a ∷ xs) = by (test a) refl (find test x
     by false e None h = (good a e, h)
     by false e (Some c) h = inr (good a e, h)
 
--- the least voxel that is left is the least that is not grounded
+-- the least remaining voxel is the least that is not grounded
 pub left_is_ungrounded : (m : Matrix) (f : Flood) (test : Coord → Bool) → IsFlood m f → f.found.items ≡ []
     → ((c : Coord) → test c ≡ true → IsTrue (is_full f.remaining c))
     → ((c : Coord) → IsTrue (is_full f.remaining c) → test c ≡ true) → FirstUngrounded m (find test (all_of m))
@@ -223,7 +223,7 @@ left_is_ungrounded m f test fl none sound complete =
         by true v = anything_by (test c) (complete c v) e
         by false v = fl.grounded c (record { before = t; after = v })
 
--- only what was found of a search, and what is left, says how far it has come
+-- the state of a search is only its frontier and the remaining voxels
 pub flood_same : (m : Matrix) (a b : Flood) → b.remaining ≡ a.remaining → b.found.items ≡ a.found.items → IsFlood m a
     → IsFlood m b
 flood_same m a b same items fl = record {

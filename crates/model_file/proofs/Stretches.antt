@@ -1,5 +1,5 @@
--- What lies beside a stretch: the stretches of the four rows around it, its own voxels moved by one, and the ends
--- beside it.
+-- The neighbors of a segment: the segments of the four rows around it, its own voxels moved by one, and the ends next
+-- to it.
 use Rattle.std.proofs.Common.{◌≡◌, ℕ, zero, suc, ◌+◌, ◌-◌, ◌*◌, ◌/◌, ◌%◌, ◌^◌, ◌<◌, ◌≤◌, refl, sym, ◌∙◌, ap, subst, arith, true, false, ◌==◌, bit_or, max, inl, inr}
 use Rattle.std.specs.Prelude.{◌⊎◌}
 use Rattle.std.specs.Int.{bit_at}
@@ -99,7 +99,7 @@ from_side n k l fits h = by (cases (bit_at (n / 2 ^ 1) k) (bit_at-lt (n / 2 ^ 1)
         at zero u s = let bit_is : bit_at (n * 2 ^ 1 % 2 ^ 64) k ≡ 0 = low_zero n 1 k (omega arith) (omega arith) in let one : bit_at (n * 2 ^ 1 % 2 ^ 64) k ≡ 1 = raised in absurd (omega arith)
         at (suc j) u s = inl (omega arith, is_one (bit_at n (k - 1)) (sym (raised_bit n 1 k (omega arith) l) ∙ raised))
 
--- ---- what is near
+-- ---- near coordinates
 
 -- the gaps of two coordinates of one row
 row_gap : (sx sy z dx dy dz : ℕ) → dx ≡ sx → dy ≡ sy → (z - dz) + (dz - z) ≡ 1
@@ -212,7 +212,7 @@ module _ (s : Stretch) (r : ℕ) (start : IsStart MOST_R s) (most : r ≤ MOST_R
           let bit_set : bit s.bits (s.first.z - s.first.z) ≡ true = is_one (bit_at s.bits (s.first.z - s.first.z)) (ap (bit_at s.bits) (sym difference_is) ∙ (sym (raised_bit s.bits 63 (d.z - word_less s.first.z) l u) ∙ one_of (bit_at (s.bits * 2 ^ 63 % 2 ^ 64) (d.z - word_less s.first.z)) a.here)) in
           along s.first.z d a.x a.y (omega arith) (omega arith) bit_set (omega arith)
 
-  -- what holds of all seven stretches holds of each coordinate that is beside
+  -- a property of all seven segments is one of each coordinate next to the segment
   pub of_seven : (P : Coord → Type 0) → ((d : Coord)
       → IsAmong (record { first = record { x = s.first.x + 1; y = s.first.y; z = s.first.z }; bits = s.bits }) d → P d)
       → ((d : Coord)

@@ -36,7 +36,7 @@ before-ok : (runs more : List ℕ) → before runs (Ok more) ≡ Ok (runs ++ mor
 before-ok [] more = refl
 before-ok (n ∷ runs) more = ap (with_first n) (before-ok runs more)
 
--- ---- what is left of the bytes
+-- ---- the rest of the bytes
 
 too_few : (total index sum : ℕ) (rest : List ℕ) → length rest < 4 → sum < total
     → runs_in total index sum rest ≡ Err (WideShort sum)
@@ -61,7 +61,7 @@ no_more total index sum h = rw (runs_in, test_not_less sum total h) refl
 abbrev pub next_run : List ℕ → ℕ → ℕ
 next_run bytes at = number_of_four (slice_index bytes at) (slice_index bytes (at + 1)) (slice_index bytes (at + 2)) (slice_index bytes (at + 3))
 
--- what comes of a run, and of the bytes behind it
+-- the result of a run, and of the bytes behind it
 abbrev taken : ℕ → ℕ → ℕ → ℕ → List ℕ → Result (List ℕ) NoModel
 taken total index sum run rest = elim (is_no_run total index sum run) [ true ↦ Err (WideRun index) | false ↦ with_first run (runs_in total (index + 1) (sum + run) rest) ]
 
@@ -75,7 +75,7 @@ four_of (a ∷ b ∷ c ∷ d ∷ rest) total index sum l h = rw (runs_in, test_l
 
 -- ---- how far the runs were filled
 
--- so many bytes were read as runs, of which the full ones are filled
+-- this many bytes were read as runs, and the full ones are filled
 pub record HasRuns (r : ℕ) (bytes : List ℕ) (m : Matrix) (at index sum : ℕ) (full : Bool) : Type 0 where
   pub done : List ℕ
   pub reads : runs_in (volume r) 0 0 bytes ≡ before done (runs_in (volume r) index sum (drop at bytes))
@@ -116,7 +116,7 @@ next_of bytes at = λ i. number_of_four ((here 0 ∙ ap (slice_index bytes) firs
 
 -- ---- one more run
 
--- the next run, and what is left behind it
+-- the next run, and the bytes behind it
 next_taken : (bytes : List ℕ) (total at index sum run : ℕ) → at + 4 ≤ length bytes → sum < total
     → run ≡ next_run bytes at
     → runs_in total index sum (drop at bytes) ≡ taken total index sum run (drop (at + 4) bytes)
@@ -196,7 +196,7 @@ run_more r bytes old new at index sum run full h four less er nz fits set resolu
     few zero z = let index_is : index ≡ 0 = z refl in omega arith
     few (suc n) z = omega (arith, h.few)
 
--- ---- where the runs end
+-- ---- the end of the runs
 
 refused : (r : ℕ) (bytes : List ℕ) (m : Matrix) (at index sum : ℕ) (full : Bool) (e : NoModel)
     → HasRuns r bytes m at index sum full → runs_in (volume r) index sum (drop at bytes) ≡ Err e

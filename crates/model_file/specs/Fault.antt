@@ -1,4 +1,4 @@
--- What is answered to the bytes of a model, and to the question whether it is legal (docs/FORMATS.md, "Model files",
+-- The results for the bytes of a model, and for the question whether it is legal (docs/FORMATS.md, "Model files",
 -- "Refusals").
 use Rattle.std.specs.Prelude.{◌≡◌, ◌⊎◌, ℕ, Result, Ok, Err, Some, None, ⊤}
 use mathlib.Core.Logic.{inl, inr}
@@ -26,7 +26,7 @@ model_refusal_number (WideRun index) = 10
 model_refusal_number (WideShort have) = 11
 model_refusal_number WideLong = 12
 
--- why bytes are no model, or why a model is not legal, by the definitions
+-- the reason why bytes are no model, or why a model is not legal, by the definitions
 abbrev pub why_refused : ModelRefusal → NoModel ⊎ NotLegal
 why_refused NoByte = inl spec.NoByte
 why_refused (Resolution r) = inl (spec.Resolution r)
@@ -40,7 +40,7 @@ why_refused (WideRun index) = inl (spec.WideRun index)
 why_refused (WideShort have) = inl (spec.WideShort have)
 why_refused WideLong = inl spec.WideLong
 
--- the bytes say no model for this reason, and the reason is none by which a model is not legal
+-- the bytes encode no model for this reason, and the reason is none by which a model is not legal
 abbrev pub SaysNone : Result Matrix NoModel → NoModel ⊎ NotLegal → Type 0
 SaysNone said (inl why) = said ≡ Err why
 SaysNone said (inr why) = ⊥
@@ -50,13 +50,13 @@ abbrev pub IsNotLegal : Matrix → NoModel ⊎ NotLegal → Type 0
 IsNotLegal m (inl why) = ⊥
 IsNotLegal m (inr why) = Legality m (Some why)
 
--- the answer is what the bytes say, unless there was no memory
+-- the result is the model or the refusal of the bytes, unless allocation failed
 abbrev pub ReadsModel : Result Matrix NoModel → Result Matrix ModelFault → Type 0
 ReadsModel said (Ok m) = said ≡ Ok m
 ReadsModel said (Err (Refused refusal)) = SaysNone said (why_refused refusal)
 ReadsModel said (Err Memory) = ⊤
 
--- the answer is whether the model is legal, and if not why, unless there was no memory
+-- the result is whether the model is legal, and if not, the reason, unless allocation failed
 abbrev pub Judges : Matrix → Result (Unit {0}) ModelFault → Type 0
 Judges m (Ok done) = Legality m None
 Judges m (Err (Refused refusal)) = IsNotLegal m (why_refused refusal)

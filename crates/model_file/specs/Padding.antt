@@ -6,7 +6,7 @@ use Rattle.nano_spec.specs.Model.{volume}
 abbrev pub used_bits : ℕ → ℕ
 used_bits r = volume r - 8 * ((volume r + 7) / 8 - 1)
 
--- the bytes with only so many of the lowest bits left in the last one
+-- the bytes, with only the n lowest bits left in the last one
 abbrev pub cut_last : ℕ → List ℕ → List ℕ
 cut_last used [] = []
 cut_last used (b ∷ []) = b % 2 ^ used ∷ []

@@ -15,7 +15,7 @@ use std::sync::ledger::{Blank, Ledger};
 use vox_geom::{Memory, Steps};
 use vox_planes::Planes;
 
-/// The model that the bytes say, in either form.
+/// Returns the model that the bytes encode, in either form.
 pub fn read_model(alloc: Global, bytes: &[u8]) -> Result<Planes, ModelFault>
     ensures { ReadsModel (model bytes.now) result }
 {
@@ -28,7 +28,7 @@ pub fn read_model(alloc: Global, bytes: &[u8]) -> Result<Planes, ModelFault>
     read_first(alloc, bytes[0], bytes)
 }
 
-/// The bytes of the model, read by a counter of touches that nobody reads.
+/// Returns the bytes of the model. Its reads use a counter of touches that is discarded.
 fn write_by<L: Ledger>(alloc: Global, planes: &Planes, blank: Blank) -> Result<Vec<u8>, Memory>
     requires blank { IsBlankOf blank L.name L.parts }
     ensures { IfOk result (λ bytes. bytes.items ≡ written planes.now) }
@@ -40,7 +40,7 @@ fn write_by<L: Ledger>(alloc: Global, planes: &Planes, blank: Blank) -> Result<V
     write_first(alloc, planes, &mut steps)
 }
 
-/// The bytes of the model: the first form up to resolution 250, with padding bits 0, and the wide form above.
+/// Returns the bytes of the model: the first form up to resolution 250, with padding bits 0, and the wide form above.
 pub fn write_model(alloc: Global, planes: &Planes) -> Result<Vec<u8>, Memory>
     ensures { IfOk result (λ bytes. bytes.items ≡ written planes.now) }
 {

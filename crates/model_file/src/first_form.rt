@@ -15,10 +15,10 @@ use vox_planes::Planes;
 /// The greatest resolution of this form.
 pub const FIRST_FORM_MOST_R: u8 = 250;
 
-/// How many voxels of a row are read at a time: the first one's bit is in the lowest byte of a word.
+/// The number of voxels of a row that are read at a time: the first one's bit is in the lowest byte of a word.
 const WORD_VOXELS: u16 = 57;
 
-/// The number of voxels at a resolution.
+/// Returns the number of voxels at a resolution.
 pub fn volume(r: u16) -> u32
     requires { r ≤ MOST_R }
     ensures { result ≡ volume_of r }
@@ -27,7 +27,7 @@ pub fn volume(r: u16) -> u32
     side * side * side
 }
 
-/// How many bytes this form takes at a resolution.
+/// Returns the number of bytes of this form at a resolution.
 fn count_wanted(r: u16) -> u32
     requires { r ≤ MOST_R }
     ensures { result ≡ wanted_of r }
@@ -74,7 +74,8 @@ fn word(bytes: &[u8], at: usize) -> u64
     ])
 }
 
-/// Makes the voxels of the row with this x and y those that the bytes say, if all before them are, and all others void.
+/// Sets the voxels of the row with this x and y from the bytes. All voxels before the row are set already, and all others are
+/// void.
 fn set_row(planes: &mut Planes, bytes: &[u8], x: u16, y: u16)
     requires length { length bytes.now ≡ wanted_of planes.old.resolution }
     requires x { x < planes.old.resolution }
@@ -100,7 +101,7 @@ fn set_row(planes: &mut Planes, bytes: &[u8], x: u16, y: u16)
     }
 }
 
-/// Makes the voxels with this x those that the bytes say, if all before them are, and all others void.
+/// Sets the voxels with this x from the bytes. All voxels before them are set already, and all others are void.
 fn set_wall(planes: &mut Planes, bytes: &[u8], x: u16)
     requires length { length bytes.now ≡ wanted_of planes.old.resolution }
     requires x { x < planes.old.resolution }
@@ -113,7 +114,7 @@ fn set_wall(planes: &mut Planes, bytes: &[u8], x: u16)
     }
 }
 
-/// Makes the void voxels those that the bytes say.
+/// Sets the voxels of a void matrix from the bytes.
 fn set_voxels(planes: &mut Planes, bytes: &[u8])
     requires length { length bytes.now ≡ wanted_of planes.old.resolution }
     requires void { planes.old ≡ empty_of planes.old.resolution }
@@ -129,7 +130,7 @@ fn set_voxels(planes: &mut Planes, bytes: &[u8])
     }
 }
 
-/// The model that the bytes of this form say, whose first byte is the resolution.
+/// Returns the model that the bytes of this form encode. The first byte is the resolution.
 pub fn read_first(alloc: Global, r: u8, bytes: &[u8]) -> Result<Planes, ModelFault>
     ensures { ReadsModel (first_form r bytes.now) result }
 {
@@ -151,7 +152,7 @@ pub fn read_first(alloc: Global, r: u8, bytes: &[u8]) -> Result<Planes, ModelFau
     Ok(planes)
 }
 
-/// The bytes of the model in this form.
+/// Returns the bytes of the model in this form.
 pub fn write_first<L: Ledger>(
     alloc: Global,
     planes: &Planes,

@@ -1,4 +1,4 @@
-//! A search from the floor, many voxels at a time, which takes all that it reaches out of a copy of the planes.
+//! A search from the floor, many voxels at a time, which removes all that it reaches from a copy of the planes.
 ghost use Rattle.std.specs.Prelude.{◌≡◌, ◌+◌, ◌<◌, ◌%◌, ◌≤◌, ◌++◌, ◌∷◌, [], All, IfOk, false, true};
 ghost use Rattle.vox_geom.specs.Counting.{IsBlankOf};
 ghost use Rattle.vox_geom.specs.declared.coordinate.Coord.{Coord as Coordinate};
@@ -16,14 +16,14 @@ use std::sync::ledger::{Blank, Ledger};
 use vox_geom::{Coord, MOST_R, Memory, Region, Steps};
 use vox_planes::Planes;
 
-/// Voxels of one row: those, of 64 from a coordinate on, for which a bit is 1.
+/// A segment of a row: those, of 64 voxels from a coordinate on, whose bit is 1.
 #[derive(Clone, Copy, Debug)]
 struct Stretch {
     first: Coord,
     bits: u64,
 }
 
-/// What is left of a matrix, and the voxels that were taken out of it and around which nothing was looked at yet.
+/// The remaining voxels of a matrix, and the frontier: segments of removed voxels whose neighbors were not visited yet.
 #[derive(Drop)]
 struct Flood {
     remaining: Planes,
@@ -31,7 +31,7 @@ struct Flood {
 }
 
 impl Flood {
-    /// Takes those voxels of a stretch out that are there. None is there outside the matrix.
+    /// Removes the full voxels of a segment and appends them to the frontier. No voxel outside the matrix is full.
     fn take<L: Ledger>(
         &mut self,
         first: Coord,
@@ -60,7 +60,7 @@ impl Flood {
         }
     }
 
-    /// Takes the voxels out that are beside those of a stretch.
+    /// Removes the neighbors of a segment.
     fn take_around<L: Ledger>(
         &mut self,
         first: Coord,
@@ -110,9 +110,10 @@ impl Flood {
         Ok(())
     }
 
-    /// Looks around a stretch: it is found again, wider, where voxels beside it in its own word are there, and else all
-    /// voxels beside it are taken out. Without the first, a search that comes into a word by one voxel would go on by
-    /// single voxels.
+    /// Expands a segment: if full neighbors are in its own word, the segment joins the frontier again, with them; otherwise all
+    /// its neighbors are removed.
+    ///
+    /// Without the first case, a search that enters a word at one voxel would proceed voxel by voxel.
     fn look_around<L: Ledger>(
         &mut self,
         first: Coord,
@@ -148,7 +149,7 @@ impl Flood {
         }
     }
 
-    /// Whether voxels of a stretch are left.
+    /// Returns whether voxels of a segment remain.
     fn is_left<L: Ledger>(&self, first: Coord, bits: u64, steps: &mut Steps<L>) -> bool
         ensures { result ≡ false → (d : Coordinate) → IsAmong (record { first = first; bits = bits }) d
             → is_full self.now.remaining d ≡ false }
@@ -164,7 +165,7 @@ impl Flood {
         self.remaining.peek_row(first, count, bits, steps) != 0
     }
 
-    /// Whether voxels beside those of a stretch are left.
+    /// Returns whether neighbors of a segment remain.
     fn is_left_around<L: Ledger>(&self, first: Coord, bits: u64, steps: &mut Steps<L>) -> bool
         requires { IsStart MOST_R (record { first = first; bits = bits }) }
         ensures { result ≡ false → (d : Coordinate) → IsBeside (record { first = first; bits = bits }) d
@@ -195,7 +196,7 @@ impl Flood {
         self.is_left(Coord { x, y, z: before }, bits << 63, steps)
     }
 
-    /// Which voxels of a stretch are out, as its bits.
+    /// Returns the removed voxels of a segment, as its bits.
     fn out_of<L: Ledger>(&self, planes: &Planes, first: Coord, steps: &mut Steps<L>) -> u64
         requires within { IsInSpace planes.now.resolution first }
         requires begun { IsBegun planes.now self.now }
@@ -206,7 +207,7 @@ impl Flood {
         planes.peek_row(first, count, !own, steps)
     }
 
-    /// Takes out the voxels that are beside those of a stretch that are out already.
+    /// Removes the neighbors of the voxels of a segment that are removed already.
     fn take_beside<L: Ledger>(
         &mut self,
         planes: &Planes,
@@ -227,7 +228,7 @@ impl Flood {
         Ok(())
     }
 
-    /// Takes out the voxels that are beside those of a row that are out already.
+    /// Removes the neighbors of the voxels of a row that are removed already.
     fn take_beside_row<L: Ledger>(
         &mut self,
         planes: &Planes,
@@ -248,7 +249,7 @@ impl Flood {
         Ok(())
     }
 
-    /// Whether no voxel of a layer is left, nor one of those under and over it.
+    /// Returns whether no voxel remains in a layer, nor in the layers below and above it.
     fn is_bare_at<L: Ledger>(&self, y: u16, steps: &mut Steps<L>) -> bool
         requires { y < self.now.remaining.resolution }
         ensures { result ≡ true → (d : Coordinate) → y ≤ d.y + 1 → d.y ≤ y + 1
@@ -270,7 +271,7 @@ impl Flood {
             .is_none()
     }
 
-    /// Takes out the voxels that are beside those of a layer that are out already.
+    /// Removes the neighbors of the voxels of a layer that are removed already.
     fn take_beside_layer<L: Ledger>(
         &mut self,
         planes: &Planes,
@@ -291,7 +292,7 @@ impl Flood {
         Ok(())
     }
 
-    /// Takes out the voxels that are beside those that are out already.
+    /// Removes the neighbors of the voxels that are removed already.
     fn take_beside_all<L: Ledger>(
         &mut self,
         planes: &Planes,
@@ -307,7 +308,7 @@ impl Flood {
         Ok(())
     }
 
-    /// Takes out all voxels that are reached from those that were found.
+    /// Removes all voxels that are reachable from the frontier.
     fn spread<L: Ledger>(&mut self, steps: &mut Steps<L>) -> Result<(), Memory>
         requires most { self.old.remaining.resolution ≤ MOST_R }
         requires starts { All (IsStart self.old.remaining.resolution) self.old.found.items }
@@ -321,8 +322,9 @@ impl Flood {
     }
 }
 
-/// The least full voxel that is not grounded, counted in a ledger of its own. The search begins beside what stands on the floor or on
-/// one another from the floor up: that is out by one pass over the words.
+/// Returns the least full voxel that is not grounded. Counts touches in its own ledger.
+///
+/// First removes all supported columns by one pass over the words; the search begins at their neighbors.
 fn first_ungrounded_in<L: Ledger>(
     alloc: Global,
     planes: &Planes,
@@ -345,8 +347,9 @@ fn first_ungrounded_in<L: Ledger>(
     Ok(least_full(&flood.remaining))
 }
 
-/// The least full voxel that is not grounded: `None` where each is grounded. A heap is not searched. By a counter of touches that
-/// nobody reads.
+/// Returns the least full voxel that is not grounded, or `None` if each is grounded. A matrix without overhangs is not searched.
+///
+/// Its reads use a counter of touches that is discarded.
 pub fn first_ungrounded(alloc: Global, planes: &Planes) -> Result<Option<Coord>, Memory>
     ensures { IfOk result (λ at. FirstUngrounded planes.now at) }
 {

@@ -8,7 +8,7 @@ ghost use Rattle.model_file.specs.declared.fault.ModelFault.TheVariants as fault
 ghost use Rattle.model_file.specs.Fault.{ReadsModel};
 ghost use Rattle.model_file.specs.Padding.{without_padding};
 
-/// A model that is written is read as the same model, and one that was read is written as the same bytes with their padding bits 0.
+/// A written model is read back as the same model. A model that was read is written as the same bytes, with their padding bits 0.
 pub fn reading_and_writing()
     ensures read { (m : Matrix) (answer : Result Matrix ModelFault) → IsWhole m
         → ReadsModel (model (written m)) answer → answer ≢ Err fault.Memory → answer ≡ Ok m }

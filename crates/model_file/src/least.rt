@@ -1,4 +1,4 @@
-//! Least full voxels, by a counter of touches that nobody reads.
+//! Least full voxels, with a counter of touches that is discarded.
 ghost use Rattle.std.specs.Prelude.{◌&&◌, not};
 ghost use Rattle.vox_geom.specs.Counting.{IsBlankOf};
 ghost use Rattle.vox_geom.specs.Least.{LeastOf};
@@ -11,7 +11,7 @@ use std::sync::ledger::{Blank, Ledger};
 use vox_geom::{Coord, Region, Steps};
 use vox_planes::{Planes, earlier};
 
-/// The least full voxel, counted in a ledger of its own.
+/// Returns the least full voxel. Counts touches in its own ledger.
 fn least_full_in<L: Ledger>(planes: &Planes, blank: Blank) -> Option<Coord>
     requires blank { IsBlankOf blank L.name L.parts }
     ensures { LeastOf planes.now.resolution (is_full planes.now) result }
@@ -30,14 +30,14 @@ fn least_full_in<L: Ledger>(planes: &Planes, blank: Blank) -> Option<Coord>
     planes.region_full(&all, &mut steps)
 }
 
-/// The least full voxel.
+/// Returns the least full voxel.
 pub fn least_full(planes: &Planes) -> Option<Coord>
     ensures { LeastOf planes.now.resolution (is_full planes.now) result }
 {
     least_full_in::<Brand>(planes, Blank::new(1))
 }
 
-/// The least full voxel outside the legal box, counted in a ledger of its own.
+/// Returns the least full voxel outside the legal box. Counts touches in its own ledger.
 fn first_outside_in<L: Ledger>(planes: &Planes, blank: Blank) -> Option<Coord>
     requires blank { IsBlankOf blank L.name L.parts }
     ensures { LeastOf planes.now.resolution (λ c. is_full planes.now c && not (in_legal_box planes.now.resolution c))
@@ -60,7 +60,7 @@ fn first_outside_in<L: Ledger>(planes: &Planes, blank: Blank) -> Option<Coord>
     earlier(sides, top)
 }
 
-/// The least full voxel outside the legal box.
+/// Returns the least full voxel outside the legal box.
 pub fn first_outside(planes: &Planes) -> Option<Coord>
     ensures { LeastOf planes.now.resolution (λ c. is_full planes.now c && not (in_legal_box planes.now.resolution c))
         result }

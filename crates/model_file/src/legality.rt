@@ -7,7 +7,7 @@ use crate::least::first_outside;
 use std::alloc::Global;
 use vox_planes::Planes;
 
-/// Whether the model is legal. A full voxel outside the legal box is answered before one that floats.
+/// Checks whether the model is legal. A full voxel outside the legal box is reported before one that floats.
 pub fn legal(alloc: Global, planes: &Planes) -> Result<(), ModelFault>
     ensures { Judges planes.now result }
 {

@@ -1,5 +1,5 @@
-//! Model files (docs/FORMATS.md, "Model files") and whether a model is legal ("Geometry").
-//! `read_model`, `write_model`, `legal` and `first_ungrounded` take memory.
+//! Model files (docs/FORMATS.md, "Model files") and whether a model is legal ("Geometry"). `read_model`, `write_model`, `legal`
+//! and `first_ungrounded` allocate.
 #![tactic(auto)]
 
 mod fault;

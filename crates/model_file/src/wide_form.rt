@@ -1,4 +1,4 @@
-//! The wide form of a model file: a mark, the resolution in two bytes, and runs of voxels, by turns void and full.
+//! The wide form of a model file: a mark, the resolution in two bytes, and runs of voxels, alternately void and full.
 ghost use Rattle.std.specs.Prelude.{◌≡◌, ◌+◌, ◌-◌, ◌≤◌, ◌<◌, ◌&&◌, ◌||◌, ◌∷◌, ◌/◌, ◌%◌, ◌^◌, [], ℕ, Bool, false, flat_map, IfOk, List, length, slice_index};
 ghost use Rattle.nano_spec.specs.Matrix.{empty as empty_of};
 ghost use Rattle.nano_spec.specs.Model.{four_bytes, number_of_four, of_runs, run_lengths, runs_in, volume as volume_of, wide_form};
@@ -18,7 +18,7 @@ use vox_planes::Planes;
 /// The least resolution of this form.
 const WIDE_FORM_LEAST_R: u16 = 251;
 
-/// The number in four bytes, the most significant first.
+/// Returns the number in four bytes, the most significant first.
 fn number_at(bytes: &[u8], at: usize) -> u32
     requires { at + 4 ≤ length bytes.now }
     ensures { result
@@ -30,7 +30,7 @@ fn number_at(bytes: &[u8], at: usize) -> u32
     first * 65536 + last
 }
 
-/// Makes the voxels of a run full, if it is a full one.
+/// Fills the voxels of a run, if it is a full one.
 fn fill_run(planes: &mut Planes, from: u32, end: u32, full: bool)
     requires order { from ≤ end }
     requires within { end ≤ volume_of planes.old.resolution }
@@ -79,7 +79,7 @@ fn fill_runs(planes: &mut Planes, bytes: &[u8]) -> Result<(), ModelRefusal>
     Ok(())
 }
 
-/// The model that the bytes of this form say behind the mark.
+/// Returns the model that the bytes of this form encode behind the mark.
 pub fn read_wide(alloc: Global, bytes: &[u8]) -> Result<Planes, ModelFault>
     ensures { ReadsModel (wide_form bytes.now) result }
 {
@@ -99,7 +99,7 @@ pub fn read_wide(alloc: Global, bytes: &[u8]) -> Result<Planes, ModelFault>
     }
 }
 
-/// Runs in the making: the bytes so far, and the run that is not written yet.
+/// An encoder of runs: the bytes so far, and the run that is not written yet.
 #[derive(Drop)]
 struct RunWriter {
     bytes: Vec<u8>,
@@ -108,7 +108,7 @@ struct RunWriter {
 }
 
 impl RunWriter {
-    /// The mark and the resolution, and an empty run of void voxels.
+    /// Returns the mark and the resolution, and an empty run of void voxels.
     fn new(alloc: Global, r: u16) -> Result<RunWriter, Memory>
         ensures bytes { IfOk result (λ w. w.bytes.items ≡ WIDE_MARK ∷ r / 256 ∷ r % 256 ∷ []) }
         ensures run { IfOk result (λ w. w.run ≡ 0) }
@@ -123,7 +123,7 @@ impl RunWriter {
         })
     }
 
-    /// Adds one voxel. Whatever voxels follow, the bytes come out the same as if it was still to come.
+    /// Adds one voxel. Whatever voxels follow, the final bytes are the same as if it was still to come.
     fn add(&mut self, full: bool) -> Result<(), Memory>
         requires { self.old.run + 1 < 2 ^ 32 }
         ensures same { IfOk result
@@ -141,7 +141,7 @@ impl RunWriter {
         Ok(())
     }
 
-    /// The bytes, with the last run.
+    /// Returns the bytes, with the last run.
     fn end(self) -> Result<Vec<u8>, Memory>
         ensures { IfOk result (λ bytes. bytes.items ≡ with_runs self.bytes.items self.run self.full []) }
     {
@@ -151,7 +151,7 @@ impl RunWriter {
     }
 }
 
-/// The bytes of the model in this form.
+/// Returns the bytes of the model in this form.
 pub fn write_wide<L: Ledger>(
     alloc: Global,
     planes: &Planes,

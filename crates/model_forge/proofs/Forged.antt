@@ -1,4 +1,4 @@
--- The whole model, of which row after row is forged.
+-- The whole model, forged row after row.
 use Rattle.std.proofs.Common.{◌≡◌, ℕ, zero, suc, ◌+◌, ◌*◌, ◌/◌, ◌%◌, ◌<◌, ◌≤◌, refl, sym, ◌∙◌, ap, subst, inl, inr, ◌⊎◌, arith, false, ◌&&◌, ◌||◌, ◌==◌, length}
 use Rattle.std.specs.Prelude.{nat_lt}
 use Rattle.std.proofs.Math.Nat.{div-eq_of_lt, le-div_iff_mul-le}
@@ -17,7 +17,7 @@ use Rattle.vox_planes.proofs.Voxels.{get_or-where, length-where, void_at}
 use Rattle.model_forge.specs.declared.tower.Tower.{Tower}
 use Rattle.model_forge.specs.Forging.{IsForged, is_forged, row_place}
 
--- a coordinate that is not over the columns' places is void
+-- a coordinate that is not above a possible column is void
 outside : (number r : ℕ) (tower : Tower) (c : Coord) → is_inner r c ≡ false → is_forged number r tower c ≡ false
 outside number r tower c e = ap (λ b. b && (nat_lt c.y (column_height number r c.x c.z) || (c.y + 1 == tower.height && (c.x % 2 == 0 || c.z == tower.z)))) e
 

@@ -1,4 +1,4 @@
--- A row that is forged: what is put into it is what the definition has there.
+-- A row that is forged: its voxels are those of the definition.
 use Rattle.std.proofs.Common.{◌≡◌, ℕ, ◌+◌, ◌-◌, ◌%◌, ◌<◌, ◌≤◌, refl, sym, ◌∙◌, ap, inl, inr, ◌⊎◌, arith, Bool, true, false, cond, ◌&&◌, ◌||◌, ◌==◌, List, length}
 use Rattle.std.specs.Prelude.{nat_lt, slice_index}
 use Rattle.std.proofs.lemmas.Bool.{cases_lt}
@@ -60,7 +60,7 @@ module _ (number : ℕ) (tower : Tower) (r x y : ℕ) (x_low : 1 ≤ x) (x_high 
   last_is z l m = ap (is_forged number r tower) (in_row z l) ∙ ap (λ b. b && full_inside z) (outer_high z m)
 
   module _ (heights : List ℕ) (count : length heights + 2 ≡ r) (are : AreHeights number r x heights) (old new : Matrix) (from : ℕ) (from_is : from ≡ row_place r x y + 1) where
-    -- what is put into the row
+    -- the voxels that are put into the row
     abbrev put_at : ℕ → Bool
     put_at p = (is_from from (length heights) p && (y + 1 == tower.height && (x % 2 == 0 || p + 1 == from + tower.z))) || cond (is_from from (length heights) p) (nat_lt y (slice_index heights (p - from))) (voxel_at old p)
 

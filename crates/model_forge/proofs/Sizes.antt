@@ -1,4 +1,4 @@
--- What is said of a column fits.
+-- The mixed number and the height of a column fit.
 use Rattle.std.proofs.Common.{◌*◌, ◌≤◌, ℕ, arith}
 use Rattle.std.proofs.Math.Nat.{mul-le-mul}
 

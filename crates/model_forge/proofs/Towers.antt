@@ -12,7 +12,7 @@ use Rattle.model_forge.specs.Tower.{columns_from, higher, highest, columns_of}
 abbrev pub none : Tower
 none = record { height = 0; z = 0 }
 
--- the columns of so many x, from one on
+-- the columns of n x, from one on
 abbrev pub walls_from : ℕ → ℕ → ℕ → List Column
 walls_from r first count = flat_map (columns_of r) (numbers_from first count)
 
@@ -59,7 +59,7 @@ module _ (number r : ℕ) where
     kept : found.height ≡ tower.height → found.z ≡ tower.z
     newer : tower.height < found.height → found.z ≡ line found.height ks
 
-  -- a column that is not so high is passed by
+  -- a column that is less high is skipped
   passed : (t : ℕ) (k : Column) (ks : List Column) → (of_column k ≡ t → ⊥) → line t (k ∷ ks) ≡ line t ks
   passed t k ks n = ap (λ b. unwrap_or (option_map (λ (j : Column). j.z) (cond b (Some k) (find (λ j. of_column j == t) ks))) 0) (other (of_column k) t n)
     where
@@ -112,7 +112,7 @@ module _ (number r : ℕ) where
       by true e new same = new_tower tower k ks _ (less tower.height (of_column k) e) new
       by false e new same = same_tower tower k ks _ (not_less tower.height (of_column k) e) same
 
-  -- what is found among all columns
+  -- the tower that is found among all columns
   pub height_is : (found : Tower) → highest number r found [] ≡ highest number r none (columns r)
       → found.height ≡ tallest number r
   height_is found e = ap (λ (t : Tower). t.height) e ∙ ((tallest_of none (columns r)).height_is ∙ omega arith)
@@ -124,7 +124,7 @@ module _ (number r : ℕ) where
       let high : 0 < (highest number r none (columns r)).height = subst (λ (f : Tower). 0 < f.height) e l in
       ap (λ (f : Tower). f.z) e ∙ (is_tallest.newer high ∙ ap (λ n. line n (columns r)) (is_tallest.height_is ∙ omega arith))
 
--- ---- one column beside the tower
+-- ---- one column next to the tower
 
 pub taller : (tower : Tower) (h z : ℕ) → tower.height < h → record { height = h; z = z } ≡ higher tower h z
 taller tower h z l = ap (λ b. cond b (record { height = h; z = z }) tower) (sym (yes_lower tower.height h l))

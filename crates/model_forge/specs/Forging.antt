@@ -1,4 +1,4 @@
--- How much of a model is forged.
+-- The forged part of a model.
 use Rattle.std.specs.Prelude.{◌≡◌, ℕ, ◌+◌, ◌*◌, ◌%◌, Bool, ◌&&◌, ◌||◌, ◌==◌, ◌<◌, nat_lt, List, slice_index}
 use Rattle.vox_geom.specs.declared.coordinate.Coord.{Coord}
 use Rattle.vox_geom.specs.Space.{coordinate_at}

@@ -5,7 +5,7 @@ ghost use Rattle.model_forge.specs.Forging.{AreHeights};
 
 use vox_geom::MOST_R;
 
-/// What the number says of the column at x and z.
+/// Returns the mixed number of the column at x and z.
 #[tactic(auto, using(crate::proofs::Sizes::product_most))]
 fn mix(number: u32, x: u16, z: u16) -> u16
     requires x { x ≤ MOST_R }
@@ -17,7 +17,7 @@ fn mix(number: u32, x: u16, z: u16) -> u16
     (sum % 1024) as u16
 }
 
-/// The height of the column at x and z.
+/// Returns the height of the column at x and z.
 pub fn height(number: u32, r: u16, x: u16, z: u16) -> u16
     requires some { 2 ≤ r }
     requires most { r ≤ MOST_R }
@@ -34,7 +34,7 @@ pub fn height(number: u32, r: u16, x: u16, z: u16) -> u16
     }
 }
 
-/// Makes the heights those of the columns of one x, from the column at z = 1 on.
+/// Fills `heights` with those of the columns of one x, from the column at z = 1 on.
 pub fn measure(heights: &mut Vec<u16>, number: u32, r: u16, x: u16)
     requires most { r ≤ MOST_R }
     requires x { x < r }

@@ -11,7 +11,7 @@ use crate::tower::Tower;
 use vox_geom::Coord;
 use vox_planes::Planes;
 
-/// The bits of so many columns from an index on: 1 for those that are higher than y.
+/// Returns the bits of `count` columns from an index on: 1 for those that are higher than y.
 fn column_bits(heights: &[u16], first: usize, count: u32, y: u16) -> u64
     requires few { count ≤ 64 }
     requires within { first + count ≤ length heights.now }
@@ -25,7 +25,7 @@ fn column_bits(heights: &[u16], first: usize, count: u32, y: u16) -> u64
     bits
 }
 
-/// Makes the voxels of a row, from a coordinate on, full if their columns are higher than it, and void if not.
+/// Fills each voxel of a row, from a coordinate on, whose column is higher than it, and voids the others.
 fn put_columns(planes: &mut Planes, first: Coord, heights: &[u16])
     requires within { IsInSpace planes.old.resolution first }
     requires row { first.z + length heights.now ≤ planes.old.resolution }
@@ -48,8 +48,8 @@ fn put_columns(planes: &mut Planes, first: Coord, heights: &[u16])
     }
 }
 
-/// Makes the roof's voxels full, of a row in which so many columns stand from a place on: all of them where x is even, and
-/// else the one on the tower's line.
+/// Fills the roof's voxels of a row with `count` columns from a place on: all of them if x is even, otherwise the one on the
+/// tower's line.
 fn put_roof(planes: &mut Planes, from: u32, count: u32, x: u16, z: u16)
     requires within { from + count ≤ volume planes.old.resolution }
     requires small { from + count < 2 ^ 32 }

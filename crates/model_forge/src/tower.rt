@@ -14,7 +14,7 @@ pub struct Tower {
 }
 
 impl Tower {
-    /// The tower, or the first of the tallest columns of one x where that is higher.
+    /// Returns the tower, or the first of the tallest columns of one x if that is higher.
     fn or_higher(self, number: u32, r: u16, x: u16) -> Tower
         requires some { 2 ≤ r }
         requires most { r ≤ MOST_R }
@@ -32,7 +32,7 @@ impl Tower {
         tower
     }
 
-    /// The first of the tallest columns, by x and then by z. Its height is 0 where no column has a height.
+    /// Returns the first of the tallest columns, by x and then by z. Its height is 0 if no column has a height.
     pub fn of(number: u32, r: u16) -> Tower
         requires some { 1 ≤ r }
         requires most { r ≤ MOST_R }

@@ -31,7 +31,7 @@ fn put_wall(planes: &mut Planes, heights: &[u16], tower: Tower, x: u16)
     }
 }
 
-/// The model of a number and a resolution (docs/FORMATS.md, "The forge"). Each is legal.
+/// Returns the model of a number and a resolution (docs/FORMATS.md, "The forge"). Each is legal.
 pub fn forge(alloc: Global, number: u32, r: u16) -> Result<Planes, Memory>
     requires some { 1 ≤ r }
     requires most { r ≤ MOST_R }

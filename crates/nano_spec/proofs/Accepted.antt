@@ -1,4 +1,4 @@
--- What is known of a step that is accepted.
+-- The facts of a step that is accepted.
 use Rattle.std.proofs.Common.{◌≡◌, ℕ, List}
 use Rattle.std.specs.Prelude.{None}
 use Rattle.nano_spec.specs.declared.commands.Command.{Command}

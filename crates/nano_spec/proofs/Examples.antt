@@ -56,7 +56,7 @@ worked_traces = record {
   a_far_difference_is_cut = cut (0x71 ∷ 0x1E ∷ []) [] 0 0x71 (0x1E ∷ []) (GFill (diff (pos 0) (pos 0) (pos 1)) (diff (pos 0) (pos 0) (pos 1))) (0x1E ∷ 0x1F ∷ []) refl refl refl refl refl (λ e. cc) refl;
 }
 
--- by what the definitions say alone, and by no lemma on decodings
+-- by the definitions alone, and by no lemma on decodings
 pub worked_misreadings : WorkedMisreadings
 worked_misreadings = record {
   no_bad_byte_at_a_command = λ d.

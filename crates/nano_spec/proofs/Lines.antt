@@ -1,4 +1,4 @@
--- What a line says is the command of whose form it is.
+-- A line yields the command whose form it has.
 use Rattle.std.proofs.Common.{◌≡◌, ℕ, zero, suc, ◌<◌, refl, sym, ap, subst, arith, Bool, true, false, cond, List, [], ◌∷◌, get_or, ℤ}
 use Rattle.std.specs.Prelude.{Option, Some, None, IsFalse, Contains}
 use Rattle.nano_spec.specs.declared.commands.Command.{Command}
@@ -11,7 +11,7 @@ use Rattle.nano_spec.proofs.Readings.{one_reading_of}
 same_says : (a b : Command) → Says a ≡ Says b → a ≡ b
 same_says a b e = cc
 
--- what a line says by its word and its readings
+-- the command of a line, by its word and its readings
 abbrev Reads : Option Word → List ℕ → Command → Type 0
 Reads w rest c = (word : Word) × (ns : List ℤ) × (w ≡ Some word) × Contains (readings word.form rest) ns × (word.command ns ≡ Some c) × IsCommand c
 
@@ -35,7 +35,7 @@ by_word : (w : Option Word) (rest : List ℕ) (c : Command) → said_by w rest �
 by_word None rest c h = cc
 by_word (Some w) rest c h = said_is w rest (readings w.form rest) c refl h
 
--- a line that says a command is of its form
+-- a line that yields a command is of its form
 pub says_is : (line : List ℕ) (c : Command) → line_of line ≡ Says c → IsLineOf line c
 says_is line c h = by (has_high_byte line) (is_skipped line) h
   where
@@ -55,7 +55,7 @@ only (x ∷ []) ns h k = by k.0 k.1 k.2
     by (suc i) l e = absurd (omega arith)
 only (x ∷ y ∷ xs) ns h k = absurd h
 
--- an ASCII line of the form of a command, which is not skipped, says the command
+-- an ASCII line of the form of a command, which is not skipped, yields the command
 pub is_says : (line : List ℕ) (c : Command) → IsFalse (has_high_byte line) → IsFalse (is_skipped line) → IsLineOf line c
     → line_of line ≡ Says c
 is_says line c a b (word, ns, w, k, r, e) =

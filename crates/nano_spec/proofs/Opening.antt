@@ -43,7 +43,7 @@ at_origin m true e f = absurd (contrary (rw e at (at_full (λ c. not (is_full m 
 pub origin_void : (m : Matrix) → IsLegal m → IsFalse (is_full m origin)
 origin_void m h = at_origin m (is_full m origin) refl (legal_is m h).0
 
--- what holds of a bot holds of all bots where it is the only one
+-- a fact about a bot is one about all bots if it is the only one
 pub alone : (b : Bot) (P : Bot → Type 0) → P b → (k : ℕ) (d : Bot) → k < 1 → P (get_or (b ∷ []) k d)
 alone b P h zero d l = h
 alone b P h (suc k) d l = absurd (omega arith)

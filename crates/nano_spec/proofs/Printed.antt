@@ -1,4 +1,4 @@
--- What is printed is read back as the same commands.
+-- Printed commands are read back as the same commands.
 use Rattle.std.proofs.Common.{◌≡◌, ℕ, suc, ◌+◌, ◌*◌, ◌-◌, ◌/◌, ◌%◌, ◌<◌, ◌≤◌, refl, sym, ◌∙◌, ap, subst, inl, inr, ◌⊎◌, arith, Bool, true, false, cond, ◌&&◌, ◌==◌, not, List, [], ◌∷◌, ◌++◌, map, take, ℤ, pos, negsuc}
 use Rattle.std.specs.Prelude.{◌||◌, Contains, IsFalse, IsTrue, Ok, Some, codes, decimal, flat_map, nat_le, nat_lt, unsigned_abs}
 use Rattle.std.specs.Fmt.{digits as fmt_digits, signed_decimal}
@@ -158,7 +158,7 @@ pub record IsSmall (d : Diff) : Type 0 where
   pub y : unsigned_abs d.dy < 256
   pub z : unsigned_abs d.dz < 256
 
--- a printed difference and what follows it
+-- a printed difference and the text after it
 difference_text : (d : Diff) (rest : List ℕ) → printed_difference d ++ rest
     ≡ 60 ∷ (signed_decimal d.dx ++ (44 ∷ (signed_decimal d.dy ++ (44 ∷ (signed_decimal d.dz ++ (62 ∷ rest))))))
 difference_text d rest = ap (λ v. 60 ∷ v) (shift (signed_decimal d.dx) (signed_decimal d.dy) (signed_decimal d.dz))
@@ -229,7 +229,7 @@ plain_spaced d s =
     (plain_number d.dz s.z))
     refl
 
--- ---- what a plain line says
+-- ---- the result of a plain line
 
 plain_ascii : (b : ℕ) → IsTrue (is_plain b) → nat_lt 127 b ≡ false
 plain_ascii b h = grind (arith, nat_tests)
@@ -284,12 +284,12 @@ far_small d h = let most : clen d ≤ 30 = at_most_by_test (clen d) 30 (second_o
 
 -- ---- the line of a command
 
--- what is left of a line is of the form of the command
+-- the rest of a line is of the form of the command
 abbrev LineBy : List ℕ → Command → Type 0
 LineBy line command =
     (word : Word) × (ns : List ℤ) × (word_of (from_word line) ≡ Some word) × Contains (readings word.form (after_word (from_word line))) ns × (word.command ns ≡ Some command) × IsCommand command
 
--- a plain line of the form of a command says the command
+-- a plain line of the form of a command yields the command
 says : (line : List ℕ) (c : Command) → Plain line → list_all is_blank line ≡ false → LineBy line c
     → line_of line ≡ Says c
 says line c p b h = is_says line c (plain_low line p) (ap (list_all is_blank) (content_is line p) ∙ b) (subst (λ (v : List ℕ). LineBy v c) (sym (content_is line p)) h)
@@ -411,6 +411,6 @@ all_read : (n : ℕ) (cs : List Command) → read_lines n (map Says cs) ≡ Ok c
 all_read n [] = refl
 all_read n (c ∷ cs) = ap (with_first c) (all_read (n + 1) cs)
 
--- what is printed is read
+-- printed text is read
 pub printed_is_read : (cs : List Command) → AreCommands cs → read (print cs) ≡ Ok cs
 printed_is_read cs h = ap (λ ls. read_lines 1 (map line_of ls)) (ap without_last_empty (cut_printed cs h) ∙ all_kept cs) ∙ (ap (read_lines 1) (all_say cs h) ∙ all_read 1 cs)

@@ -25,7 +25,7 @@ is_free (Blanks ∷ ps) = is_free ps
 is_free (Mark m ∷ ps) = not (is_digit m)
 is_free (Number ∷ ps) = false
 
--- whether each part of a form ends where the next begins
+-- whether each part of a form ends before the next begins
 abbrev pub is_clear : List Part → Bool
 is_clear [] = true
 is_clear (Blanks ∷ ps) = is_sharp ps && is_clear ps
@@ -181,7 +181,7 @@ one_reading (Mark m ∷ ps) h (b ∷ more) = by (b == m) (one_reading ps h more)
     by false later = tt
 one_reading (Number ∷ ps) h line = one_after_number ps line (first_of_two (is_free ps) (is_clear ps) h) (one_reading ps (second_of_two (is_free ps) (is_clear ps) h))
 
--- what all have, the one that is found has
+-- a property of all elements is one of the element that is found
 found_has : {A : Type 0} (test has : A → Bool) (xs : List A) (x : A) → IsTrue (list_all has xs) → find test xs ≡ Some x
     → IsTrue (has x)
 found_has test has [] x h e = cc
@@ -195,6 +195,6 @@ found_has test has (y ∷ ys) x h e = by (test y) e (found_has test has ys x (se
 all_clear : IsTrue (list_all (λ w. is_clear w.form) words)
 all_clear = refl
 
--- what follows a word has one reading by the form of the word, or none
+-- the rest of a line after a word has one reading by the form of the word, or none
 pub one_reading_of : (w : Word) (line rest : List ℕ) → word_of line ≡ Some w → HasOneAtMost (readings w.form rest)
 one_reading_of w line rest e = one_reading w.form (found_has (λ v. bytes_eq v.letters (take_while is_letter line)) (λ v. is_clear v.form) words w all_clear e) rest

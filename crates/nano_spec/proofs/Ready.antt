@@ -1,4 +1,4 @@
--- How ready states stand to well-formed ones.
+-- How ready states relate to well-formed ones.
 use Rattle.std.proofs.Common.{◌≡◌, ◌<◌, arith, length, get_or}
 use Rattle.std.specs.Prelude.{IsFalse, All, AllPairs, None}
 use Rattle.vox_geom.specs.Space.{IsInSpace}

@@ -1,4 +1,4 @@
--- How a worked example is shown: by computing.
+-- Proves a worked example of a run by computing it.
 use Rattle.std.proofs.Common.{◌≡◌, ℕ, zero, suc, List, [], ◌∷◌, length}
 use Rattle.std.specs.Prelude.{Some, None, Result, Ok, Err, IsTrue}
 use Rattle.std.specs.List.{list_all}
@@ -20,17 +20,17 @@ pub are_commands : (cs : List Command) → IsTrue (list_all is_command cs) → A
 are_commands [] h = tt
 are_commands (c ∷ cs) h = (first_of_two (is_command c) (list_all is_command cs) h, are_commands cs (second_of_two (is_command c) (list_all is_command cs) h))
 
--- the matrix of a model that was read
+-- the matrix of a model; a refused model has an empty one
 abbrev pub matrix_in : Result Matrix NoModel → Matrix
 matrix_in (Ok m) = m
 matrix_in (Err e) = empty 1
 
--- the first commands of bytes, as many as there is fuel
+-- the commands that the bytes begin with, at most `fuel` of them
 abbrev pub commands_in : ℕ → List ℕ → List Command
 commands_in zero bytes = []
 commands_in (suc fuel) bytes = elim (decoded bytes) [ Some g ↦ g.0 ∷ commands_in fuel g.1 | None ↦ [] ]
 
--- a run of fewer than fuel steps, of at most as many commands as bytes, with paths of at most six coordinates
+-- the verdict of a run of fewer than `fuel` steps, with paths to the floor of at most six coordinates
 pub shown :
     {profile : Profile} {source target trace : List ℕ} {verdict : Verdict} (fuel : ℕ)
     → model source ≡ Ok (matrix_in (model source))

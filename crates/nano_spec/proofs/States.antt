@@ -1,4 +1,4 @@
--- Worked examples of states: of each that is not well-formed or not ready, what speaks against it.
+-- Worked examples of states: the reason why each is not well-formed or not ready.
 use Rattle.std.proofs.Common.{◌≡◌, ℕ, ◌<◌, refl, arith, true, [], ◌∷◌, get_or}
 use Rattle.std.specs.Prelude.{IsFalse, Some, None}
 use Rattle.vox_geom.specs.declared.coordinate.Coord.{Coord}
@@ -15,7 +15,7 @@ use Rattle.nano_spec.proofs.Opening.{alone}
 use Rattle.nano_spec.proofs.Simulation.{ungrounded_is}
 use Rattle.nano_spec.proofs.Unique.{FirstUngrounded-unique}
 
--- a bot for places that no list has
+-- a bot for indices beyond a list
 abbrev nobody : Bot
 nobody = bot 0 0 0 0
 

@@ -1,4 +1,4 @@
--- A model that bytes say has a resolution of 1 to 400 and a voxel for each coordinate.
+-- A model that bytes encode has a resolution of 1 to 400 and a voxel for each coordinate.
 use Rattle.std.proofs.Common.{◌≡◌, ℕ, ◌+◌, ◌*◌, ◌≤◌, refl, sym, ◌∙◌, ap, subst, arith, Bool, true, false, ◌&&◌, not, ◌==◌, List, [], ◌∷◌, ◌++◌, length, length-append, map, replicate}
 use Rattle.std.specs.Prelude.{Result, Ok, Err, nat_le, nat_lt}
 use Rattle.std.proofs.lemmas.Bool.Decides.{nat_tests}

@@ -1,4 +1,4 @@
--- What a bot does in a step: the points and regions that its command names (task description, section on commands;
+-- The act of a bot in a step: the points and regions that its command names (task description, section on commands;
 -- docs/FORMATS.md, "Commands").
 use Rattle.std.specs.Prelude.{ℕ, Bool, true, false, List, [], ◌∷◌}
 use Rattle.std.specs.List.{list_all}
@@ -44,7 +44,7 @@ named_points p (GVoid d f) = plus p d ∷ plus (plus p d) f ∷ []
 abbrev pub stays_in_space : ℕ → Act → Bool
 stays_in_space r a = list_all (in_space r) (named_points (position a) a.command)
 
--- the regions that have to be void for the command: those that it moves through, and where it makes a new bot
+-- the regions that have to be void for the command: those that it moves through, and the position of a new bot
 abbrev pub ways : Point → Command → List Span
 ways p (SMove d) = between p (plus p d) ∷ []
 ways p (LMove d e) = between p (plus p d) ∷ between (plus p d) (plus (plus p d) e) ∷ []
@@ -61,13 +61,13 @@ group_regions p (GFill d f) = between_corners p d f ∷ []
 group_regions p (GVoid d f) = between_corners p d f ∷ []
 group_regions p _ = []
 
--- what the command fills
+-- the regions that the command fills
 abbrev pub filled : Point → Command → List Span
 filled p (Fill d) = just (plus p d) ∷ []
 filled p (GFill d f) = between_corners p d f ∷ []
 filled p _ = []
 
--- what the command voids
+-- the regions that the command voids
 abbrev pub voided : Point → Command → List Span
 voided p (Void d) = just (plus p d) ∷ []
 voided p (GVoid d f) = between_corners p d f ∷ []

@@ -40,7 +40,7 @@ abbrev pub after_fusion : Bot → Option Act → Bot
 after_fusion bot None = bot
 after_fusion bot (Some partner) = fused bot partner.bot
 
--- what becomes of a bot by its command: the bots in its place
+-- the bots that replace a bot after its command
 abbrev pub successors : List Act → Act → Command → List Bot
 successors all a Halt = []
 successors all a (SMove d) = moved a.bot (plus (point a.bot.pos) d) ∷ []

@@ -1,4 +1,4 @@
--- Which commands there are: each difference is of its kind (task description, section on commands; docs/FORMATS.md,
+-- The valid commands: each difference is of its kind (task description, section on commands; docs/FORMATS.md,
 -- "Commands").
 use Rattle.std.specs.Prelude.{Bool, true, ◌&&◌, nat_lt, IsTrue}
 use Rattle.vox_geom.specs.Difference.{is_near, is_far, is_short, is_long}

@@ -1,5 +1,5 @@
--- How the bytes of a trace are cut into commands, and which trace is refused (task description,
--- section on trace files; the refusals are this project's own: docs/FORMATS.md, "Trace files").
+-- How the bytes of a trace are cut into commands, and which traces are refused (task description, section on trace
+-- files; the refusals are this project's own: docs/FORMATS.md, "Trace files").
 use Rattle.std.specs.Prelude.{◌≡◌, ◌≢◌, ℕ, ◌+◌, ◌≤◌, List, [], ◌++◌, length, Result, Ok, Err}
 use Rattle.std.specs.List.{AllByRecursion}
 use Rattle.nano_spec.specs.declared.commands.Command.{Command}
@@ -27,12 +27,13 @@ abbrev pub BeginsSpelling : List ℕ → Type 0
 BeginsSpelling rest =
     (command : Command) × (more : List ℕ) × IsCommand command × (more ≢ []) × (rest ++ more ≡ spelling command)
 
--- why bytes are no trace, and from which offset on: they end within a command, or are no command there
+-- the reason why bytes are no trace, with an offset: they end within a command, or are no command there
 pub data NoTrace : Type 0 where
   CutAt : ℕ → NoTrace
   BadAt : ℕ → NoTrace
 
--- the commands of the bytes, or why there are none: what follows the longest front that is a join of spellings
+-- the commands of the bytes, or the reason for the refusal: by the rest after the longest front that is a join of
+-- spellings
 abbrev pub Decoding : List ℕ → Result (List Command) NoTrace → Type 0
 Decoding bytes (Ok commands) = Cutting bytes commands
 Decoding bytes (Err (CutAt offset)) =

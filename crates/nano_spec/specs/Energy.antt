@@ -1,5 +1,5 @@
--- What a step costs (task description, sections on execution and on commands;
--- that the Halt step pays its upkeep is this project's own: docs/FORMATS.md, "Commands").
+-- The cost of a step (task description, sections on execution and on commands; that the Halt step pays its upkeep is
+-- this project's own: docs/FORMATS.md, "Commands").
 use Rattle.std.specs.Prelude.{ℕ, ◌+◌, ◌*◌, ℤ, pos, negsuc, ◌+ℤ◌, cond, List, [], ◌∷◌, length, map, filter}
 use Rattle.vox_geom.specs.Difference.{mlen}
 use Rattle.vox_geom.specs.Point.{Point, point, plus}
@@ -22,11 +22,11 @@ abbrev pub price : Matrix → Span → ℤ → ℤ → ℤ
 price m s if_void if_full =
     total (map (λ c. cond (is_full m c) if_full if_void) (filter (λ c. is_within s (point c)) (all_of m)))
 
--- what it costs to fill a region: 12 for a void voxel, 6 for a full one
+-- the cost to fill a region: 12 for a void voxel, 6 for a full one
 abbrev pub filling : Matrix → Span → ℤ
 filling m s = price m s (pos 12) (pos 6)
 
--- what it costs to void a region: 3 for a void voxel, -12 for a full one
+-- the cost to void a region: 3 for a void voxel, -12 for a full one
 abbrev pub voiding : Matrix → Span → ℤ
 voiding m s = price m s (pos 3) (negsuc 11)
 

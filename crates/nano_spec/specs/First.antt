@@ -7,14 +7,14 @@ first_value [] = None
 first_value (Some a ∷ more) = Some a
 first_value (None ∷ more) = first_value more
 
--- at is the first element of which P fails, or `None` where P holds of each
+-- `at` is the first element of which P fails, or `None` if P holds of each
 abbrev pub FirstFailing : {A : Type 0} → (A → Type 0) → List A → Option A → Type 0
 FirstFailing P [] None = Unit {0}
 FirstFailing P [] (Some at) = ⊥
 FirstFailing P (a ∷ more) None = P a × FirstFailing P more None
 FirstFailing P (a ∷ more) (Some at) = ((P a → ⊥) × (at ≡ a)) ⊎ (P a × FirstFailing P more (Some at))
 
--- one more before those that were read, where they could be read
+-- one more before those that were read, if they could be read
 abbrev pub with_first : {A E : Type 0} → A → Result (List A) E → Result (List A) E
 with_first a (Ok more) = Ok (a ∷ more)
 with_first a (Err e) = Err e

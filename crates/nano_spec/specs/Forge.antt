@@ -4,7 +4,7 @@ use Rattle.vox_geom.specs.declared.coordinate.Coord.{Coord}
 use Rattle.vox_geom.specs.Space.{numbers_from}
 use Rattle.nano_spec.specs.Matrix.{Matrix, matrix_where}
 
--- what the number says of the column at x and z
+-- the mixed number of the column at x and z
 abbrev pub mixed : ℕ → ℕ → ℕ → ℕ
 mixed number x z = (number + 71 * x + 113 * z + 5 * x * x * z) % 1024
 
@@ -12,7 +12,7 @@ mixed number x z = (number + 71 * x + 113 * z + 5 * x * x * z) % 1024
 abbrev pub column_height : ℕ → ℕ → ℕ → ℕ → ℕ
 column_height number r x z = cond (mixed number x z % 3 == 0) (1 + mixed number x z % (r - 1)) 0
 
--- where a column can stand
+-- the x and z of a possible column
 pub record Column : Type 0 where
   pub x : ℕ
   pub z : ℕ
@@ -25,7 +25,7 @@ inner r = numbers_from 1 (r - 2)
 abbrev pub columns : ℕ → List Column
 columns r = flat_map (λ x. map (λ z. record { x = x; z = z }) (inner r)) (inner r)
 
--- the greatest of a list of numbers, and 0 where there is none
+-- the greatest of a list of numbers, and 0 if there is none
 abbrev pub greatest : List ℕ → ℕ
 greatest [] = 0
 greatest (n ∷ more) = max n (greatest more)
@@ -40,7 +40,7 @@ line_of_tallest number r =
     unwrap_or
     (option_map (λ (k : Column). k.z) (find (λ k. column_height number r k.x k.z == tallest number r) (columns r))) 0
 
--- whether a coordinate is over the columns' places
+-- whether a coordinate is above a possible column
 abbrev pub is_inner : ℕ → Coord → Bool
 is_inner r c = nat_le 1 c.x && nat_lt (c.x + 1) r && nat_le 1 c.z && nat_lt (c.z + 1) r
 

@@ -1,4 +1,4 @@
--- When a voxel is grounded (task description, section on the matrix; docs/FORMATS.md, "Geometry").
+-- Whether a voxel is grounded (task description, section on the matrix; docs/FORMATS.md, "Geometry").
 use Rattle.std.specs.Prelude.{Bool, false, ◌&&◌, ◌==◌, List, [], ◌∷◌, Option, IsTrue}
 use Rattle.vox_geom.specs.declared.coordinate.Coord.{Coord}
 use Rattle.vox_geom.specs.Point.{point, are_adjacent, same_point}
@@ -20,10 +20,10 @@ begins_at c (a ∷ more) = same_point (point c) (point a)
 abbrev pub is_path_from : Matrix → Coord → List Coord → Bool
 is_path_from m c path = begins_at c path && is_path m path
 
--- a coordinate is grounded where a path of full coordinates leads from it to the floor
+-- a coordinate is grounded if a path of full coordinates leads from it to the floor
 abbrev pub Grounded : Matrix → Coord → Type 0
 Grounded m c = (path : List Coord) × IsTrue (is_path_from m c path)
 
--- at is the least full coordinate that is not grounded, or `None` where all full coordinates are grounded
+-- `at` is the least full coordinate that is not grounded, or `None` if all full coordinates are grounded
 abbrev pub FirstUngrounded : Matrix → Option Coord → Type 0
 FirstUngrounded m at = FirstFailing (λ c. IsTrue (is_full m c) → Grounded m c) (all_of m) at

@@ -1,10 +1,10 @@
--- When a model is legal (task description, section on models; docs/FORMATS.md, "Geometry").
+-- Whether a model is legal (task description, section on models; docs/FORMATS.md, "Geometry").
 use Rattle.std.specs.Prelude.{◌≡◌, ℕ, ◌+◌, Bool, ◌&&◌, not, nat_le, nat_lt, Option, Some, None, find}
 use Rattle.vox_geom.specs.declared.coordinate.Coord.{Coord}
 use Rattle.nano_spec.specs.Grounded.{FirstUngrounded}
 use Rattle.nano_spec.specs.Matrix.{Matrix, is_full, all_of}
 
--- why a model is not legal: a full voxel outside the legal box, or one that is not grounded
+-- the reason why a model is not legal: a full voxel outside the legal box, or one that is not grounded
 pub data NotLegal : Type 0 where
   Border : Coord → NotLegal
   Floating : Coord → NotLegal
@@ -19,9 +19,9 @@ first_outside m = find (λ c. is_full m c && not (in_legal_box m.resolution c)) 
 
 -- whether a model is legal
 pub data Legality (m : Matrix) (answer : Option NotLegal) : Type 0 where
-  -- a full voxel is outside the legal box: the least of them is told
+  -- a full voxel is outside the legal box: the least of them is reported
   leaves_box : (c : Coord) → first_outside m ≡ Some c → answer ≡ Some (Border c) → Legality m answer
-  -- none is, but full voxels are not grounded: the least of them is told
+  -- none is, but full voxels are not grounded: the least of them is reported
   floats_inside : (c : Coord) → first_outside m ≡ None → FirstUngrounded m (Some c) → answer ≡ Some (Floating c)
       → Legality m answer
   -- none is, and each full voxel is grounded

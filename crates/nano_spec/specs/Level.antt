@@ -5,8 +5,7 @@ use Rattle.vox_geom.specs.declared.coordinate.Coord.{Coord}
 use Rattle.nano_spec.specs.Grounded.{Grounded, is_path_from}
 use Rattle.nano_spec.specs.Matrix.{Matrix}
 
--- the level is the length, less one, of a shortest path of full coordinates to the floor, or `None` where there is no
--- path
+-- the level is the length, less one, of a shortest path of full coordinates to the floor, or `None` if there is no path
 abbrev pub Level : Matrix → Coord → Option ℕ → Type 0
 Level m c None = Grounded m c → ⊥
 Level m c (Some n) = ((path : List Coord) × IsTrue (is_path_from m c path) × (length path ≡ n + 1))

@@ -1,4 +1,4 @@
--- What a line of text says: nothing, a command, or it is faulty (docs/FORMATS.md, "Trace text").
+-- The content of a line of text: nothing, a command, or a fault (docs/FORMATS.md, "Trace text").
 use Rattle.std.specs.Prelude.{◌≡◌, Contains, ℕ, ℤ, Bool, cond, nat_lt, ◌==◌, List, [], ◌∷◌, drop, find, take_while, Option, Some, None}
 use Rattle.std.specs.List.{list_all, list_any, before_first, prefix_len}
 use Rattle.std.specs.Str.{bytes_eq}
@@ -6,14 +6,14 @@ use Rattle.nano_spec.specs.declared.commands.Command.{Command}
 use Rattle.nano_spec.specs.Command.{is_command, IsCommand}
 use Rattle.nano_spec.specs.LineForm.{is_blank, is_letter, Word, words, readings}
 
--- what is wrong with a line
+-- the fault of a line
 pub data Fault : Type 0 where
   NotAscii : Fault
   UnknownWord : Fault
   Shape : Fault
   Range : Fault
 
--- what a line says: nothing, a command, or it is faulty
+-- the content of a line: nothing, a command, or a fault
 pub data Line : Type 0 where
   Skipped : Line
   Says : Command → Line
@@ -41,17 +41,17 @@ word_of line = find (λ w. bytes_eq w.letters (take_while is_letter line)) words
 abbrev pub after_word : List ℕ → List ℕ
 after_word line = drop (prefix_len is_letter line) line
 
--- what a command says: each difference has to be of its kind, and the number of a Fission a byte
+-- a command, if it is valid: each difference is of its kind, and the number of a Fission is a byte
 abbrev pub checked : Option Command → Line
 checked None = Faulty Range
 checked (Some command) = cond (is_command command) (Says command) (Faulty Range)
 
--- what the numbers of a reading say
+-- the command of the numbers of a reading
 abbrev pub said : Word → List (List ℤ) → Line
 said w [] = Faulty Shape
 said w (ns ∷ more) = checked (w.command ns)
 
--- what a line says by its word
+-- the command of a line, by its word
 abbrev pub said_by : Option Word → List ℕ → Line
 said_by None rest = Faulty UnknownWord
 said_by (Some w) rest = said w (readings w.form rest)
@@ -60,7 +60,7 @@ said_by (Some w) rest = said w (readings w.form rest)
 abbrev pub has_high_byte : List ℕ → Bool
 has_high_byte line = list_any (nat_lt 127) line
 
--- whether nothing is asked of a line but its bytes: it has blanks and a comment at most
+-- whether a line is skipped: it has only blanks and a comment
 abbrev pub is_skipped : List ℕ → Bool
 is_skipped line = list_all is_blank (line_content line)
 
@@ -71,7 +71,7 @@ IsLineOf line command =
     × Contains (readings word.form (after_word (from_word (line_content line)))) ns × (word.command ns ≡ Some command)
     × IsCommand command
 
--- what a line says
+-- the content of a line
 abbrev pub line_of : List ℕ → Line
 line_of line =
     cond (has_high_byte line) (Faulty NotAscii)

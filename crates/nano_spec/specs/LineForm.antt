@@ -1,4 +1,4 @@
--- All ways to read a line of text by a form, and the words, with the form of what follows each and what it says
+-- All ways to read a line of text by a form; and the words, each with the form of the rest of its line and its command
 -- (docs/FORMATS.md, "Trace text").
 use Prim.Native.String.{String}
 use Rattle.std.specs.Prelude.{ℕ, zero, suc, ◌+◌, ◌*◌, ◌-◌, ℤ, pos, negsuc, neg_ℤ, Bool, cond, ◌&&◌, ◌||◌, nat_le, ◌==◌, List, [], ◌∷◌, ◌++◌, map, flat_map, codes, slice_index_or, Option, Some, None, option_map}
@@ -24,18 +24,18 @@ pub data Part : Type 0 where
   Mark : ℕ → Part
   Number : Part
 
--- blanks, and then a difference: <, number, comma, number, comma, number, >, with blanks round each number
+-- blanks, and then a difference: <, number, comma, number, comma, number, >, with blanks around each number
 abbrev pub difference_parts : List Part
 difference_parts =
     Blanks ∷ Mark 60 ∷ Blanks ∷ Number ∷ Blanks ∷ Mark 44 ∷ Blanks ∷ Number ∷ Blanks ∷ Mark 44 ∷ Blanks ∷ Number
     ∷ Blanks ∷ Mark 62 ∷ []
 
--- what can be left of a line when some blanks at its front, or none, are taken away
+-- the possible rests of a line after some or no blanks at its front
 abbrev pub after_blanks : List ℕ → List (List ℕ)
 after_blanks [] = [] ∷ []
 after_blanks (b ∷ more) = (b ∷ more) ∷ cond (is_blank b) (after_blanks more) []
 
--- a whole number that stands at the front of a line, and what is left after it
+-- a whole number at the front of a line, and the rest after it
 pub record Read : Type 0 where
   pub number : ℤ
   pub rest : List ℕ
@@ -75,19 +75,18 @@ number_at ns k = slice_index_or ns k (pos 0)
 abbrev pub difference_at : List ℤ → ℕ → Diff
 difference_at ns k = record { dx = number_at ns k; dy = number_at ns (k + 1); dz = number_at ns (k + 2) }
 
--- a number as a natural number, where it is one
+-- a number as a natural number, if it is one
 abbrev pub natural : ℤ → Option ℕ
 natural (pos n) = Some n
 natural (negsuc n) = None
 
--- a word: how it is written, the form of what follows it, and the command of the numbers that stand there, if they give
--- one
+-- a word: its spelling, the form of the rest of its line, and the command of the numbers there, if they give one
 pub record Word : Type 0 where
   pub letters : List ℕ
   pub form : List Part
   pub command : List ℤ → Option Command
 
--- a word of these letters and parts, behind which blanks may stand
+-- a word of these letters and parts; blanks may follow them
 abbrev pub word : String → List Part → (List ℤ → Option Command) → Word
 word letters parts command = record { letters = codes letters; form = parts ++ Blanks ∷ []; command = command }
 

@@ -21,7 +21,7 @@ differ_at m n c = (is_full m c && not (is_full n c)) || (is_full n c && not (is_
 abbrev pub all_of : Matrix → List Coord
 all_of m = coordinates m.resolution
 
--- the matrix of a resolution in which the test says which voxels are full
+-- the matrix of a resolution, whose voxels are full if they pass the test
 abbrev pub matrix_where : ℕ → (Coord → Bool) → Matrix
 matrix_where r test = record { resolution = r; voxels = map test (coordinates r) }
 

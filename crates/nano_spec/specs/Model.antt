@@ -1,13 +1,13 @@
--- What the bytes of a model file say, and how a model is written (task description, section on model files;
--- the refusals, the wide form and its runs are this project's own: docs/FORMATS.md, "Model files").
+-- The model that the bytes of a model file encode, and how a model is written (task description, section on model
+-- files; the refusals, the wide form and its runs are this project's own: docs/FORMATS.md, "Model files").
 use Rattle.std.specs.Prelude.{ℕ, ◌+◌, ◌*◌, ◌/◌, ◌%◌, ◌^◌, Bool, true, false, cond, ◌&&◌, ◌||◌, not, nat_le, nat_lt, ◌==◌, List, [], ◌∷◌, ◌++◌, length, slice_index, slice_index_or, map, flat_map, sum_by, Result, Ok, Err, replicate}
 use Rattle.vox_geom.specs.Space.{numbers_below}
 use Rattle.nano_spec.specs.First.{with_first}
 use Rattle.nano_spec.specs.Matrix.{Matrix}
 
--- why bytes are no model. In the first form: no byte; a resolution that is not 1 to 250; fewer bytes than wanted; more.
--- In the wide form: fewer than three bytes; a resolution that is not 251 to 400; a run that is 0 or too long, by its
--- index; no whole run where voxels are wanting, by the number of voxels before; bytes after the last voxel
+-- the reason why bytes are no model. In the first form: no byte; a resolution that is not 1 to 250; too few bytes; too
+-- many. In the wide form: fewer than three bytes; a resolution that is not 251 to 400; a run that is 0 or too long, by
+-- its index; no whole run although voxels are missing, by the number of voxels before; bytes after the last voxel
 pub data NoModel : Type 0 where
   NoByte : NoModel
   Resolution : ℕ → NoModel
@@ -37,7 +37,7 @@ bit n k = n / 2 ^ k % 2 == 1
 abbrev pub voxel_bit : List ℕ → ℕ → Bool
 voxel_bit bytes p = bit (slice_index bytes (1 + p / 8)) (p % 8)
 
--- the model that the bytes of the first form say by their resolution, or why they say none
+-- the model that the bytes of the first form encode, by their resolution, or the reason why they encode none
 abbrev pub first_form : ℕ → List ℕ → Result Matrix NoModel
 first_form r bytes =
     elim (nat_le 1 r && nat_le r 250) [
@@ -85,18 +85,18 @@ abbrev pub of_runs : ℕ → Result (List ℕ) NoModel → Result Matrix NoModel
 of_runs r (Ok runs) = Ok (record { resolution = r; voxels = voxels_of false runs })
 of_runs r (Err e) = Err e
 
--- the model of a resolution that the bytes of runs say, or why they say none
+-- the model of a resolution that the bytes of runs encode, or the reason why they encode none
 abbrev pub wide_model : ℕ → List ℕ → Result Matrix NoModel
 wide_model r bytes = elim (nat_le 251 r && nat_le r 400) [ false ↦ Err (WideResolution r) | true ↦ of_runs r (runs_in (volume r) 0 0 bytes) ]
 
--- the model that the bytes of the wide form say behind their first byte, or why they say none
+-- the model that the bytes of the wide form encode behind their first byte, or the reason why they encode none
 abbrev pub wide_form : List ℕ → Result Matrix NoModel
 wide_form (high ∷ low ∷ runs) = wide_model (high * 256 + low) runs
 wide_form bytes = Err (WideHead (1 + length bytes))
 
 -- ---- both forms
 
--- the model that the bytes say, or why they say none
+-- the model that the bytes encode, or the reason why they encode none
 abbrev pub model : List ℕ → Result Matrix NoModel
 model [] = Err NoByte
 model (r ∷ more) = elim (r == 0xFF) [ true ↦ wide_form more | false ↦ first_form r (r ∷ more) ]

@@ -1,4 +1,4 @@
--- What comes of a step: a broken rule or the next state (task description, section on execution; docs/FORMATS.md,
+-- The outcome of a step: a broken rule or the next state (task description, section on execution; docs/FORMATS.md,
 -- "Rules").
 use Rattle.std.specs.Prelude.{◌≡◌, ℕ, List, Some, None}
 use Rattle.vox_geom.specs.declared.coordinate.Coord.{Coord}
@@ -20,11 +20,11 @@ pub data Outcome : Type 0 where
 abbrev pub ungrounded_at : ℕ → Coord → Broken
 ungrounded_at step c = record { step = step; bid = 0; rule = Ungrounded; at = c }
 
--- what comes of the commands of a step
+-- the outcome of the commands of a step
 pub data Next (s : State) (commands : List Command) (step : ℕ) (outcome : Outcome) : Type 0 where
   -- they break a rule that is judged at its start
   breaks_at_start : (b : Broken) → broken s commands step ≡ Some b → outcome ≡ Breaks b → Next s commands step outcome
-  -- they break none of these, but leave full voxels under Low that are not grounded: the least of them is told
+  -- they break none of these, but leave full voxels under Low that are not grounded: the least of them is reported
   leaves_floating : (c : Coord) → broken s commands step ≡ None → (after s commands).harmonics ≡ Low
       → FirstUngrounded (after s commands).matrix (Some c) → outcome ≡ Breaks (ungrounded_at step c)
       → Next s commands step outcome

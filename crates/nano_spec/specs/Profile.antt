@@ -1,4 +1,4 @@
--- The profiles: how many seeds the first bot has, and which commands are allowed (the light profile is this project's
+-- The profiles: the number of seeds of the first bot, and the allowed commands (the light profile is this project's
 -- own: docs/FORMATS.md, "Profiles").
 use Rattle.std.specs.Prelude.{ℕ, ◌/◌, ◌%◌, ◌^◌, ◌==◌, Bool}
 use Rattle.nano_spec.specs.declared.commands.Command.{Command}
@@ -13,7 +13,7 @@ full_profile = record { seeds = 39; allowed = 0x0FFF }
 abbrev pub light_profile : Profile
 light_profile = record { seeds = 19; allowed = 0x01FF }
 
--- the place of a command's word among the twelve, counted from 0
+-- the index of a command's word among the twelve, counted from 0
 abbrev pub index_of : Command → ℕ
 index_of Halt = 0
 index_of Wait = 1
@@ -28,6 +28,6 @@ index_of (Void d) = 9
 index_of (GFill d f) = 10
 index_of (GVoid d f) = 11
 
--- whether the profile allows the command: the bit at the command's place is 1
+-- whether the profile allows the command: the bit at the command's index is 1
 abbrev pub is_allowed : Profile → Command → Bool
 is_allowed profile command = profile.allowed / 2 ^ index_of command % 2 == 1

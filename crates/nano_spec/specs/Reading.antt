@@ -20,7 +20,7 @@ pub record FaultyLine : Type 0 where
   pub fault : Fault
   pub line : ℕ
 
--- what the lines say, from the line of this number on: the commands, or the first faulty line
+-- the commands of the lines, from the line of this number on, or the first faulty line
 abbrev pub read_lines : ℕ → List Line → Result (List Command) FaultyLine
 read_lines n [] = Ok []
 read_lines n (Skipped ∷ more) = read_lines (n + 1) more

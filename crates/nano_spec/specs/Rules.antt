@@ -1,5 +1,5 @@
--- The rules of a step and their order: the first that is broken is answered (task description, section on commands;
--- the order is this project's own: docs/FORMATS.md, "Rules").
+-- The rules of a step and their order: the first broken one is reported (task description, section on commands; the
+-- order is this project's own: docs/FORMATS.md, "Rules").
 use Rattle.std.specs.Prelude.{ℕ, ◌^◌, Bool, false, cond, ◌&&◌, ◌||◌, not, nat_lt, nat_le, ◌==◌, List, [], ◌∷◌, ◌++◌, length, map, flat_map, find, slice_get, Option, Some, None, option_map}
 use Rattle.std.specs.List.{list_any}
 use Rattle.vox_geom.specs.declared.coordinate.Coord.{Coord}
@@ -18,11 +18,11 @@ use Rattle.nano_spec.specs.Profile.{is_allowed}
 use Rattle.nano_spec.specs.State.{State, is_high, origin, seed_list}
 use Rattle.nano_spec.specs.Volatile.{is_volatile}
 
--- the bot's position, where the test says that a rule is broken
+-- the bot's position, if the test shows that a rule is broken
 abbrev pub here : Act → Bool → Option Coord
 here a is_broken = cond is_broken (Some a.bot.pos) None
 
--- whether a Fission of m asks for more seeds than there are
+-- whether a Fission of m needs more seeds than there are
 abbrev pub lacks_seeds : List ℕ → Command → Bool
 lacks_seeds seeds (Fission d m) = nat_le (length seeds) m
 lacks_seeds seeds _ = false
@@ -33,7 +33,7 @@ corners_of p (GFill d f) = plus p d ∷ []
 corners_of p (GVoid d f) = plus p d ∷ []
 corners_of p _ = []
 
--- whether a point stands twice in a list
+-- whether a point occurs twice in a list
 abbrev pub repeats : List Point → Bool
 repeats [] = false
 repeats (p ∷ more) = list_any (same_point p) more || repeats more
@@ -48,7 +48,7 @@ fit_badly group region =
 abbrev pub is_misshapen : List Act → Act → Bool
 is_misshapen all a = list_any (λ region. fit_badly (members all a) region) (group_regions (position a) a.command)
 
--- where a bot breaks a rule of single bots, if it does
+-- the coordinate at which a bot breaks a rule of single bots, if it does
 abbrev pub fault : State → List Act → Act → Rule → Option Coord
 fault s all a Forbidden = here a (not (is_allowed s.profile a.command))
 fault s all a HaltAlone = here a (is_halt a.command && nat_lt 1 (length s.bots))
@@ -69,7 +69,7 @@ abbrev pub rules_of_bots : List Rule
 rules_of_bots =
     Forbidden ∷ HaltAlone ∷ HaltOrigin ∷ HaltLow ∷ OutOfSpace ∷ Blocked ∷ Seeds ∷ InRegion ∷ Partner ∷ GroupShape ∷ []
 
--- the rule as broken by the bot of this bid, where there is a place at which it is
+-- the rule as broken by the bot of this bid, if there is a coordinate at which it is
 abbrev pub broken_by : ℕ → Rule → ℕ → Option Coord → Option Broken
 broken_by step rule bid at = option_map (λ c. record { step = step; bid = bid; rule = rule; at = c }) at
 

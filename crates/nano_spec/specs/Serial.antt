@@ -1,4 +1,4 @@
--- The groups of a step one after another, in some order of their leaders: each meets the state that those before it
+-- The groups of a step one after another, in some order of their leaders: each starts in the state that those before it
 -- leave (docs/FORMATS.md, "Groups").
 use Rattle.std.specs.Prelude.{ℕ, ◌+ℤ◌, Bool, cond, ◌&&◌, not, ◌==◌, List, [], ◌∷◌, ◌++◌, map, filter, find, flat_map, unwrap_or, Option, Some, None, is_none}
 use Rattle.std.specs.List.{list_all, list_any}
@@ -12,11 +12,11 @@ use Rattle.nano_spec.specs.Rules.{fault, rules_of_bots}
 use Rattle.nano_spec.specs.State.{State}
 use Rattle.nano_spec.specs.Step.{matrix_after, harmonics_after}
 
--- the bot as it stands among the bots of a state
+-- the bot with its current state among the bots of a state
 abbrev pub bot_in : List Bot → Bot → Bot
 bot_in bots bot = unwrap_or (find (λ b. b.bid == bot.bid) bots) bot
 
--- the group of a leader as it was found at the start, with its bots as they stand in a state
+-- the group of a leader as it was found at the start, with the bots of a later state
 abbrev pub group_in : State → List Act → Act → List Act
 group_in s all leader = map (λ a. record { bot = bot_in s.bots a.bot; command = a.command }) (members all leader)
 
@@ -43,8 +43,8 @@ after_group s group = record {
   profile = s.profile;
 }
 
--- the state after the groups of some leaders, one after another; none where a group breaks a rule in the state that it
--- meets
+-- the state after the groups of some leaders, one after another; none if a group breaks a rule in the state that it
+-- starts in
 abbrev pub in_turn : State → List Act → List Act → Option State
 in_turn s all [] = Some s
 in_turn s all (leader ∷ more) =

@@ -12,7 +12,7 @@ axis d = cond (unsigned_abs d.dx == 0) (cond (unsigned_abs d.dy == 0) 3 2) 1
 abbrev pub component : Diff → ℤ
 component d = (d.dx +ℤ d.dy) +ℤ d.dz
 
--- a component with what is added to it, so that it is not negative
+-- a component plus an offset, so that it is not negative
 abbrev pub raised : ℤ → ℕ → ℕ
 raised z by = unsigned_abs (z +ℤ pos by)
 

@@ -27,11 +27,11 @@ is_high High = true
 abbrev pub is_seed : ℕ → ℕ → Bool
 is_seed seeds k = seeds / 2 ^ k % 2 == 1
 
--- the set of the seeds in a list, each of which stands there once
+-- the set of the seeds in a list without duplicates
 abbrev pub seed_set : List ℕ → ℕ
 seed_set ks = sum_by (λ k. 2 ^ k) ks
 
--- the numbers of the bits of a set of seeds; it unfolds only where a proof asks for it, so that no goal has 64 cases
+-- the numbers of the bits of a set of seeds; it unfolds only on demand of a proof, so that no goal has 64 cases
 unfoldable pub seed_numbers : List ℕ
 seed_numbers = numbers_below 64
 
@@ -43,7 +43,7 @@ seed_list seeds = filter (is_seed seeds) seed_numbers
 abbrev pub AreDisjoint : ℕ → ℕ → Type 0
 AreDisjoint seeds others = (k : ℕ) → IsTrue (is_seed seeds k) → IsFalse (is_seed others k)
 
--- where the first bot begins
+-- the position of the first bot
 abbrev pub origin : Coord
 origin = record { x = 0; y = 0; z = 0 }
 
@@ -70,13 +70,13 @@ pub record IsWellFormed (s : State) : Type 0 where
   -- no bot has an active bid as a seed
   pub unborn : All (λ a. All (λ b. IsFalse (is_seed a.seeds b.bid)) s.bots) s.bots
 
--- a state is ready for a step: its matrix is whole, and its bots stand in space, in rising order of their bids, with
--- nothing in common. A ready state is well-formed where it is grounded under Low and its bots stand in void voxels; a
--- well-formed one is ready where its matrix is whole, its bots stand in space and their bids rise
+-- a state is ready for a step: its matrix is whole, and its bots are in space, in rising order of their bids, with
+-- nothing in common. A ready state is well-formed if it is grounded under Low and its bots are in void voxels; a
+-- well-formed one is ready if its matrix is whole, its bots are in space and their bids rise
 pub record IsReady (s : State) : Type 0 where
   -- the matrix has a voxel for each of its coordinates
   pub whole : length s.matrix.voxels ≡ s.matrix.resolution * s.matrix.resolution * s.matrix.resolution
-  -- the bots stand in space
+  -- the bots are in space
   pub within : All (λ a. IsInSpace s.matrix.resolution a.pos) s.bots
   -- the bids rise
   pub rising : AllPairs (λ a b. a.bid < b.bid) s.bots

@@ -22,7 +22,7 @@ is_filled all c = list_any (λ a. list_any (λ s. is_within s (point c)) (filled
 abbrev pub is_voided : List Act → Coord → Bool
 is_voided all c = list_any (λ a. list_any (λ s. is_within s (point c)) (voided (position a) a.command)) all
 
--- full afterwards is what is filled, and what was full and is not voided
+-- a voxel is full afterwards if it is filled, or if it was full and is not voided
 abbrev pub matrix_after : Matrix → List Act → Matrix
 matrix_after m all = matrix_where m.resolution (λ c. is_filled all c || (is_full m c && not (is_voided all c)))
 
@@ -31,7 +31,7 @@ abbrev pub flipped : Harmonics → Harmonics
 flipped Low = High
 flipped High = Low
 
--- harmonics change where the number of Flips is odd
+-- harmonics change if the number of Flips is odd
 abbrev pub harmonics_after : Harmonics → List Act → Harmonics
 harmonics_after h all = cond (count_by (λ a. is_flip a.command) all % 2 == 1) (flipped h) h
 

@@ -1,4 +1,4 @@
--- What comes of a run (task description, section on execution; that commands after the Halt are refused is this
+-- The outcome of a run (task description, section on execution; that commands after the Halt are refused is this
 -- project's own: docs/FORMATS.md, "Rules").
 use Rattle.std.specs.Prelude.{◌≡◌, ℕ, ◌+◌, ℤ, List, [], ◌∷◌, length, take, drop, find, Option, Some, None}
 use Rattle.vox_geom.specs.declared.coordinate.Coord.{Coord}
@@ -32,7 +32,7 @@ abbrev pub ending : Matrix → State → List Command → ℕ → Verdict
 ending target s [] steps = compared s.energy steps (first_difference s.matrix target)
 ending target s (command ∷ more) steps = broken_end steps AfterHalt origin
 
--- what comes of the commands from a state on, after this many steps: a step takes as many commands as there are bots
+-- the verdict on the commands from a state on, after this many steps: a step takes as many commands as there are bots
 pub data Run (target : Matrix) : State → List Command → ℕ → Verdict → Type 0 where
   ends : {s : State} {commands : List Command} {steps : ℕ} {verdict : Verdict} → s.bots ≡ []
       → verdict ≡ ending target s commands steps → Run target s commands steps verdict

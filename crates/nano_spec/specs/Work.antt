@@ -55,7 +55,7 @@ same_level None None = true
 same_level (Some a) (Some b) = a == b
 same_level a b = false
 
--- at how many places two lists of levels differ
+-- at how many indices two lists of levels differ
 abbrev pub differing : List (Option ℕ) → List (Option ℕ) → ℕ
 differing [] levels = 0
 differing (a ∷ more) [] = 0
@@ -71,13 +71,14 @@ pub record LevelsOfStep (m : Matrix) (all : List Act) : Type 0 where
   pub afterwards_are : Levels (matrix_after m all) afterwards
 
 -- n is the work of acts that break none of the rules that are judged at a step's start: the volatile coordinates, the
--- voxels that change, those whose levels change by what is voided, and those whose levels change then by what is filled
+-- voxels that change, those whose levels change when voxels are voided, and those whose levels change then when voxels
+-- are filled
 abbrev pub WorkOfActs : Matrix → List Act → ℕ → Type 0
 WorkOfActs m all n =
     (levels : LevelsOfStep m all) × (n ≡ volatile_total m all + changed_count m (matrix_after m all)
     + differing levels.before levels.between + differing levels.between levels.afterwards)
 
--- the work of a step that is broken by a rule that is judged at its start: none where the trace ends, and else the
+-- the work of a step that is broken by a rule that is judged at its start: none if the trace ends, otherwise the
 -- volatile coordinates
 abbrev pub work_by_rule : Matrix → List Act → Rule → ℕ
 work_by_rule m all TraceEnds = 0

@@ -1,4 +1,4 @@
--- Worked examples: what comes of a trace, from the bytes of the two models and of the trace.
+-- Worked examples: the verdict on a trace, from the bytes of the two models and of the trace.
 use Prim.Native.String.{String}
 use Rattle.std.specs.Prelude.{◌≡◌, ℕ, ◌+◌, ◌-◌, ◌*◌, ℤ, pos, neg_ℤ, cond, nat_lt, codes, List, [], ◌∷◌, Ok}
 use Rattle.std.specs.List.{list_any}
@@ -30,7 +30,7 @@ bytes_of (a ∷ []) = []
 bytes_of (a ∷ b ∷ []) = (16 * digit_value a + digit_value b) ∷ []
 bytes_of (a ∷ b ∷ space ∷ more) = (16 * digit_value a + digit_value b) ∷ bytes_of more
 
--- the bytes that hexadecimal digits say
+-- the bytes of hexadecimal digits
 abbrev pub hex : String → List ℕ
 hex text = bytes_of (codes text)
 
@@ -61,7 +61,7 @@ two_voxels = hex "04 00 00 22 00 00 00 00 00"
 abbrev pub a_line : List ℕ
 a_line = hex "05 00 00 00 1C 00 00 00 00 00 00 00 00 00 00 00 00"
 
--- at resolution 5 a ring of eight voxels at y = 1 round (2,1,2), on the post (1,0,1), on that and the post (3,0,3), and
+-- at resolution 5 a ring of eight voxels at y = 1 around (2,1,2), on the post (1,0,1), on that and the post (3,0,3), and
 -- on the latter alone
 abbrev pub ring_on_a_post : List ℕ
 ring_on_a_post = hex "05 00 00 00 84 03 00 00 05 00 00 0E 00 00 00 00 00"

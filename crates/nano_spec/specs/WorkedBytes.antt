@@ -14,7 +14,7 @@ use Rattle.nano_spec.specs.Reading.{lines, read}
 use Rattle.nano_spec.specs.Worked.{Assembles, diff, hex, below_zero, voxels_at}
 use Rattle.vox_geom.specs.Point.{coord}
 
--- eight voxels at y = 1 round (2,1,2), on the post (3,0,3)
+-- eight voxels at y = 1 around (2,1,2), on the post (3,0,3)
 abbrev pub ring : List Coord
 ring =
     coord 3 0 3 ∷ coord 1 1 1 ∷ coord 1 1 2 ∷ coord 1 1 3 ∷ coord 2 1 1 ∷ coord 2 1 3 ∷ coord 3 1 1 ∷ coord 3 1 2
@@ -45,7 +45,7 @@ pub record WorkedSpellings : Type 0 where
   -- the greatest number of a Fission
   pub the_greatest_fission : Assembles "Fission <0,0,1> 255" "75 FF"
 
--- what the bytes of a trace say
+-- the commands of the bytes of a trace
 pub record WorkedTraces : Type 0 where
   -- the empty trace
   pub no_bytes : Decoding [] (Ok [])
@@ -71,19 +71,19 @@ pub record WorkedTraces : Type 0 where
   pub a_cut_after_a_long_command : Decoding (hex "14 10 71 1E 1E") (Err (CutAt 2))
   -- the greatest number of a Fission
   pub a_fission_of_255 : Decoding (hex "75 FF") (Ok (Fission (diff (pos 0) (pos 0) (pos 1)) 255 ∷ []))
-  -- a far difference with a first component of 31 begins no command, also where its other bytes are missing
+  -- a far difference with a first component of 31 begins no command, even if its other bytes are missing
   pub a_cut_that_is_bad : Decoding (hex "71 3D") (Err (BadAt 0))
   -- one of 0 does
   pub a_far_difference_is_cut : Decoding (hex "71 1E") (Err (CutAt 0))
 
--- what the bytes of a trace do not say
+-- wrong readings of the bytes of a trace
 pub record WorkedMisreadings : Type 0 where
   -- the offset is that of the bad byte, and not of the command before it
   pub no_bad_byte_at_a_command : Decoding (hex "FE 04") (Err (BadAt 0)) → ⊥
   -- a move without its length is cut, and not bad
   pub a_cut_that_is_not_bad : Decoding (hex "14") (Err (BadAt 0)) → ⊥
 
--- what the bytes of a model say, whether it is legal, and levels
+-- the model of bytes, whether it is legal, and levels
 pub record WorkedModels : Type 0 where
   -- no byte
   pub no_byte : model [] ≡ Err NoByte
@@ -137,7 +137,7 @@ pub record WorkedModels : Type 0 where
   pub a_run_of_three : run_lengths 0 false (true ∷ true ∷ true ∷ []) ≡ 0 ∷ 3 ∷ []
   -- a byte has eight voxels
   pub bytes_of_nine_voxels : map (byte_at (replicate 9 true)) (0 ∷ 1 ∷ []) ≡ 255 ∷ 1 ∷ []
-  -- one voxel has a byte of its own
+  -- one voxel has its own byte
   pub written_at_resolution_1 : written (empty 1) ≡ hex "01 00"
   -- the wide form begins with the resolution in two bytes, and with a void run
   pub written_at_resolution_251 :
@@ -163,10 +163,10 @@ pub record WorkedModels : Type 0 where
   pub a_voxel_at_the_greatest_x : Legality (voxels_at 3 (coord 2 0 1 ∷ [])) (Some (Border (coord 2 0 1)))
   pub a_voxel_at_the_least_z : Legality (voxels_at 3 (coord 1 0 0 ∷ [])) (Some (Border (coord 1 0 0)))
   pub a_voxel_at_the_greatest_z : Legality (voxels_at 3 (coord 1 0 2 ∷ [])) (Some (Border (coord 1 0 2)))
-  -- the least of two voxels outside the box is answered, although a lesser one floats
+  -- the least of two voxels outside the box is reported, although a lesser one floats
   pub the_least_at_the_border :
       Legality (voxels_at 4 (coord 1 1 1 ∷ coord 3 0 3 ∷ coord 3 1 0 ∷ [])) (Some (Border (coord 3 0 3)))
-  -- the least of two floating voxels is answered
+  -- the least of two floating voxels is reported
   pub the_least_floating : Legality (voxels_at 4 (coord 2 1 1 ∷ coord 1 2 2 ∷ [])) (Some (Floating (coord 1 2 2)))
   -- voxels that meet at an edge do not ground one another
   pub an_edge_does_not_ground : Legality (voxels_at 4 (coord 1 0 1 ∷ coord 2 1 1 ∷ [])) (Some (Floating (coord 2 1 1)))
@@ -180,7 +180,7 @@ pub record WorkedModels : Type 0 where
   pub a_wide_resolution_of_one_byte : model (hex "FF 00") ≡ Err (WideHead 2)
   -- there is no run
   pub no_runs : model (hex "FF 00 FB") ≡ Err (WideShort 0)
-  -- there is one run, and voxels are wanting
+  -- there is one run, and voxels are missing
   pub too_few_runs : model (hex "FF 00 FB 00 00 F6 1A") ≡ Err (WideShort 63002)
   -- the three runs have all voxels, and four bytes are left
   pub four_bytes_after_the_runs : model (hex "FF 00 FB 00 00 F6 1A 00 00 00 01 00 F0 54 68 00 00 00 00") ≡ Err WideLong
@@ -232,15 +232,15 @@ pub record WorkedTexts : Type 0 where
   pub two_returns : read (codes "Wait\r\r\n") ≡ Err (record { fault = Shape; line = 1 })
   -- a carriage return before a comment stays
   pub a_return_before_a_comment : read (codes "Wait\r# \r\n") ≡ Err (record { fault = Shape; line = 1 })
-  -- no blanks are asked for
+  -- no blanks are needed
   pub without_blanks : read (codes "Fission<0,0,1>5#") ≡ Ok (Fission (diff (pos 0) (pos 0) (pos 1)) 5 ∷ [])
   -- a blank within a number
   pub a_cut_number : read (codes "SMove <1 2,0,0>") ≡ Err (record { fault = Shape; line = 1 })
   -- a plus sign is no part of a number
   pub a_plus_sign : read (codes "SMove <+1,0,0>") ≡ Err (record { fault = Shape; line = 1 })
-  -- the shape is asked before the range
+  -- the shape is checked before the range
   pub a_shape_and_a_range : read (codes "Fill <1,1,1> 1") ≡ Err (record { fault = Shape; line = 1 })
-  -- a line's bytes are asked before its word
+  -- a line's bytes are checked before its word
   pub not_ascii_in_an_unknown_word : read (codes "Jump " ++ 0x80 ∷ []) ≡ Err (record { fault = NotAscii; line = 1 })
   -- the first faulty line decides
   pub the_first_faulty_line : read (codes "Wait\nFill <1,1,1>\nJump") ≡ Err (record { fault = Range; line = 2 })
@@ -280,7 +280,7 @@ pub record WorkedTexts : Type 0 where
   pub another_letter_behind_a_word : read (codes "HaltZ") ≡ Err (record { fault = UnknownWord; line = 1 })
   -- a vertical tab is no blank
   pub a_vertical_tab : read (codes "Wait" ++ 0x0B ∷ []) ≡ Err (record { fault = Shape; line = 1 })
-  -- a minus sign stands at its number
+  -- no blank separates a minus sign from its number
   pub a_blank_behind_a_minus_sign : read (codes "SMove <- 1,0,0>") ≡ Err (record { fault = Shape; line = 1 })
   -- a Fission has a near difference
   pub a_fission_that_is_not_near : read (codes "Fission <1,1,1> 0") ≡ Err (record { fault = Range; line = 1 })
@@ -292,7 +292,7 @@ pub record WorkedTexts : Type 0 where
   pub a_group_void_that_is_not_near : read (codes "GVoid <1,1,1> <0,0,1>") ≡ Err (record { fault = Range; line = 1 })
   -- a region to be voided has an extent too
   pub a_group_void_of_no_extent : read (codes "GVoid <0,0,1> <0,0,0>") ≡ Err (record { fault = Range; line = 1 })
-  -- blanks may stand round each number
+  -- blanks may surround each number
   pub blanks_round_each_number : read (codes "SMove < 1 , 0 , 0 >") ≡ Ok (SMove (diff (pos 1) (pos 0) (pos 0)) ∷ [])
   -- a negative number has three digits at most, too
   pub three_digits_behind_a_minus_sign : read (codes "SMove <-100,0,0>") ≡ Err (record { fault = Range; line = 1 })
@@ -312,16 +312,16 @@ pub record WorkedTexts : Type 0 where
   pub the_first_and_last_letters : map (λ b. read (codes "Wait" ++ b ∷ [])) (codes "AZaz")
       ≡ Err (record { fault = UnknownWord; line = 1 }) ∷ Err (record { fault = UnknownWord; line = 1 })
       ∷ Err (record { fault = UnknownWord; line = 1 }) ∷ Err (record { fault = UnknownWord; line = 1 }) ∷ []
-  -- the bytes beside them are none
+  -- the bytes next to them are none
   pub beside_the_letters : map (λ b. read (codes "Wait" ++ b ∷ [])) (codes "@[`{")
       ≡ Err (record { fault = Shape; line = 1 }) ∷ Err (record { fault = Shape; line = 1 })
       ∷ Err (record { fault = Shape; line = 1 }) ∷ Err (record { fault = Shape; line = 1 }) ∷ []
-  -- the bytes beside 0 and 9 are no digits
+  -- the bytes next to 0 and 9 are no digits
   pub beside_the_digits : map (λ b. read (codes "SMove <" ++ b ∷ codes ",0,0>")) (codes "/:")
       ≡ Err (record { fault = Shape; line = 1 }) ∷ Err (record { fault = Shape; line = 1 }) ∷ []
   -- 9 is a digit
   pub the_last_digit : read (codes "SMove <9,0,0>") ≡ Ok (SMove (diff (pos 9) (pos 0) (pos 0)) ∷ [])
-  -- what ends a line begins no other one, and a text may end without it
+  -- the end of a line begins no other one, and a text may end without it
   pub a_line_and_its_end : lines (codes "Wait\n") ≡ codes "Wait" ∷ []
   pub a_line_without_its_end : lines (codes "Wait") ≡ codes "Wait" ∷ []
   pub an_empty_last_line : lines (codes "Wait\n\n") ≡ codes "Wait" ∷ [] ∷ []

@@ -31,9 +31,9 @@ use Rattle.vox_geom.specs.Space.{numbers_below}
 
 -- forged models and their bytes
 pub record WorkedForge : Type 0 where
-  -- what the number 0 says of the columns at resolutions 3 and 4
+  -- the mixed numbers of the columns for the number 0 at resolutions 3 and 4
   pub mixed_numbers : (mixed 0 1 1 ≡ 189) × (mixed 0 1 2 ≡ 307) × (mixed 0 2 1 ≡ 275) × (mixed 0 2 2 ≡ 408)
-  -- what the number 1 says
+  -- a mixed number for the number 1
   pub another_mixed_number : mixed 1 1 1 ≡ 190
   -- one column of height 2
   pub one_column : forged 0 3 ≡ voxels_at 3 (coord 1 0 1 ∷ coord 1 1 1 ∷ [])
@@ -51,7 +51,7 @@ pub record WorkedForge : Type 0 where
   pub no_column_of_four : forged 719 4 ≡ empty 4
   -- mixed numbers are below 1024
   pub a_wrapped_number : mixed 1000 1 1 ≡ 165
-  -- 1024 says the same as 0
+  -- 1024 gives the same as 0
   pub a_number_of_1024 : forged 1024 3 ≡ forged 0 3
   -- three columns, of which one is 3 high: lines on its top layer
   pub lines_on_top : forged 1 5 ≡ voxels_at 5 (coord 1 0 3 ∷ coord 1 1 3 ∷ coord 1 2 3 ∷ coord 2 0 1 ∷ coord 2 2 1
@@ -61,7 +61,7 @@ pub record WorkedForge : Type 0 where
       ∷ coord 2 1 3 ∷ coord 2 2 3 ∷ coord 2 3 1 ∷ coord 2 3 2 ∷ coord 2 3 3 ∷ coord 3 0 2 ∷ coord 3 1 2 ∷ coord 3 2 2
       ∷ coord 3 3 2 ∷ coord 3 3 3 ∷ [])
 
--- two bots beside each other, at resolution 5
+-- two bots next to each other, at resolution 5
 abbrev pub with_two : State
 with_two =
     record
@@ -104,7 +104,7 @@ pub record WorkedOrders : Type 0 where
 pub record WorkedWork : Type 0 where
   -- no command for the first bot
   pub no_work : Work (empty 3) [] full_profile 0
-  -- a Fission is refused for want of seeds: its two volatile coordinates
+  -- a Fission is refused because it has too few seeds: its two volatile coordinates
   pub work_of_a_refused_fission : Work (empty 3) (Fission (diff (pos 0) (pos 0) (pos 1)) 39 ∷ []) full_profile 2
   -- a ring on two posts, of which one is voided: two volatile coordinates, one voxel that changes,
   -- and four whose levels change; then the Halt's one volatile coordinate
@@ -118,8 +118,8 @@ pub record WorkedWork : Type 0 where
       (Fission (diff (pos 0) (pos 0) (pos 1)) 0 ∷ GFill (diff (pos 1) (pos 0) (pos 1)) (diff (pos 0) (pos 0) (pos 1))
       ∷ GFill (diff (pos 1) (pos 0) (pos 0)) (diff (pos 0) (pos 0) (pos 1)) ∷ []) full_profile 6
   -- two voxels above the floor on a post, which one bot voids while another bot fills a post below the other of them:
-  -- two volatile coordinates for the Fission, and then four, two voxels that change, three whose levels change by what
-  -- is voided, and three by what is filled
+  -- two volatile coordinates for the Fission, and then four, two voxels that change, three whose levels change when the
+  -- post is voided, and three when the other is filled
   pub work_of_another_post : Work (voxels_at 4 (coord 1 0 1 ∷ coord 1 1 1 ∷ coord 1 1 2 ∷ []))
       (Fission (diff (pos 0) (pos 0) (pos 1)) 0 ∷ Void (diff (pos 1) (pos 0) (pos 1))
       ∷ Fill (diff (pos 1) (pos 0) (pos 1)) ∷ []) full_profile 14
@@ -127,14 +127,14 @@ pub record WorkedWork : Type 0 where
   -- one voxel that changes, and two whose levels change
   pub work_of_a_floating_voxel :
       Work (voxels_at 3 (coord 1 0 1 ∷ coord 1 1 1 ∷ [])) (Void (diff (pos 1) (pos 0) (pos 1)) ∷ []) full_profile 5
-  -- a Fission, and a Wait for the first of two bots: where the trace ends there is no work
+  -- a Fission, and a Wait for the first of two bots: the trace ends within the step, which has no work
   pub work_where_the_trace_ends :
       Work (empty 3) (Fission (diff (pos 0) (pos 0) (pos 1)) 0 ∷ Wait ∷ []) full_profile 2
   -- a full voxel is filled, and a void one is voided, so that no voxel changes: two volatile coordinates each, and the
   -- Halt's one
   pub work_without_a_change : Work (voxels_at 3 (coord 1 0 1 ∷ []))
       (Fill (diff (pos 1) (pos 0) (pos 1)) ∷ Void (diff (pos 1) (pos 1) (pos 0)) ∷ Halt ∷ []) full_profile 5
-  -- two bots would exchange their places: two volatile coordinates for the Fission, and then the same two for each bot
+  -- two bots would exchange their positions: two volatile coordinates for the Fission, and then the same two for each bot
   pub work_of_groups_that_meet : Work (empty 3)
       (Fission (diff (pos 0) (pos 0) (pos 1)) 0 ∷ SMove (diff (pos 0) (pos 0) (pos 1))
       ∷ SMove (diff (pos 0) (pos 0) (below_zero 1)) ∷ []) full_profile 6
@@ -198,9 +198,9 @@ pub record WorkedStates : Type 0 where
   pub floating_under_low : IsWellFormed (with_bots Low (voxels_at 3 (coord 1 1 1 ∷ [])) (bot 1 0 0 0 ∷ [])) → ⊥
   -- two bots have the bid 2
   pub one_bid_twice : IsWellFormed (with_bots Low (empty 3) (bot 2 0 0 0 ∷ bot 2 0 0 1 ∷ [])) → ⊥
-  -- two bots stand at one coordinate
+  -- two bots are at one coordinate
   pub one_place_twice : IsWellFormed (with_bots Low (empty 3) (bot 1 0 0 1 ∷ bot 2 0 0 1 ∷ [])) → ⊥
-  -- a bot stands in a full voxel
+  -- a bot is in a full voxel
   pub a_bot_in_a_voxel : IsWellFormed (with_bots Low (voxels_at 3 (coord 1 0 1 ∷ [])) (bot 1 1 0 1 ∷ [])) → ⊥
   -- both bots have the seed 5
   pub one_seed_twice : IsWellFormed
@@ -210,11 +210,11 @@ pub record WorkedStates : Type 0 where
       → ⊥
   -- the matrix has no voxels
   pub no_voxels : IsReady (with_bots Low (record { resolution = 3; voxels = [] }) (bot 1 0 0 0 ∷ [])) → ⊥
-  -- a bot stands outside the matrix
+  -- a bot is outside the matrix
   pub a_bot_outside : IsReady (with_bots Low (empty 3) (bot 1 0 0 3 ∷ [])) → ⊥
   -- the bots are not in the order of their bids
   pub bids_that_fall : IsReady (with_bots Low (empty 3) (bot 2 0 0 0 ∷ bot 1 0 0 1 ∷ [])) → ⊥
-  -- two bots stand at one coordinate, both have a seed, and the bid of an active bot is a seed
+  -- two bots are at one coordinate, both have a seed, and the bid of an active bot is a seed
   pub one_ready_place_twice : IsReady (with_bots Low (empty 3) (bot 1 0 0 1 ∷ bot 2 0 0 1 ∷ [])) → ⊥
   pub one_ready_seed_twice :
       IsReady (with_bots Low (empty 3) (seeded 1 (coord 0 0 0) (4 ∷ 5 ∷ []) ∷ seeded 2 (coord 0 0 1) (5 ∷ []) ∷ [])) → ⊥
@@ -237,7 +237,7 @@ all_commands =
     ∷ GFill (diff (pos 1) (pos 0) (pos 0)) (diff (pos 1) (pos 0) (pos 0))
     ∷ GVoid (diff (pos 1) (pos 0) (pos 0)) (diff (pos 1) (pos 0) (pos 0)) ∷ []
 
--- the profile without seeds that allows the command at one place alone
+-- the profile without seeds that allows only the command at one index
 abbrev pub allowing : ℕ → Profile
 allowing place = record { seeds = 0; allowed = 2 ^ place }
 
@@ -249,7 +249,7 @@ pub record WorkedNames : Type 0 where
   -- the full profile allows all twelve, the light one the first nine
   pub full_allows : list_all (is_allowed full_profile) all_commands ≡ true
   pub light_allows : filter (is_allowed light_profile) all_commands ≡ take 9 all_commands
-  -- each word has a bit of its own
+  -- each word has its own bit
   pub indexes : map index_of all_commands ≡ numbers_below 12
   -- a set has 64 bits
   pub the_greatest_seed : seed_list (2 ^ 63) ≡ 63 ∷ []

@@ -54,14 +54,14 @@ pub record RefusedRuns : Type 0 where
   pub an_empty_trace_ends_before_the_first_step : Refuses empty_3 empty_3 (hex "") TraceEnds 1 1 (coord 0 0 0)
   -- there is no command for the second step
   pub a_trace_ends_after_a_wait : Refuses empty_3 empty_3 (hex "FE") TraceEnds 2 1 (coord 0 0 0)
-  -- under Low a voxel is filled that has no full neighbour
+  -- under Low a voxel is filled that has no full neighbor
   pub a_filled_voxel_floats : Refuses empty_4 empty_4 (hex "14 10 24 10 73 FF") Ungrounded 3 0 (coord 1 1 1)
   -- the same without the voxel below
   pub a_voxel_floats_once_harmonics_are_low :
       Refuses empty_4 two_voxels (hex "FD 14 10 24 10 73 FD 24 0E 14 0E FF") Ungrounded 5 0 (coord 1 1 1)
   -- the Fission would need 40 seeds
   pub a_fission_asks_for_too_many_seeds : Refuses empty_3 empty_3 (hex "75 27") Seeds 1 1 (coord 0 0 0)
-  -- a line wants two members
+  -- a line needs two members
   pub one_bot_alone_fills_a_line : Refuses empty_5 a_line (hex "B9 1E 1E 20") GroupShape 1 1 (coord 0 0 0)
   -- the members have to be at different corners
   pub both_members_are_at_one_corner :
@@ -87,7 +87,7 @@ pub record RefusedRuns : Type 0 where
   pub a_bot_moves_through_a_full_voxel : Refuses one_voxel one_voxel (hex "14 10 34 11") Blocked 2 1 (coord 1 0 1)
   -- the source has a voxel that the target has not
   pub the_result_has_more_than_the_target : Refuses one_voxel empty_3 (hex "FF") WrongResult 1 0 (coord 1 0 1)
-  -- the bot meets (1,0,3) first, and the least full voxel of its way is answered
+  -- the bot meets (1,0,3) first, and the least full voxel of its path is reported
   pub the_least_full_voxel_of_a_way : Refuses a_line a_line (hex "34 13 14 10 34 0C") Blocked 3 1 (coord 1 0 1)
   -- no bot fuses with the primary
   pub a_primary_has_no_secondary : Refuses empty_3 empty_3 (hex "77") Partner 1 1 (coord 0 0 0)
@@ -126,14 +126,14 @@ pub record RefusedRuns : Type 0 where
   pub a_voided_near_corner_leaves_space : Refuses empty_3 empty_3 (hex "28 1F 1E 1E") OutOfSpace 1 1 (coord 0 0 0)
   -- the bot is above the origin
   pub a_halt_off_the_origin_along_y : Refuses empty_3 empty_3 (hex "24 10 FF") HaltOrigin 2 1 (coord 0 1 0)
-  -- the bot is beside the origin
+  -- the bot is next to the origin
   pub a_halt_off_the_origin_along_z : Refuses empty_3 empty_3 (hex "34 10 FF") HaltOrigin 2 1 (coord 0 0 1)
-  -- the target has two voxels that were not filled, and the least is answered
+  -- the target has two voxels that were not filled, and the least is reported
   pub the_least_difference : Refuses empty_4 two_voxels (hex "FF") WrongResult 1 0 (coord 1 0 1)
   -- of four members the first and the last are at one corner
   pub two_of_four_members_at_one_corner : Refuses empty_3 empty_3
       (hex "75 01 B5 00 B5 00 81 1F 1E 1F 81 1F 1E 1D 81 1D 1E 1D 39 1F 1E 1F") GroupShape 3 1 (coord 0 0 0)
-  -- the bot stands in its region, at none of its corners
+  -- the bot is in its region, at none of its corners
   pub a_bot_in_the_middle_of_its_region : Refuses empty_4 empty_4 (hex "34 10 61 1E 1E 21") InRegion 2 1 (coord 0 0 1)
   -- the primary's difference does not lead to the secondary
   pub a_fusion_from_the_secondarys_side : Refuses empty_3 empty_3 (hex "75 00 87 66") Partner 2 1 (coord 0 0 0)
@@ -147,7 +147,7 @@ pub record RefusedRuns : Type 0 where
   -- two bots void two such lines
   pub two_voided_lines_are_no_group :
       Refuses a_line empty_5 (hex "75 00 FE 34 11 B8 1E 1E 20 B0 1E 1E 1D") GroupShape 3 1 (coord 0 0 0)
-  -- the greatest number of a Fission is a command, for which seeds are wanting
+  -- the greatest number of a Fission is a command, for which there are too few seeds
   pub the_greatest_fission : Refuses empty_3 empty_3 (hex "75 FF") Seeds 1 1 (coord 0 0 0)
 
 -- traces with the light profile

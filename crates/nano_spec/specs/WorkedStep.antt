@@ -22,7 +22,7 @@ block = matrix_where 5 (λ c. nat_le 1 c.x && nat_le c.x 3 && nat_le c.y 2 && na
 abbrev pub bot : ℕ → ℕ → ℕ → ℕ → Bot
 bot bid x y z = record { bid = bid; pos = coord x y z; seeds = 0 }
 
--- a bot beside each corner of the block
+-- a bot next to each corner of the block
 abbrev pub eight_bots : List Bot
 eight_bots =
     bot 1 0 0 1 ∷ bot 2 4 0 1 ∷ bot 3 0 0 3 ∷ bot 4 4 0 3 ∷ bot 5 0 2 1 ∷ bot 6 4 2 1 ∷ bot 7 0 2 3 ∷ bot 8 4 2 3 ∷ []
@@ -52,7 +52,7 @@ abbrev pub with_one : Harmonics → ℤ → State
 with_one harmonics energy =
     record { matrix = empty 3; harmonics = harmonics; bots = bot 1 0 0 0 ∷ []; energy = energy; profile = full_profile }
 
--- a Flip pays 81 + 20 where it begins under Low, and 810 + 20 where it begins under High; three Flips are as one
+-- a Flip pays 81 + 20 if it begins under Low, and 810 + 20 if it begins under High; three Flips are as one
 pub record FlipsPayByTheirStart : Type 0 where
   pub from_low : after (with_one Low (pos 0)) (Flip ∷ []) ≡ with_one High (pos 101)
   pub from_high : after (with_one High (pos 0)) (Flip ∷ []) ≡ with_one Low (pos 830)

@@ -22,7 +22,7 @@ impl Model for CommandList {
 }
 
 impl CommandList {
-    /// The empty list.
+    /// Returns the empty list.
     pub fn new(alloc: Global) -> CommandList
         ensures { result ≡ [] }
     {
@@ -31,14 +31,14 @@ impl CommandList {
         }
     }
 
-    /// The list of these commands. It takes no memory, so it cannot fail after room was taken beforehand.
+    /// Returns the list of these commands. It does not allocate, so it cannot fail.
     pub fn from_vec(commands: Vec<Command>) -> CommandList
         ensures { result ≡ commands.items }
     {
         CommandList { commands }
     }
 
-    /// Adds a command at the end. Where there is no memory, the list stays as it was.
+    /// Appends a command. If allocation fails, the list stays as it was.
     pub fn push(&mut self, c: Command) -> Result<(), Memory>
         ensures ok { OnOk result (self.new ≡ self.old ++ c ∷ []) }
         ensures err { OnErr result (self.new ≡ self.old) }
@@ -49,7 +49,7 @@ impl CommandList {
         }
     }
 
-    /// The commands.
+    /// Returns the commands.
     pub fn as_slice(&self) -> &[Command]
         ensures { result.now ≡ self.now }
     {

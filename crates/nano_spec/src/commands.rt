@@ -4,24 +4,24 @@ ghost use Rattle.nano_spec.specs.Profile.{index_of};
 
 use vox_geom::{Far, Long, Near, Short};
 
-/// A command to one bot (docs/FORMATS.md, "Commands", says what each does, costs and makes volatile).
+/// A command to one bot (docs/FORMATS.md, "Commands", describes its effect, its cost and its volatile coordinates).
 #[derive(Clone, Copy, PartialEq, Eq, Debug)]
 pub enum Command {
     /// Ends the run.
     Halt,
-    /// Nothing.
+    /// Does nothing.
     Wait,
     /// Changes the harmonics.
     Flip,
-    /// A move along one axis.
+    /// Moves along one axis.
     SMove(Long),
-    /// Two moves, one after the other.
+    /// Moves twice, one leg after the other.
     LMove(Short, Short),
-    /// The primary of a fusion, and where its secondary stands.
+    /// Fuses as the primary. The difference leads to the secondary.
     FusionP(Near),
-    /// The secondary of a fusion, and where its primary stands.
+    /// Fuses as the secondary. The difference leads to the primary.
     FusionS(Near),
-    /// Makes a bot there, with so many of the seeds.
+    /// Makes a bot at the neighbor, with this number of the seeds.
     Fission(Near, u8),
     /// Fills a voxel.
     Fill(Near),
@@ -34,7 +34,7 @@ pub enum Command {
 }
 
 impl Command {
-    /// The place of the command's word among the twelve, counted from 0.
+    /// Returns the index of the command's word among the twelve, counted from 0.
     pub(crate) fn index(self) -> u32
         ensures index { result ≡ index_of self }
         ensures bound { result < 12 }

@@ -46,7 +46,7 @@ pub fn one_outcome()
         → Next s commands step p → o ≡ p }
 {}
 
-/// A model is legal, or it is refused in one way.
+/// A model is legal, or refused for one reason.
 pub fn one_legality()
     ensures { (m : Matrix) (a b : Option NotLegal) → Legality m a → Legality m b → a ≡ b }
 {}
@@ -56,7 +56,7 @@ pub fn opening_is_well_formed()
     ensures { (m : Matrix) (profile : Profile) → IsLegal m → IsWellFormed (opening m profile) }
 {}
 
-/// A model that bytes say has a resolution of 1 to 400 and a voxel for each coordinate.
+/// A model that bytes encode has a resolution of 1 to 400 and a voxel for each coordinate.
 pub fn a_model_is_whole()
     ensures some { (bytes : List ℕ) (m : Matrix) → model bytes ≡ Ok m → 1 ≤ m.resolution }
     ensures most { (bytes : List ℕ) (m : Matrix) → model bytes ≡ Ok m → m.resolution ≤ MOST_R }
@@ -69,8 +69,8 @@ pub fn opening_is_ready()
         → IsReady (opening m profile) }
 {}
 
-/// A ready state is well-formed where it is grounded and its bots stand in void voxels.
-/// A well-formed one is ready where its matrix is whole, its bots stand in space and their bids rise.
+/// A ready state is well-formed if it is grounded and its bots are in void voxels. A well-formed state is ready if its matrix is
+/// whole, its bots are in space and their bids rise.
 pub fn ready_and_well_formed()
     ensures well_formed { (s : State) → IsReady s → (s.harmonics ≡ Low → FirstUngrounded s.matrix None)
         → All (λ a. IsFalse (is_full s.matrix a.pos)) s.bots → IsWellFormed s }
@@ -89,17 +89,17 @@ pub fn one_spelling()
         → (c ≡ d) × (x ≡ y) }
 {}
 
-/// Bytes have one cutting, or they are refused in one way.
+/// Bytes have one cutting, or are refused for one reason.
 pub fn one_decoding()
     ensures { (bytes : List ℕ) (a b : Result (List Command) NoTrace) → Decoding bytes a → Decoding bytes b → a ≡ b }
 {}
 
-/// What follows a word in a line of text has one reading by the form of that word, or none.
+/// The rest of a line after its word has one reading by the form of that word, or none.
 pub fn one_reading()
     ensures { (word : Word) (line rest : List ℕ) → word_of line ≡ Some word → HasOneAtMost (readings word.form rest) }
 {}
 
-/// A line of text says a command exactly where it is of its form, is ASCII and is not skipped.
+/// A line of text yields a command exactly if it is of the command's form, is ASCII and is not skipped.
 pub fn a_line_says_its_command()
     ensures says { (line : List ℕ) (command : Command) → line_of line ≡ Says command → IsLineOf line command }
     ensures is_said { (line : List ℕ) (command : Command) → IsFalse (has_high_byte line) → IsFalse (is_skipped line)
@@ -128,7 +128,7 @@ pub fn forged_is_legal()
     ensures { (number r : ℕ) → IsLegal (forged number r) }
 {}
 
-/// What the light profile accepts the full one accepts, with the same energy and steps.
+/// The full profile accepts every run that the light one accepts, with the same energy and steps.
 pub fn full_accepts_what_light_accepts()
     ensures { (source target : Matrix) (commands : List Command) (energy : ℤ) (steps : ℕ)
         → VerdictOf source target commands light_profile (Accepted energy steps)

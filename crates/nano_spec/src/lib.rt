@@ -1,5 +1,5 @@
-//! The nanobot system: commands, bots, rules and verdicts (docs/FORMATS.md). What they mean stands in `specs/`, and the
-//! laws of these definitions in `laws`. There is no engine here.
+//! The nanobot system: commands, bots, rules and verdicts (docs/FORMATS.md). Their meaning is defined in `specs/`, and the laws
+//! of these definitions are in `laws`. There is no engine here.
 #![tactic(auto)]
 
 mod command_lists;

@@ -1,11 +1,11 @@
-//! Rules, and what comes of a run.
+//! Rules, and the outcome of a run.
 ghost use Rattle.std.specs.Prelude.{◌≡◌};
 ghost use Rattle.nano_spec.specs.Rule.{name_of, rule_number};
 
 use vox_geom::Coord;
 
-/// A rule of a time step or of the end of a run, in the order of their numbers from 1 on
-/// (docs/FORMATS.md, "Rules", says when each is broken, by which bot and where).
+/// A rule of a time step or of the end of a run, in the order of their numbers from 1 on (docs/FORMATS.md, "Rules", describes
+/// when each is broken, by which bot, and the coordinate).
 #[derive(Clone, Copy, PartialEq, Eq, Debug)]
 pub enum Rule {
     TraceEnds,
@@ -26,7 +26,7 @@ pub enum Rule {
 }
 
 impl Rule {
-    /// The number of the rule.
+    /// Returns the number of the rule.
     pub fn number(self) -> u8
         ensures { result ≡ rule_number self }
     {
@@ -49,7 +49,7 @@ impl Rule {
         }
     }
 
-    /// The name of the rule, as it is printed.
+    /// Returns the name of the rule, as it is printed.
     pub fn name(self) -> &'static str
         ensures { result.now ≡ name_of self }
     {
@@ -73,8 +73,8 @@ impl Rule {
     }
 }
 
-/// The first rule that is broken: in which step, counted from 1, by which bot, and where. The bot is 0 for the rules
-/// that speak of the whole state: `Ungrounded`, `AfterHalt` and `WrongResult`.
+/// The first broken rule: the step, counted from 1, the bot, and the coordinate. The bot is 0 for the rules of the whole state:
+/// `Ungrounded`, `AfterHalt` and `WrongResult`.
 #[derive(Clone, Copy, PartialEq, Eq, Debug)]
 pub struct Broken {
     pub step: u32,
@@ -83,7 +83,7 @@ pub struct Broken {
     pub at: Coord,
 }
 
-/// What comes of a run: its whole energy and the number of its steps, or the first rule that is broken.
+/// The outcome of a run: its total energy and the number of its steps, or the first broken rule.
 #[derive(Clone, Copy, PartialEq, Eq, Debug)]
 pub enum Verdict {
     Accepted { energy: i64, steps: u32 },

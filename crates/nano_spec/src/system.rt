@@ -6,7 +6,7 @@ ghost use Rattle.nano_spec.specs.Step.{flipped};
 use crate::commands::Command;
 use vox_geom::Coord;
 
-/// The harmonics of a state. Under `Low` every full voxel has to be grounded; `High` costs ten times the upkeep for space.
+/// The harmonics of a state. Under `Low` every full voxel must be grounded; `High` costs ten times the upkeep for space.
 #[derive(Clone, Copy, PartialEq, Eq, Debug)]
 pub enum Harmonics {
     Low,
@@ -14,7 +14,7 @@ pub enum Harmonics {
 }
 
 impl Harmonics {
-    /// The other harmonics, as after a Flip.
+    /// Returns the other harmonics, as after a Flip.
     pub fn flipped(self) -> Harmonics
         ensures { result ≡ flipped self }
     {
@@ -25,7 +25,7 @@ impl Harmonics {
     }
 }
 
-/// An active bot, with a bid from 1 to 40. Bit k of `seeds` says that k is a seed: the bid of a bot that it can make.
+/// An active bot, with a bid from 1 to 40. Bit k of `seeds` is 1 if k is a seed: the bid of a bot that it can make.
 #[derive(Clone, Copy, PartialEq, Eq, Default, Debug)]
 pub struct Bot {
     pub bid: u8,
@@ -33,8 +33,10 @@ pub struct Bot {
     pub seeds: u64,
 }
 
-/// What a run may use (docs/FORMATS.md, "Profiles"). The first bot has so many seeds, the numbers from 2 on. Bit k of
-/// `allowed` says that the k-th command, counted from 0 in the order of [`Command`], is allowed.
+/// The limits of a run (docs/FORMATS.md, "Profiles"): the number of seeds of the first bot, which are the numbers from 2 on, and
+/// the allowed commands.
+///
+/// Bit k of `allowed` is 1 if the k-th command, counted from 0 in the order of [`Command`], is allowed.
 #[derive(Clone, Copy, PartialEq, Eq, Debug)]
 pub struct Profile {
     pub seeds: u8,
@@ -42,7 +44,7 @@ pub struct Profile {
 }
 
 impl Profile {
-    /// The profile of the contest: 39 seeds, the numbers 2 to 40, and all commands.
+    /// Returns the profile of the contest: 39 seeds, the numbers 2 to 40, and all commands.
     pub fn full() -> Profile
         ensures { result ≡ full_profile }
     {
@@ -52,7 +54,7 @@ impl Profile {
         }
     }
 
-    /// The light profile: 19 seeds, the numbers 2 to 20, and all commands but `Void`, `GFill` and `GVoid`.
+    /// Returns the light profile: 19 seeds, the numbers 2 to 20, and all commands but `Void`, `GFill` and `GVoid`.
     pub fn light() -> Profile
         ensures { result ≡ light_profile }
     {
@@ -62,7 +64,7 @@ impl Profile {
         }
     }
 
-    /// Whether the command is allowed.
+    /// Returns whether the command is allowed.
     pub fn allows(self, c: Command) -> bool
         ensures { result ≡ is_allowed self c }
     {

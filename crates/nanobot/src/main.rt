@@ -1,5 +1,5 @@
-//! nanobot: an executor for the models and nanobot traces of the ICFP Programming Contest 2018. It does what its words
-//! say (docs/FORMATS.md, "Printed lines"), and ends with the number of its status.
+//! nanobot: an executor for the models and nanobot traces of the ICFP Programming Contest 2018. It executes the command given
+//! by its arguments (docs/FORMATS.md, "Printed lines"), and exits with its status.
 #![tactic(auto)]
 
 ghost use Rattle.vox_geom.specs.Counting.{IsBlankOf};
@@ -16,16 +16,16 @@ use std::sync::ledger::{Blank, Ledger};
 use vox_depot::{Depot, HostDepot, HostSink, Sink};
 use vox_geom::Steps;
 
-/// The exit status where the words could not be had, which is no status of a call.
+/// The exit status if the arguments cannot be read, which is no status of a call.
 const NO_WORDS: u8 = 11;
 
-/// Why the words could not be had.
+/// The reason for unreadable arguments.
 enum NoWords {
     Memory,
     Other,
 }
 
-/// The words after the program's name.
+/// Returns the arguments after the program's name.
 fn words(rt: &HostRuntime) -> Result<Vec<String>, NoWords> {
     let args = match env::args(rt) {
         Ok(args) => args,
@@ -38,7 +38,7 @@ fn words(rt: &HostRuntime) -> Result<Vec<String>, NoWords> {
     }
 }
 
-/// Does what the words say, with a counter of this ledger.
+/// Executes the command, with a counter of this ledger.
 fn run_counted<D: Depot, O: Sink, L: Ledger>(
     alloc: Global,
     words: &[String],
@@ -54,12 +54,12 @@ fn run_counted<D: Depot, O: Sink, L: Ledger>(
     drive(alloc, words, depot, out, &mut steps)
 }
 
-/// Writes a line to standard error. Where that fails there is nobody to tell.
+/// Writes a line to standard error. A failure is ignored, since it cannot be reported.
 fn tell(rt: &HostRuntime, line: &str) {
     let _ = rt.eprintln(line);
 }
 
-/// The line on standard error of a status that prints none.
+/// Writes the line on standard error for a status that prints none.
 fn tell_status(rt: &HostRuntime, status: Status) {
     match status {
         Status::Depot => tell(rt, "nanobot: a file could not be read or written"),
@@ -69,7 +69,7 @@ fn tell_status(rt: &HostRuntime, status: Status) {
     }
 }
 
-/// Says why the words could not be had, and answers the exit status of that.
+/// Reports why the arguments cannot be read, and returns the exit status.
 fn without_words(rt: &HostRuntime, fault: NoWords) -> u8 {
     match fault {
         NoWords::Memory => {

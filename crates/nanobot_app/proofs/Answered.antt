@@ -1,5 +1,5 @@
--- What is answered to a row: one reply, or replies of one status where it asks for a plan, and some reply where it asks
--- for none.
+-- The replies to a command: one reply, or replies of one status if it requests a plan, and some reply if it requests
+-- none.
 use Rattle.std.proofs.Common.{◌≡◌, ℕ, ◌≤◌, List, Option, Some, None, refl, sym, ap, ◌∙◌, subst, length}
 use Rattle.std.specs.Prelude.{Ok, Err, MatchResult, IsSomeAnd, ⊤}
 use Rattle.nano_spec.specs.declared.commands.Command.{Command}
@@ -28,7 +28,7 @@ use Rattle.nanobot_app.proofs.SomeVerdict.{verdict_of}
 
 -- ---- one reply, and some reply
 
--- all replies are one in this part, and, where there may be some reply, there is
+-- all replies are one in this part, and, if there may be some reply, there is
 pub record IsAnswered {A : Type 0} (part : Reply → A) (may : Type 0) (answers : Answers) : Type 0 where
   pub one : SayOne → (files : Files) (r s : Reply) → answers files r → answers files s → part r ≡ part s
   pub some : SaySome → may → (files : Files) → (reply : Reply) × answers files reply
@@ -45,7 +45,7 @@ module _ {A : Type 0} (part : Reply → A) (may : Type 0) where
     abbrev Follows : Files → Found B → Reply → Type 0
     Follows files x reply = MatchResult x (λ b. p b files reply) (λ end. reply ≡ ended files end)
 
-    -- what follows of the value may use what is known where one is found
+    -- the consequences of the value may use the facts known if one is found
     upon_answered : IsOnce may X → (SaySome → may → (files : Files) (b : B) → X files (Ok b) → more b)
         → ((b : B) → IsAnswered part (more b) (p b)) → IsAnswered part may (Upon X p)
     upon_answered it known each = record {
@@ -132,7 +132,7 @@ debug_answered source trace script =
     (λ _ whole files commands found. record { whole = whole; are = (trace_found dis_limit files trace commands found).3.0 }) (λ commands.
     upon_answered (λ r. r) (CanOpen m commands) (ScriptOf m.resolution script) (λ _. CanOpen m commands) (OfSession m commands) (script_once (CanOpen m commands) m.resolution script) (λ _ there _ _ _. there) (of_session m commands)))
 
--- ---- rows that ask for plans: which one is free, and no law says that there is one
+-- ---- commands that request plans: which one is free, and no law states that there is one
 
 abbrev pub IsPlanAnswered : Answers → Type 0
 IsPlanAnswered answers = IsAnswered (λ r. r.status) ⊥ answers

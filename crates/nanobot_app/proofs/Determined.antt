@@ -1,4 +1,4 @@
--- The answer to the words is one only, and what follows from it.
+-- The answer to a command is unique, and the consequences.
 use Rattle.std.proofs.Common.{◌≡◌, ◌⊎◌, ℕ, List, [], Some, refl, sym, ap, ◌∙◌, subst, inl, inr}
 use Rattle.std.specs.Prelude.{IfSome, IsSomeAnd}
 use Rattle.std.specs.Io.KnownBytes.{append_known}
@@ -41,17 +41,17 @@ module _ {A : Type 0} (part : Reply → A) (rows : RowLaw) (laws : SayOne) where
       row_answer_once h.0 (told h.0 h.1) files r s h.2 (subst (λ (row : Row). AnswerOf row files s) same k.2)
 
 module _ (rows : RowLaw) (laws : SayOne) where
-  -- words have one answer where they ask for no plans
+  -- a command has one answer if it requests no plans
   pub answer_once : (words : List (List ℕ)) (files : Files) (r s : Reply) → AskNoPlan words → Answer words files r
       → Answer words files s → r ≡ s
   answer_once words files r s no_plan h k = part_once (λ (x : Reply). x) rows laws words files r s (λ row is plan r s e. absurd (no_plan row is plan)) h k
 
-  -- words have one status
+  -- arguments have one status
   pub status_once : (words : List (List ℕ)) (files : Files) (r s : Reply) → Answer words files r → Answer words files s
       → r.status ≡ s.status
   status_once words files r s h k = part_once (λ (x : Reply). x.status) rows laws words files r s (λ row is plan r s e. e) h k
 
--- ---- where no count rose, the status is the answer's, or want of memory
+-- ---- if no count rose, the status is the answer's, or out of memory
 
 abbrev pub StatusLaw : Type 0
 StatusLaw = (words : List (List ℕ)) (files : Files) (r s : Reply) → Answer words files r → Answer words files s → r.status ≡ s.status

@@ -1,4 +1,4 @@
--- The worked examples of the sentence that the top call carries, and of what a call has done to the outside.
+-- The worked examples of the headline, and of the effects of a call on the outside.
 use Rattle.std.proofs.Common.{◌≡◌, ℕ, ◌<◌, ◌≤◌, ◌∙◌, pos, List, [], ◌∷◌, length, take, None, Some, codes, refl, sym, ap, subst, inl, inr, arith}
 use Rattle.std.specs.Prelude.{Option, IsSomeAnd}
 use Rattle.std.specs.Fmt.{digits}

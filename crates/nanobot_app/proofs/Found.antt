@@ -1,4 +1,4 @@
--- What is found in files: no end of a call has status 0, at most one thing is found, and something is.
+-- The results of reading files: no end of a call has status 0, at most one result is found, and one is.
 use Rattle.std.proofs.Common.{◌≡◌, ◌==◌, ℕ, ◌+◌, ◌≤◌, List, [], Option, Some, None, Bool, true, false, refl, sym, ap, ◌∙◌, subst, nat_lt, length}
 use Rattle.std.specs.Prelude.{ok_or, Result, Ok, Err, MatchOption, MatchResult, MatchBool, ⊤}
 use Rattle.vox_geom.specs.declared.coordinate.Coord.{Coord}
@@ -32,9 +32,9 @@ use Rattle.nanobot_rows.proofs.Replies.{Alike}
 use Rattle.nanobot_app.proofs.Decodings.{decoding_of}
 use Rattle.nanobot_app.proofs.SomeVerdict.{legality_of}
 
--- ---- what the definitions determine
+-- ---- facts determined by the definitions
 
--- what they say is one thing
+-- each of them is unique
 pub record SayOne : Type 0 where
   pub legality : (m : Matrix) (a b : Option NotLegal) → Legality m a → Legality m b → a ≡ b
   pub decoding : (bytes : List ℕ) (a b : Result (List Command) NoTrace) → Decoding bytes a → Decoding bytes b → a ≡ b
@@ -46,7 +46,7 @@ pub record SayOne : Type 0 where
   pub sessions : (source : Matrix) (profile : Profile) (commands : List Command) (script : List DebugLine)
       (a b : List ℕ) → PrintsFrom source profile commands script a → PrintsFrom source profile commands script b → a ≡ b
 
--- the model of bytes is whole, each script says something, and each session prints something
+-- the model of bytes is whole, each script has a reading, and each session a text
 pub record SaySome : Type 0 where
   pub some : (bytes : List ℕ) (m : Matrix) → model bytes ≡ Ok m → 1 ≤ m.resolution
   pub whole : (bytes : List ℕ) (m : Matrix) → model bytes ≡ Ok m → length m.voxels ≡ volume m.resolution
@@ -55,7 +55,7 @@ pub record SaySome : Type 0 where
       → 1 ≤ source.resolution → length source.voxels ≡ volume source.resolution → AreCommands commands
       → (text : List ℕ) × PrintsFrom source profile commands script text
 
--- ---- what is found
+-- ---- results of reading
 
 -- another status than 0
 abbrev IsOther : Status → Type 0
@@ -80,7 +80,7 @@ unsupported_other e = cc
 abbrev pub IsFine : {A : Type 0} → Found A → Type 0
 IsFine found = MatchResult found (λ _. ⊤) (λ end. IsOther end.0)
 
--- no end has status 0, at most one thing is found, and, where there may be something, something is
+-- no end has status 0, at most one thing is found, and, if there may be something, something is
 pub record IsOnce (may : Type 0) {A : Type 0} (X : Finding A) : Type 0 where
   pub fine : (files : Files) (found : Found A) → X files found → IsFine found
   pub one : SayOne → (files : Files) (a b : Found A) → X files a → X files b → a ≡ b
@@ -109,7 +109,7 @@ module _ (may : Type 0) {A : Type 0} where
   of_result status line (Ok a) other = plain (λ _. Ok a) (λ _. tt)
   of_result status line (Err why) other = plain (λ _. Err (status, line why)) (λ _. other)
 
-  -- what follows of what the definitions say
+  -- the consequences of the definitions
   of_said : {W : Type 0} (says : W → Type 0) (X : W → Finding A) → (SayOne → (v w : W) → says v → says w → v ≡ w)
       → (SaySome → may → (w : W) × says w) → ((w : W) → IsOnce may (X w))
       → IsOnce may (λ files found. (w : W) × says w × X w files found)
@@ -137,7 +137,7 @@ module _ (may : Type 0) {A B : Type 0} (X : Finding A) (p : A → Finding B) whe
       next (Ok a) fine = each a
       next (Err end) fine = plain may (λ _. Err end) (λ _. fine)
 
--- ---- what is found of each kind
+-- ---- results of each kind
 
 module _ (may : Type 0) where
   file_once : (name : List ℕ) → IsOnce may (FileOf name)
@@ -193,7 +193,7 @@ models_once may (Some source) (Some target) named =
     (λ s. with_once may (ModelOf who.Target target) (Alike s) (model_once may who.Target target)
     (λ t. choice may (s.resolution == t.resolution) (Ok (s, t)) (Err (is.Model, resolutions_line s.resolution t.resolution)) tt model_other))
 
--- no law says that some part of a target is unsupported or none is, so nothing here says that some end is found
+-- no law states that some part of a target is unsupported or that none is, so nothing here states that an end is found
 pub plan_once : (planner : Planner) (source target : Matrix) → IsOnce ⊥ (CanPlan planner source target)
 plan_once Layer source target = plain ⊥ (λ _. Ok tt) (λ _. tt)
 plan_once Group source target =
@@ -206,7 +206,7 @@ plan_once Low source target =
     (λ at. optional ⊥ at (Ok tt) (λ c. Err (is.Unsupported, unsupported_line c)) tt (λ _. unsupported_other))
 plan_once Swarm source target = plain ⊥ (λ _. Ok tt) (λ _. tt)
 
--- what is answered with status 0 comes of a value that was found
+-- an answer with status 0 comes from a value that was found
 pub done_says : {A : Type 0} (X : Finding A) (p : A → Answers) (files : Files) (reply : Reply)
     → ((files : Files) (found : Found A) → X files found → IsFine found) → reply.status ≡ is.Done → Upon X p files reply
     → (a : A) × X files (Ok a) × p a files reply

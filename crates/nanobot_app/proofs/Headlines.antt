@@ -1,4 +1,4 @@
--- A run answers 0 exactly where the machine of the definitions takes the whole trace.
+-- A run answers 0 exactly if the machine of the definitions takes the whole trace.
 use Rattle.std.proofs.Common.{◌≡◌, ◌⊎◌, ◌↔◌, ℕ, List, Option, Some, None, refl, sym, ap, ◌∙◌, subst, inl, inr}
 use Rattle.std.specs.Prelude.{ℤ, Ok, IfSome, IsSomeAnd}
 use Rattle.std.specs.Io.KnownBytes.{append_known}
@@ -26,7 +26,7 @@ use Rattle.nanobot_app.proofs.Determined.{AnswerLaw, RowLaw, StatusLaw, complete
 use Rattle.nanobot_rows.proofs.Replies.{finds_models, models_found, verdict_reply, verdict_told}
 use Rattle.nanobot_rows.proofs.Told.{if_some, weaker}
 
--- ---- what a run that takes its trace answers
+-- ---- the answer of a run that takes its trace
 
 pub answers_taken : (files : Files) (source target : Option (List ℕ)) (trace : List ℕ) (energy : ℤ) (steps : ℕ)
     → MachineTakes files source target trace energy steps
@@ -43,7 +43,7 @@ answers_taken files source target trace energy steps t = by (content files trace
       (Ok h.1.0, finds_trace run_limit files trace h.1.0 (bytes, e, h.0, h.1.1), (verdict.Accepted energy steps, h.1.2, refl)),
     )
 
--- ---- what was answered with status 0
+-- ---- answers with status 0
 
 -- of a source and a target that are found one has a file
 pub named_of : (files : Files) (source target : Option (List ℕ)) (found : Found (Matrix × Matrix))
@@ -52,7 +52,7 @@ named_of files None None found h = h
 named_of files None (Some b) found h = tt
 named_of files (Some a) target found h = tt
 
--- the models of what was answered so
+-- the models of such an answer
 pub done_models : (files : Files) (source target : Option (List ℕ)) (p : Matrix × Matrix → Answers) (reply : Reply)
     → reply.status ≡ is.Done → Upon (ModelsOf source target) p files reply
     → (s : Matrix) × (t : Matrix) × AreModels source target files s t × HasName source target × p (s, t) files reply
@@ -60,7 +60,7 @@ done_models files source target p reply done h =
     let what_done_says = done_says (ModelsOf source target) p files reply (models_once ⊥ source target (λ never. absurd never)).fine done h in
     (what_done_says.0.0, what_done_says.0.1, models_found files source target what_done_says.0.0 what_done_says.0.1 what_done_says.1, named_of files source target (Ok what_done_says.0) what_done_says.1, what_done_says.2)
 
--- a verdict that is told with status 0
+-- a verdict that is reported with status 0
 accepted : (files : Files) (v : Verdict) (reply : Reply) → reply ≡ verdict_reply files v → reply.status ≡ is.Done
     → (energy : ℤ) × (steps : ℕ) × (v ≡ verdict.Accepted energy steps)
 accepted files (verdict.Accepted energy steps) reply e done = (energy, steps, refl)
@@ -90,13 +90,13 @@ takes_done files source target trace reply done h =
     let the_trace = done_trace files the_models.0 the_models.1 reply done trace the_models.4 in
     (the_trace.0, the_trace.1, record { named = the_models.3; from = the_models.0; to = the_models.1; models = the_models.2; taken = the_trace.2 }, the_trace.3)
 
--- the row of the words answers
+-- the answer of the command
 of_the_row : RowLaw → (words : List (List ℕ)) (row : Row) (files : Files) (reply : Reply) → IsRow words row
     → Answer words files reply → AnswerOf row files reply
 of_the_row one words row files reply is_row (inl h) = absurd (h.0 row is_row)
 of_the_row one words row files reply is_row (inr h) = subst (λ (r : Row). AnswerOf r files reply) (one words h.0 row h.1 is_row) h.2
 
--- words that ask for a run ask for no plans
+-- arguments of a run request no plans
 run_is_no_plan : RowLaw → (words : List (List ℕ)) (source target : Option (List ℕ)) (trace : List ℕ)
     → IsRow words (run Full source target trace) → AskNoPlan words
 run_is_no_plan one words source target trace is row other plan = subst MakesPlans (one words row (run Full source target trace) other is) plan
@@ -148,13 +148,13 @@ module _ {stores : List ℕ → Type 0} (one : RowLaw) (statuses : StatusLaw) (l
       let the_taking = takes_done files source target trace where_stood.0 (where_stood.3.0 ∙ done) (of_the_row one words (run Full source target trace) files where_stood.0 is_row where_stood.1) in
       (the_taking.0, the_taking.1, the_taking.2, (done, small files source target trace the_taking.0 the_taking.1 the_taking.2, where_stood.3.1 ∙ ap (λ (r : Reply). append_known old.written r.line) the_taking.3)))
 
-  -- what was answered, whatever it is
+  -- any answer
   pub refusal : IsAnswer result → IfSome old.files (λ files. (reply : Reply)
       × AnswerOfRun full_profile source target trace files reply × (result ≡ reply.status)
       × (new.written ≡ append_known old.written reply.line) × (new.files ≡ Some reply.after))
   refusal a = weaker old.files (λ files s. (s.0, of_the_row one words (run Full source target trace) files s.0 is_row s.1, sym s.3.0, s.3.1, s.2)) (o.answer a)
 
-  -- both halves, where what is written is told: the line has one energy and one number of steps
+  -- both halves, if the output is known: the line has one energy and one number of steps
   pub headline : ApartLaw → (DepotRose old new → ⊥) → (SinkRose old new → ⊥) → (result ≡ is.Memory → ⊥) → IfSome
       old.files (λ files. IfSome old.written (λ before. (energy : ℤ) (steps : ℕ)
       → MachineTakes files source target trace energy steps ↔ IsDoneWith result (Some before) new.written energy steps))

@@ -47,7 +47,7 @@ abbrev first : List ℕ → ℕ
 first [] = 0
 first (b ∷ bytes) = b
 
--- what stands before the first byte of a kind, and what stands behind it
+-- the bytes before the first byte of a kind, and those after it
 split : (end : ℕ) (xs ys more rest : List ℕ) → LacksByte end xs → LacksByte end ys → xs ++ end ∷ more ≡ ys ++ end ∷ rest
     → (xs ≡ ys) × (more ≡ rest)
 split end [] [] more rest h k e = (refl, ap (drop 1) e)
@@ -93,7 +93,7 @@ cost_apart energy energy' steps steps' is is' =
 
 -- ---- those of an accepted run are small
 
--- what lower crates' laws say of a step, of the states that are reached, and of models
+-- laws of lower crates on a step, on the states that are reached, and on models
 pub record CostLaws : Type 0 where
   pub rises : (s : State) (commands : List Command) → s.matrix.resolution ≤ 400 → length s.bots ≤ 40
       → AreCommands commands → (after s commands).energy <ℤ (s.energy +ℤ pos 3000000000)

@@ -1,4 +1,4 @@
--- How the exits of a call make its outcome.
+-- The outcome of a call, from its exits.
 use Rattle.std.proofs.Common.{◌≡◌, ◌⊎◌, ℕ, ◌≤◌, List, [], Option, Some, None, refl, sym, ap, ◌∙◌, subst, inl, inr, take}
 use Rattle.std.specs.Prelude.{IfSome, IsSomeAnd}
 use Rattle.std.specs.Io.KnownBytes.{append_known}
@@ -53,7 +53,7 @@ is_message (message.Line report) = is_answer report
 is_message (message.Session lines) = tt
 
 module _ {answers : Answers} {stores : List ℕ → Type 0} (old new : Outside) where
-  -- a line is printed, and the files stand as the answer says
+  -- a line is printed, and the files are those of the answer
   pub outcome_printed : (status result : Status) (line : List ℕ) → IsAnswer status → IfSome old.files (λ files.
       (after : Files) × answers files (record { status = status; line = line; after = after })
       × (new.files ≡ Some after)) → Printed status line old.written new.written old.sink_faults new.sink_faults result
@@ -93,7 +93,7 @@ module _ {answers : Answers} {stores : List ℕ → Type 0} (old new : Outside) 
     after_memory = λ _. (files, written);
   }
 
-  -- a report is told, and no file is stored
+  -- a report is printed, and no file is stored
   pub outcome_told : (r : Report) (result : Status) → IfSome old.files (λ files. answers files (reply_of files r))
       → new.files ≡ old.files → Told r old.written new.written old.sink_faults new.sink_faults result
       → CallOutcome answers stores old new result
@@ -172,7 +172,7 @@ outcome_finished {answers} stored effect old mid new result answer for files fau
         (kept old.files effect.file new.files (done.0 ∙ ap (λ t. told_with t effect.file) files) answer)
         (subst (λ w. Printed (status_by effect.message) (bytes_by effect.message) w new.written old.sink_faults new.sink_faults result) written (subst (λ n. Printed (status_by effect.message) (bytes_by effect.message) mid.written new.written n new.sink_faults result) sink done.1))
 
--- an outcome of a row is one of its words
+-- an outcome of a command is one of its arguments
 pub outcome_of_row : (words : List (List ℕ)) (row : Row) (old new : Outside) (result : Status) → IsRow words row
     → CallOutcome (AnswerOf row) (RowStores row) old new result
     → CallOutcome (Answer words) (StoredBy words) old new result

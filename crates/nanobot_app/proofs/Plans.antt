@@ -56,7 +56,7 @@ module _ (files : Files) (name bytes : List ℕ) where
       by true e = absurd (differ ((bytes_eq-Decides other name).0 e))
       by false e = tied other false e
 
-  -- what another file has stays
+  -- the content of another file is unchanged
   side_stays : (side : Option (List ℕ)) (m other : Matrix) → (side ≡ Some name → ⊥) → IsSide files side m other
       → IsSide (with_file files name bytes) side m other
   side_stays None m other differ h = h
@@ -70,12 +70,12 @@ module _ (files : Files) (name bytes : List ℕ) where
     alike = m.alike;
   }
 
--- ---- how long a plan may be
+-- ---- the length of a plan
 
 abbrev pub MostLaw : Type 0
 MostLaw = (bytes : List ℕ) (m : Matrix) → model bytes ≡ Ok m → m.resolution ≤ 400
 
--- a run takes a file that has the spellings of commands that are accepted
+-- a run accepts a file that has the spellings of accepted commands
 runs_through : (profile : Profile) (files : Files) (source target : Option (List ℕ)) (trace : List ℕ) (s t : Matrix)
     (commands : List Command) (energy : ℤ) (steps : ℕ) → HasName source target → AreModels source target files s t
     → content files trace ≡ Some (spellings commands) → AreCommands commands
@@ -174,7 +174,7 @@ module _ (round : Round) (source target : Option (List ℕ)) (trace : List ℕ) 
             (models_stay files trace (spellings commands) source target s t first second models) (own_content files trace (spellings commands)) are accepted size;
       })
 
--- a run in a round in which the planner's plans are accepted takes the file of a plan
+-- a run in a round in which the planner's plans are accepted accepts the file of a plan
 pub run_of_plan : MostLaw → (round : Round) (planner : Planner)
     → ((s t : Matrix) (commands : List Command) (energy : ℤ) (steps : ℕ) → facts_of planner s t commands energy steps
     → VerdictOf s t commands (profile_of round) (Accepted energy steps)) → (source target : Option (List ℕ))

@@ -1,4 +1,4 @@
--- The sentence that the top call carries, over known files: what it means that a run takes its whole trace.
+-- The headline of the top call, over known files: the meaning of a run that takes its whole trace.
 use Rattle.std.specs.Prelude.{◌≡◌, ℕ, ◌^◌, ◌<◌, ◌≤◌, ℤ, unsigned_abs, List, length, Option, IsSomeAnd}
 use Rattle.std.specs.Io.KnownBytes.{append_known}
 use Rattle.nano_spec.specs.declared.commands.Command.{Command}
@@ -15,19 +15,19 @@ use Rattle.nanobot_rows.specs.Models.{AreModels}
 use Rattle.nanobot_rows.specs.Lines.{accepted_line}
 use Rattle.nanobot_words.specs.Rows.{HasName}
 
--- the machine of the definitions takes the whole trace from the one model to the other, to a halt, with this energy in
--- so many steps
+-- the machine of the definitions takes the whole trace from one model to the other, to a halt, with this energy and this
+-- number of steps
 abbrev pub TakesBytes : Matrix → Matrix → List ℕ → ℤ → ℕ → Type 0
 TakesBytes source target bytes energy steps =
     (length bytes ≤ run_limit) × ((commands : List Command) × Cutting bytes commands
     × VerdictOf source target commands full_profile (Accepted energy steps))
 
--- the same of files: one model at least has a file, both are legal and of one resolution, and the file of the trace is
--- not too long
+-- the same for files: at least one model has a file, both are legal and of the same resolution, and the file of the trace
+-- is not too long
 pub record MachineTakes (files : Files) (source target : Option (List ℕ)) (trace : List ℕ) (energy : ℤ) (steps : ℕ)
     : Type 0 where
   pub named : HasName source target
-  -- the models, where what has no file is the empty model of the other's resolution
+  -- the models; a side without a file is the empty model of the other's resolution
   pub from : Matrix
   pub to : Matrix
   pub models : AreModels source target files from to

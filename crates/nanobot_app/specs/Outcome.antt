@@ -1,4 +1,4 @@
--- What a call of the top has done to the outside, by its status.
+-- The effects of a top call on the outside, by its status.
 use Rattle.std.specs.Prelude.{◌≡◌, ◌⊎◌, ℕ, List, [], Option, Some, take, IfSome, IsSomeAnd, ⊤}
 use Rattle.std.specs.Io.KnownBytes.{append_known}
 use Rattle.vox_depot.specs.Causes.{Rose}
@@ -20,7 +20,7 @@ pub record Outside : Type 0 where
   pub written : Option (List ℕ)
   pub sink_faults : ℕ
 
--- those of a depot and a sink, by what their traits tell
+-- those of a depot and a sink, as given by their traits
 abbrev pub outside : {D O : Type 0} → (D → Option Files) → (D → ℕ) → (D → ℕ) → (O → Option (List ℕ)) → (O → ℕ) → D → O
     → Outside
 outside files depot_faults failed_stores written sink_faults depot out = record {
@@ -31,14 +31,14 @@ outside files depot_faults failed_stores written sink_faults depot out = record 
   sink_faults = sink_faults out;
 }
 
--- a status that is no fault of the outside and no want of memory
+-- a status that is no fault of the outside and not out of memory
 abbrev pub IsAnswer : Status → Type 0
 IsAnswer is.Depot = ⊥
 IsAnswer is.Sink = ⊥
 IsAnswer is.Memory = ⊥
 IsAnswer _ = ⊤
 
--- where files are told: an answer to them whose files now stand
+-- if the files are known: there is an answer to them, and the files now are the answer's
 abbrev pub AnswerStands : Answers → Outside → Outside → (Reply → Type 0) → Type 0
 AnswerStands answers old new p =
     IfSome old.files (λ files. (reply : Reply) × answers files reply × (new.files ≡ Some reply.after) × p reply)
@@ -53,17 +53,17 @@ StoreFailed old new = Rose old.failed_stores new.failed_stores
 abbrev pub SinkRose : Outside → Outside → Type 0
 SinkRose old new = Rose old.sink_faults new.sink_faults
 
--- files are told, and a file that is to be read is not there
+-- the files are known, and a file to be read does not exist
 abbrev pub LacksFile : Answers → Outside → Type 0
 LacksFile answers old =
     IsSomeAnd old.files (λ files. answers files (record { status = is.Depot; line = []; after = files }))
 
--- where files are told, the call can be done over them
+-- if the files are known, the call can succeed over them
 abbrev pub CanBeDone : Answers → Outside → Type 0
 CanBeDone answers old = IfSome old.files (λ files. (reply : Reply) × answers files reply × (reply.status ≡ is.Done))
 
--- a file could not be stored: its store failed where the call can be done, and all files but the one that is stored
--- then are as they were
+-- a file could not be stored: its store failed although the call can succeed, and all files but the one to store are
+-- unchanged
 pub record LosesFile (answers : Answers) (stores : List ℕ → Type 0) (old new : Outside) : Type 0 where
   pub failed : StoreFailed old new
   pub done : CanBeDone answers old
@@ -71,7 +71,7 @@ pub record LosesFile (answers : Answers) (stores : List ℕ → Type 0) (old new
   pub stored : stores name
   pub others_are : others new.files name ≡ others old.files name
 
--- all files are as they were, or one could not be stored
+-- all files are unchanged, or one could not be stored
 abbrev pub SparesOthers : Answers → (List ℕ → Type 0) → Outside → Outside → Type 0
 SparesOthers answers stores old new = (new.files ≡ old.files) ⊎ LosesFile answers stores old new
 
@@ -79,7 +79,7 @@ SparesOthers answers stores old new = (new.files ≡ old.files) ⊎ LosesFile an
 abbrev pub Delivered : Status → Outside → Outside → Reply → Type 0
 Delivered result old new reply = (reply.status ≡ result) × (new.written ≡ append_known old.written reply.line)
 
--- a first part of the line was written
+-- a prefix of the line was written
 abbrev pub DeliveredPart : Outside → Outside → Reply → Type 0
 DeliveredPart old new reply = (n : ℕ) × (new.written ≡ append_known old.written (take n reply.line))
 
@@ -92,26 +92,26 @@ pub record CallOutcome (answers : Answers) (stores : List ℕ → Type 0) (old n
   pub after_sink : result ≡ is.Sink → AnswerStands answers old new (DeliveredPart old new)
   pub after_memory : result ≡ is.Memory → (new.files ≡ old.files) × (new.written ≡ old.written)
 
--- the name that the row of the words stores
+-- the name that the command stores
 abbrev pub StoredBy : List (List ℕ) → List ℕ → Type 0
 StoredBy words name = (row : Row) × IsRow words row × (stores_of row ≡ Some name)
 
--- what one put of a line has done: it was written whole, or a first part of it
+-- the effect of one put of a line: it was written whole, or a prefix of it
 pub record Printed (status : Status) (line : List ℕ) (old new : Option (List ℕ)) (before now : ℕ) (result : Status)
     : Type 0 where
   pub cases : ((result ≡ status) × (new ≡ append_known old line))
       ⊎ ((result ≡ is.Sink) × Rose before now × ((n : ℕ) × (new ≡ append_known old (take n line))))
 
--- the same of a report, whose line takes memory
+-- the same for a report, whose line needs an allocation
 pub record Told (report : Report) (old new : Option (List ℕ)) (before now : ℕ) (result : Status) : Type 0 where
   pub cases :
       ((result ≡ is.Memory) × (new ≡ old)) ⊎ Printed (status_of report) (report_line report) old new before now result
 
--- the name that the row stores
+-- the name that the command stores
 abbrev pub RowStores : Row → List ℕ → Type 0
 RowStores row name = stores_of row ≡ Some name
 
--- what was done of an effect: nothing for want of memory; or the file was not stored; or it was, and the line was put
+-- the effect was carried out: not at all, out of memory; or the file was not stored; or it was, and the line was put
 pub record Finished (effect : Effect) (old new : Outside) (result : Status) : Type 0 where
   pub cases : ((result ≡ is.Memory) × (new.files ≡ old.files) × (new.written ≡ old.written)) ⊎ (((result ≡ is.Depot)
       × DepotRose old new × StoreFailed old new × (new.written ≡ old.written)

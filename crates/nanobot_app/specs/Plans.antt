@@ -1,4 +1,4 @@
--- What a plan that was stored is good for.
+-- The guarantees for a stored plan.
 use Rattle.std.specs.Prelude.{◌≡◌, ℕ, ℤ, List, Option, ⊤}
 use Rattle.nanobot_rows.specs.declared.report.Report.TheVariants.{Accepted}
 use Rattle.nanobot_rows.specs.Answer.{AnswerOf, Reply}
@@ -9,13 +9,13 @@ use Rattle.nanobot_words.specs.declared.planner.Planner.TheVariants.{Low, Swarm}
 use Rattle.nanobot_words.specs.declared.row.Round.{Round}
 use Rattle.nanobot_words.specs.Rows.{run}
 
--- a planner whose plans the light profile takes too
+-- a planner whose plans the light profile accepts too
 abbrev pub PlansAsLight : Planner → Type 0
 PlansAsLight Low = ⊤
 PlansAsLight Swarm = ⊤
 PlansAsLight planner = ⊥
 
--- the reply tells of a plan, and a run in the round over the files that are left answers 0 with its energy and its
+-- the reply reports a plan, and a run in the round over the resulting files answers 0 with its energy and its
 -- steps
 pub record IsRunOfPlan (round : Round) (source target : Option (List ℕ)) (trace : List ℕ) (reply : Reply) : Type 0 where
   pub energy : ℤ

@@ -1,4 +1,4 @@
-//! The laws of the answers, and worked examples of what a call does.
+//! The laws of the answers, and worked examples of the effects of a call.
 ghost use Rattle.std.specs.Prelude.{◌≡◌, ℕ, ℤ, List, Option, Some, Ok};
 ghost use Rattle.vox_depot.specs.Files.{Files};
 ghost use Rattle.nanobot_rows.specs.Answer.{Answer, AnswerOf, AskNoPlan, CanPlan, Reply};
@@ -21,7 +21,7 @@ use nano_spec::{a_model_is_whole, one_decoding, one_legality, one_verdict};
 use nanobot_words::one_row;
 use plan_tape::seeds_bound_the_bots;
 
-/// Words have one status at most over the same files; where they ask for no plans, they have one answer at most.
+/// A command has at most one status over the same files, and at most one answer if it requests no plans.
 pub fn one_answer()
     ensures status { (words : List (List ℕ)) (files : Files) (r s : Reply) → Answer words files r
         → Answer words files s → r.status ≡ s.status }
@@ -37,7 +37,7 @@ pub fn one_answer()
     one_text();
 }
 
-/// Words that are in no row have an answer over all files, and so has each row that makes no plans.
+/// Arguments that are no command have an answer over all files, and so does each command that makes no plans.
 pub fn some_answer()
     ensures no_row { (words : List (List ℕ)) (files : Files) → IsInNoRow words
         → (reply : Reply) × Answer words files reply }
@@ -56,7 +56,7 @@ pub fn some_answer()
     some_text();
 }
 
-/// The energy and the number of steps of a run that is taken are small, and no two such pairs are printed alike.
+/// The energy and the number of steps of an accepted run are small, and no two such pairs are printed alike.
 pub fn costs_are_told_apart()
     ensures small { (files : Files) (source target : Option (List ℕ)) (trace : List ℕ) (energy : ℤ) (count : ℕ)
         → MachineTakes files source target trace energy count → IsCost energy count }
@@ -68,8 +68,8 @@ pub fn costs_are_told_apart()
     a_model_is_whole();
 }
 
-/// A plan that was stored under a name of its own is accepted by `run` over the files that it left, with the energy and
-/// the steps that were printed, one of the low planner or of the swarm also by `run light`.
+/// A plan stored under a name of its own is accepted by `run` over the resulting files, with the printed energy and steps; a plan
+/// of the low planner or of the swarm also by `run light`.
 pub fn a_plan_is_accepted()
     ensures in_full { (planner : Planner) (source target : Option (List ℕ)) (trace : List ℕ)
         (files : Files) (reply : Reply) → (source ≡ Some trace → ⊥) → (target ≡ Some trace → ⊥)
@@ -83,9 +83,8 @@ pub fn a_plan_is_accepted()
     a_model_is_whole();
 }
 
-/// Each answer to a plan is 0, if its models are legal and of one resolution and its planner makes a plan between them,
-/// and so is each answer to an exercise. By the clauses of `drive` such a call then ends with 0, or with 5, 6 or 7 by
-/// their causes.
+/// Each answer to a plan is 0 if its models are legal and of the same resolution and its planner makes a plan between them, and
+/// so is each answer to an exercise. By the clauses of `drive` such a call then ends with 0, or with 5, 6 or 7 by their causes.
 pub fn each_plan_is_made()
     ensures plan { (planner : Planner) (source target : Option (List ℕ)) (trace : List ℕ) (files : Files)
         (from to : Matrix) (reply : Reply) → HasName source target → AreModels source target files from to
@@ -102,7 +101,7 @@ pub fn each_plan_is_made()
     one_text();
 }
 
-/// Worked examples of the sentence that the top call carries, and of what a call has done to the outside.
+/// Worked examples of the headline, and of the effects of a call on the outside.
 pub fn worked_outcomes()
     ensures outcomes { WorkedOutcomes }
     ensures headlines { WorkedHeadlines }

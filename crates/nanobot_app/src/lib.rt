@@ -1,4 +1,4 @@
-//! The top call: does what the words of the command line say, over any depot and sink (docs/FORMATS.md, "Printed lines").
+//! The top call: executes the command given by the arguments, over any depot and sink (docs/FORMATS.md, "Printed lines").
 #![tactic(auto)]
 
 mod laws;

@@ -19,7 +19,7 @@ use std::sync::ledger::Ledger;
 use vox_depot::{Depot, Sink, SinkFault};
 use vox_geom::Steps;
 
-/// Writes the line, in one put, and answers the status.
+/// Writes the line in one put, and returns the status.
 fn print<O: Sink>(out: &mut O, status: Status, line: &[u8]) -> Status
     ensures { Printed status line.now (O.written out.old) (O.written out.new) (O.faults out.old) (O.faults out.new)
         result }
@@ -60,7 +60,7 @@ fn store_and_print<D: Depot, O: Sink>(
     print(out, effect.message.status(), bytes)
 }
 
-/// Stores the file of the effect, if there is one, and then writes its message. The memory for a report's line is taken
+/// Stores the file of the effect, if there is one, and then writes its message. The memory for a report's line is allocated
 /// first.
 fn finish<D: Depot, O: Sink>(
     alloc: Global,
@@ -85,7 +85,7 @@ fn finish<D: Depot, O: Sink>(
     }
 }
 
-/// Does what the row asks for.
+/// Executes a command.
 fn run_row<D: Depot, O: Sink, L: Ledger>(
     alloc: Global,
     row: Row<'_>,
@@ -111,7 +111,7 @@ fn run_row<D: Depot, O: Sink, L: Ledger>(
     }
 }
 
-/// Does what the words say.
+/// Executes the command given by the arguments.
 fn run<D: Depot, O: Sink, L: Ledger>(
     alloc: Global,
     words: &[String],
@@ -136,8 +136,8 @@ fn run<D: Depot, O: Sink, L: Ledger>(
     }
 }
 
-/// Does what the words say (docs/FORMATS.md, "Printed lines"): reads files of the depot, stores at most one, and writes
-/// one line, or the text of a session, to the sink in one put.
+/// Executes the command given by the arguments (docs/FORMATS.md, "Printed lines"): reads files of the depot, stores at most one,
+/// and writes one line, or the text of a session, to the sink in one put.
 pub fn drive<D: Depot, O: Sink, L: Ledger>(
     alloc: Global,
     words: &[String],
@@ -145,13 +145,13 @@ pub fn drive<D: Depot, O: Sink, L: Ledger>(
     out: &mut O,
     steps: &mut Steps<L>,
 ) -> Status
-    // Only the names that the row of the words reads or stores are granted.
+    // Only the names that the command reads or stores are granted.
     requires may_fetch { MayRead D.may_fetch (texts words.now) }
     requires may_store { MayStore D.may_store (texts words.now) }
 
     // `run S T B` answers 0 and prints energy E and step count K exactly when the specification's machine, which judges
     // all grounding afresh after every step, takes the whole trace B from model S to a halt at the origin in model T with
-    // energy E in K steps: where files and what is written are told, no count rose, and memory was there.
+    // energy E in K steps: if the files and the output are known, no count rose, and memory sufficed.
     ensures headline { (source target : Option (List ℕ)) (trace : List ℕ)
         → IsRunOf (texts words.now) source target trace → (Rose (D.faults depot.old) (D.faults depot.new) → ⊥)
         → (Rose (O.faults out.old) (O.faults out.new) → ⊥) → (result ≡ Status.Memory → ⊥)
@@ -159,7 +159,7 @@ pub fn drive<D: Depot, O: Sink, L: Ledger>(
         → MachineTakes files source target trace energy count
         ↔ IsDoneWith result (Some before) (O.written out.new) energy count)) }
 
-    // Where nothing is told of what is written it still answers 0, and where counts rose it still does so only then.
+    // If the output is not known, it still answers 0, and if counts rose, it still does so only then.
     ensures headline_where { (source target : Option (List ℕ)) (trace : List ℕ)
         → IsRunOf (texts words.now) source target trace → (Rose (D.faults depot.old) (D.faults depot.new) → ⊥)
         → (Rose (O.faults out.old) (O.faults out.new) → ⊥) → (result ≡ Status.Memory → ⊥)
@@ -187,14 +187,14 @@ pub fn drive<D: Depot, O: Sink, L: Ledger>(
         (Delivered result (outside D.files D.faults D.failed_stores O.written O.faults depot.old out.old)
         (outside D.files D.faults D.failed_stores O.written O.faults depot.new out.new)) }
 
-    // Where files are told and no count rose, it is the answer's status or 7.
+    // If the files are known and no count rose, it is the answer's status or 7.
     ensures complete { (Rose (D.faults depot.old) (D.faults depot.new) → ⊥)
         → (Rose (O.faults out.old) (O.faults out.new) → ⊥)
         → IfSome (D.files depot.old)
         (λ files. (reply : Reply) → Answer (texts words.now) files reply → (result ≡ reply.status) ⊎
         (result ≡ Status.Memory)) }
 
-    // Each status comes by its cause.
+    // The cause of each status.
     ensures words { result ≡ Status.Words → IsInNoRow (texts words.now) }
     ensures in_no_row { IsInNoRow (texts words.now) → (result ≡ Status.Words) ⊎ (result ≡ Status.Sink) }
     ensures depot { result ≡ Status.Depot
@@ -203,7 +203,7 @@ pub fn drive<D: Depot, O: Sink, L: Ledger>(
         (λ files. Answer (texts words.now) files (record { status = Status.Depot; line = []; after = files })) }
     ensures sink { result ≡ Status.Sink → Rose (O.faults out.old) (O.faults out.new) }
 
-    // What stands after a fault and after want of memory.
+    // The files and the output after a fault and after out of memory.
     ensures nothing_written { result ≡ Status.Depot → O.written out.new ≡ O.written out.old }
     ensures others_stay { result ≡ Status.Depot → SparesOthers (Answer (texts words.now)) (StoredBy (texts words.now))
         (outside D.files D.faults D.failed_stores O.written O.faults depot.old out.old)

@@ -1,4 +1,4 @@
--- What a run costs.
+-- The cost of a run.
 use Rattle.std.proofs.Common.{◌≡◌, ◌⊎◌, ℕ, Option, Some, None, refl, sym, ap, subst, inl, inr, arith}
 use Rattle.std.specs.Prelude.{ℤ, Result, Ok, Err, IfSome, IfOk, IfErr}
 use Rattle.vox_depot.specs.Causes.{Rose}
@@ -50,7 +50,7 @@ module _ (row : Row) (files : Files) where
   cost_of effect (Err number) none answer named accepted is = refused (reply_by files effect) number answer is
 
 module _ (row row' : Row) (files : Files) (same_row : row ≡ row') where
-  -- an accepted run costs what its line says
+  -- the cost of an accepted run is that of its line
   pub done_costs : (energy energy' : ℤ) (count result : ℕ) → energy' ≡ energy → IsDone result
       → AnswerOf row files (reply_of files (Accepted energy count)) → ToldCostOf row' files energy' count result
   done_costs energy energy' count result same done answer =

@@ -1,4 +1,4 @@
--- What is given of an answer of a row.
+-- The copy of a row's answer.
 use Rattle.std.proofs.Common.{◌≡◌, ◌⊎◌, ℕ, List, [], Option, Some, None, refl, sym, ap, subst, inl, inr, arith, length, Bool}
 use Rattle.std.specs.Prelude.{IfSome}
 use Rattle.std.proofs.lemmas.Bool.{cases_lt}
@@ -25,7 +25,7 @@ use Rattle.nanobot_c.proofs.Statuses.{message_is_none, report_is_none}
 pub none_rose : Rose 0 0 → ⊥
 none_rose rose = omega arith
 
--- what was given with another status than that of want of memory is not told as that
+-- bytes copied with another status than out of memory do not report it
 pub gave_not_memory : (status : ℕ) (bytes old new : List ℕ) (size result : ℕ) → (IsMemory status → ⊥)
     → Gave status bytes old new size result → IsMemory result → ⊥
 gave_not_memory status bytes old new size result other gave memory = elim (cases_lt (length old) (length bytes)) [
@@ -33,7 +33,7 @@ gave_not_memory status bytes old new size result other gave memory = elim (cases
   | inr fits ↦ other (subst IsMemory (gave.fits fits).0 memory)
 ]
 
--- what is told as done was given whole, and its status is done
+-- a call that reports done copied everything, and its status is done
 pub gave_done : (status : ℕ) (bytes old new : List ℕ) (size result : ℕ) → Gave status bytes old new size result
     → IsDone result → IsDone status
 gave_done status bytes old new size result gave done = elim (cases_lt (length old) (length bytes)) [
@@ -91,7 +91,7 @@ pub line_given : (light : Bool) (source target : List ℕ) (files : Files) (old 
     → GaveLineOf (run_row light source target) files old new size result
 line_given light source target files old new size result g has = g.answer has
 
--- where one of two models has bytes, not both have none
+-- if one of two models has bytes, not both are empty
 some_model : (source target : List ℕ) → HasModel source target → HasNoModel source target → ⊥
 some_model source target has none = subst (λ s. HasModel s [] → ⊥) (sym none.0) (λ h. h) (subst (λ t. HasModel source t) none.1 has)
 

@@ -1,4 +1,4 @@
--- A run is told as done exactly where the machine of the definitions takes the whole trace.
+-- A run reports done exactly if the machine of the definitions takes the whole trace.
 use Rattle.std.proofs.Common.{◌≡◌, ◌↔◌, ℕ, zero, suc, ◌^◌, ◌<◌, List, [], ◌∷◌, refl, sym, ap, ◌∙◌, subst, inr, arith, Bool, false, All, FitsSigned, w64}
 use Rattle.std.specs.Prelude.{ℤ}
 use Rattle.vox_depot.specs.Files.{Files}
@@ -20,7 +20,7 @@ use Rattle.nanobot_c.specs.Lent.{lent, run_row, source_name, source_side, target
 use Rattle.nanobot_c.proofs.Given.{gave_done}
 use Rattle.nanobot_c.proofs.Statuses.{done_is}
 
--- ---- the words of a run
+-- ---- the arguments of a run
 
 no_names : All IsName []
 no_names k d l = absurd (omega arith)
@@ -60,14 +60,14 @@ module _ (one : RowLaw) (statuses : StatusLaw) (law : AnswerLaw) (source target 
   is_row : IsRow words row
   is_row = record { written = refl; named = names_are source target; of_table = has }
 
-  -- where the machine takes the trace, the answer is that of an accepted run
+  -- if the machine takes the trace, the answer is that of an accepted run
   pub answer_where : (energy : ℤ) (count : ℕ) (reply : Reply) → TakesAll source target trace energy count
       → AnswerOf row files reply → reply ≡ reply_of files (report.Accepted energy count)
   answer_where energy count reply takes answer =
       law words files reply (reply_of files (report.Accepted energy count)) (λ other is plan. subst MakesPlans (one words other row is is_row) plan)
       (inr (row, is_row, answer)) (inr (row, is_row, answers_taken files (source_side source) (target_side target) trace_name energy count takes))
 
-  -- where the answer is done, the machine takes the trace, and the line is that of its energy and its steps
+  -- if the answer is done, the machine takes the trace, and the line is that of its energy and its steps
   pub answer_only : (reply : Reply) → AnswerOf row files reply → reply.status ≡ is.Done → (energy : ℤ) × (count : ℕ)
       × TakesAll source target trace energy count × (reply.line ≡ accepted_line energy count)
   answer_only reply answer done =
@@ -100,7 +100,7 @@ module _ (one : RowLaw) (statuses : StatusLaw) (law : AnswerLaw) (light : Bool) 
     cost : ToldCostOf (run_row false source target) (lent source target trace) energy count result
     cost = subst (λ (b : Bool). ToldCostOf (run_row b source target) (lent source target trace) energy count result) full told
 
-    -- it is told as done with these numbers exactly where the machine takes the trace with them
+    -- it reports done with these numbers exactly if the machine takes the trace with them
     pub cost_is : SmallLaw → FitsSigned w64 energy → count < 2 ^ 64 → (e : ℤ) (k : ℕ)
         → TakesAll source target trace e k ↔ (IsDone result × (energy ≡ e) × (count ≡ k))
     cost_is small fits few e k = ((λ takes. told_where takes), (λ h. only h.0 h.1 h.2))
@@ -124,6 +124,6 @@ module _ (one : RowLaw) (statuses : StatusLaw) (law : AnswerLaw) (light : Bool) 
             let are = same_numbers found.0 found.1 found.2 (sym (ap (λ (r : Reply). r.line) (cost.3 done)) ∙ found.3) in
             subst (λ (n : ℕ). TakesAll source target trace e n) (sym are.1 ∙ same_count) (subst (λ (z : ℤ). TakesAll source target trace z found.1) (sym are.0 ∙ same_energy) found.2)
 
--- done is not want of memory
+-- done is not out of memory
 pub done_not_memory : (result : ℕ) → IsDone result → IsMemory result → ⊥
 done_not_memory result done memory = omega arith

@@ -1,4 +1,4 @@
--- What the lent files have.
+-- The contents of the lent files.
 use Rattle.std.proofs.Common.{◌≡◌, ℕ, List, Bool, true, false, cond, refl, sym, ap, ◌∙◌, subst}
 use Rattle.std.specs.Prelude.{IfSome, Option, Some, None}
 use Rattle.std.specs.FinMap.{empty, insert, get-empty, get-insert}

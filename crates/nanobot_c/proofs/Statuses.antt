@@ -35,7 +35,7 @@ memory_is is.Memory e = refl
 memory_is is.Text e = absurd (omega arith)
 memory_is is.Unsupported e = absurd (omega arith)
 
--- no report and no message has the status of want of memory
+-- no report and no message has the status of out of memory
 pub report_is_none : (r : Report) → IsMemory (code_of (status_of r)) → ⊥
 report_is_none r e = subst IsAnswer (memory_is (status_of r) e) (is_answer r)
 

@@ -1,4 +1,4 @@
--- What a caller lends, as the files and the names of a row.
+-- The caller's bytes, as the files and the names of a row.
 use Rattle.std.specs.Prelude.{ℕ, Bool, true, false, List, [], ◌∷◌, codes, Option, Some, None}
 use Rattle.std.specs.FinMap as finite
 use Rattle.vox_depot.specs.Files.{Files}
@@ -28,7 +28,7 @@ lent source target trace =
 abbrev pub lent_files : Lent → Files
 lent_files l = lent l.source.now l.target.now l.trace.now
 
--- the file of the name, or none where it has no bytes: that is the empty model of the other's resolution
+-- the file of the name, or none if it has no bytes: that is the empty model of the other's resolution
 abbrev pub side_named : List ℕ → List ℕ → Option (List ℕ)
 side_named name [] = None
 side_named name (b ∷ bytes) = Some name

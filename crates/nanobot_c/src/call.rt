@@ -1,4 +1,4 @@
-//! One call: a row over the caller's bytes, and what is given of its answer.
+//! One call: a row over the caller's bytes, and the copy of its answer.
 ghost use Rattle.std.specs.Prelude.{◌≡◌, ℕ, List, IfOk, Some, None};
 ghost use Rattle.vox_geom.specs.Counting.{IsBlankOf};
 ghost use Rattle.vox_depot.specs.Causes.{Rose};
@@ -24,14 +24,14 @@ use vox_geom::Steps;
 /// The status of a buffer that is too small.
 const TOO_SMALL: u32 = 10;
 
-/// The number of a status.
+/// Returns the number of a status.
 pub fn code(status: Status) -> u32
     ensures { result ≡ code_of status }
 {
     u32::from(status.code())
 }
 
-/// Writes the bytes to the front of the buffer, where it takes them, and tells how many they are.
+/// Writes the bytes to the front of the buffer if they fit, and stores their number in `size`.
 fn give(status: Status, bytes: &[u8], out: &mut [u8], size: &mut usize) -> u32
     ensures { Gave (code_of status) bytes.now out.old out.new size.new result }
 {
@@ -43,7 +43,7 @@ fn give(status: Status, bytes: &[u8], out: &mut [u8], size: &mut usize) -> u32
     code(status)
 }
 
-/// Tells that there was no memory.
+/// Reports out of memory.
 fn give_nothing(size: &mut usize) -> u32
     ensures answered { IsMemory result }
     ensures none { size.new ≡ 0 }
@@ -52,14 +52,14 @@ fn give_nothing(size: &mut usize) -> u32
     code(Status::Memory)
 }
 
-/// Gives what is told of words that are in no row of the table.
+/// Copies the answer to arguments that match no row of the table.
 pub fn give_no_row(out: &mut [u8], size: &mut usize) -> u32
     ensures { GaveNoRow out.old out.new size.new result }
 {
     give(Status::Words, b"words not understood\n", out, size)
 }
 
-/// Gives the line of the report.
+/// Copies the line of the report.
 fn give_line(alloc: Global, report: &Report, out: &mut [u8], size: &mut usize) -> u32
     ensures { MayGive (code_of (status_of report.now)) (report_line report.now) out.old out.new size.new result }
 {
@@ -69,7 +69,7 @@ fn give_line(alloc: Global, report: &Report, out: &mut [u8], size: &mut usize) -
     give(report.status(), line.as_bytes(), out, size)
 }
 
-/// Gives the file of the effect or, where there is none, its message.
+/// Copies the file of the effect, or its message if there is none.
 fn give_effect(alloc: Global, effect: &Effect<'_>, out: &mut [u8], size: &mut usize) -> u32
     ensures { MayGive (code_of (status_by effect.now.message))
         (file_or_line (bytes_in effect.now.file) (bytes_by effect.now.message)) out.old out.new size.new result }
@@ -83,8 +83,8 @@ fn give_effect(alloc: Global, effect: &Effect<'_>, out: &mut [u8], size: &mut us
     }
 }
 
-/// What the row comes to over the lent bytes, with a counter of this ledger. No fault is counted, since none is stored, but
-/// no contract below says so: one would be told as want of memory.
+/// Returns the row's effect over the lent bytes, with a counter of this ledger. No fault occurs, since no file is stored, but no
+/// contract below says so: a fault would be reported as out of memory.
 fn ask_counted<L: Ledger>(
     alloc: Global,
     row: Row<'static>,
@@ -105,7 +105,7 @@ fn ask_counted<L: Ledger>(
     effect
 }
 
-/// What the row comes to over the lent bytes.
+/// Returns the row's effect over the lent bytes.
 pub fn ask(alloc: Global, row: Row<'static>, lent: Lent<'_>) -> Result<Effect<'static>, Stop>
     requires of_table { IsOfTable (row_of row) }
     ensures finishes { EndsStored (AnswerOf (row_of row.entry)) (Some (lent_files lent.entry)) (Rose 0 0) result }
@@ -114,7 +114,7 @@ pub fn ask(alloc: Global, row: Row<'static>, lent: Lent<'_>) -> Result<Effect<'s
     ask_counted::<Brand>(alloc, row, lent, Blank::new(1))
 }
 
-/// Gives what the row comes to over the lent bytes: the file that it stores, or else what it tells.
+/// Copies the row's answer over the lent bytes: the file that it stores, or its line if there is none.
 pub fn call(
     alloc: Global,
     row: Row<'static>,

@@ -1,4 +1,4 @@
-//! Traces that are judged, and models that are checked.
+//! Judging traces and checking models.
 ghost use Rattle.std.specs.Prelude.{◌≡◌, ◌↔◌, ℕ, ℤ, pos, [], false, None, IfOk, IfErr, MatchBool};
 ghost use Rattle.nanobot_rows.specs.declared.status.Status.TheVariants as is;
 ghost use Rattle.nanobot_rows.specs.Effects.{status_by};
@@ -16,14 +16,14 @@ use nanobot_rows::{Message, Report, Status, Stop};
 use nanobot_words::{Round, Row, one_row};
 use std::alloc::Global;
 
-/// One of the two models has bytes.
+/// Returns whether one of the two models has bytes.
 pub fn has_model(source: &[u8], target: &[u8]) -> bool
     ensures { MatchBool result (HasModel source.now target.now) (HasNoModel source.now target.now) }
 {
     !source.is_empty() || !target.is_empty()
 }
 
-/// The light round, or the full one.
+/// Returns the light round or the full one.
 fn round_of(light: bool) -> Round
     ensures { result ≡ round_of light }
 {
@@ -33,7 +33,7 @@ fn round_of(light: bool) -> Round
     Round::Full
 }
 
-/// The row that runs a trace, by the light profile or the full one.
+/// Returns the row that runs a trace, by the light profile or the full one.
 fn run_row(source: &[u8], target: &[u8], light: bool) -> Row<'static>
     ensures { row_of result ≡ run_row_of light source.now target.now }
 {
@@ -45,8 +45,8 @@ fn run_row(source: &[u8], target: &[u8], light: bool) -> Row<'static>
     }
 }
 
-/// Judges the trace from the source to the target, and gives the line that `nanobot run S T B` prints, or `run light`.
-/// A source or a target of no bytes is the empty model of the other's resolution.
+/// Judges the trace from the source to the target, and writes the line that `nanobot run S T B` prints, or `run light`. A source or
+/// a target of no bytes is the empty model of the other's resolution.
 #[unsafe(no_mangle)]
 pub extern "C" fn nanobot_judge(
     alloc: Global,
@@ -57,8 +57,8 @@ pub extern "C" fn nanobot_judge(
     line: &mut [u8],
     size: &mut usize,
 ) -> u32
-    // With the full profile it answers 0 and gives energy and step count exactly when the specification's machine takes the
-    // whole trace from the source to a halt at the origin in the target, with this energy in so many steps.
+    // With the full profile it returns 0 and writes energy and step count exactly if the specification's machine takes the whole
+    // trace. Such a run goes from the source to a halt at the origin in the target, with this energy and step count.
     ensures headline_where { light ≡ false → (IsMemory result → ⊥) → (energy : ℤ) (count : ℕ)
         → TakesAll source.now target.now trace.now energy count
         → GaveDone energy count line.old line.new size.new result }
@@ -66,7 +66,7 @@ pub extern "C" fn nanobot_judge(
         → (energy : ℤ) × (count : ℕ) × TakesAll source.now target.now trace.now energy count
         × GaveDone energy count line.old line.new size.new result }
 
-    // With both profiles it gives the whole answer of the row.
+    // With both profiles it writes the whole answer of the row.
     ensures answer { HasModel source.now target.now → (IsMemory result → ⊥)
         → GaveLineOf (run_row_of light source.now target.now) (lent source.now target.now trace.now) line.old line.new
         size.new result }
@@ -87,8 +87,8 @@ pub extern "C" fn nanobot_judge(
     call(alloc, row, lent, line, size)
 }
 
-/// The number of a status that a run ends with where it is not accepted. No such run is done, but no contract below says so:
-/// done would be told as want of memory.
+/// Returns the number of the status of a run that is not accepted. No such run has status done, but no contract below says so: done
+/// would be reported as out of memory.
 fn refuse(status: Status) -> u32
     ensures { IsRefused status result }
 {
@@ -98,7 +98,7 @@ fn refuse(status: Status) -> u32
     code(status)
 }
 
-/// The energy and the number of steps of an accepted run, or the number of its status.
+/// Returns the energy and the number of steps of an accepted run, or the number of its status.
 fn told_cost(message: &Message) -> Result<(i64, u32), u32>
     ensures accepted { IfOk result (λ cost. message.now ≡ Message.Line (Report.Accepted cost.0 cost.1)) }
     ensures refused { IfErr result (λ number. IsRefused (status_by message.now) number) }
@@ -109,7 +109,7 @@ fn told_cost(message: &Message) -> Result<(i64, u32), u32>
     }
 }
 
-/// The energy and the number of steps of the run of the row, or the number of its status.
+/// Returns the energy and the number of steps of the run of the row, or the number of its status.
 fn cost(alloc: Global, row: Row<'static>, lent: Lent<'_>) -> Result<(i64, u32), u32>
     requires of_table { IsOfTable (row_of row) }
     requires stores_none { stores_of (row_of row) ≡ None }
@@ -123,8 +123,8 @@ fn cost(alloc: Global, row: Row<'static>, lent: Lent<'_>) -> Result<(i64, u32), 
     }
 }
 
-/// Judges the trace from the source to the target as `nanobot_judge` does, and tells the energy and the number of steps of an
-/// accepted run, which are 0 of any other.
+/// Judges the trace from the source to the target as `nanobot_judge` does, and stores the energy and the number of steps of an
+/// accepted run, or 0 for any other.
 #[unsafe(no_mangle)]
 pub extern "C" fn nanobot_cost(
     alloc: Global,
@@ -135,8 +135,8 @@ pub extern "C" fn nanobot_cost(
     energy: &mut i64,
     steps: &mut u32,
 ) -> u32
-    // With the full profile it answers 0 and tells this energy and step count exactly when the specification's machine
-    // takes the whole trace with them.
+    // With the full profile it returns 0 and stores this energy and step count exactly if the specification's machine takes the
+    // whole trace with them.
     ensures headline { light ≡ false → (IsMemory result → ⊥) → (e : ℤ) (count : ℕ)
         → TakesAll source.now target.now trace.now e count ↔ (IsDone result × (energy.new ≡ e) × (steps.new ≡ count)) }
 
@@ -171,7 +171,7 @@ pub extern "C" fn nanobot_cost(
     }
 }
 
-/// Judges the model, and gives the line that `nanobot check M` prints.
+/// Checks the model, and writes the line that `nanobot check M` prints.
 #[unsafe(no_mangle)]
 pub extern "C" fn nanobot_check(
     alloc: Global,

@@ -7,7 +7,7 @@ ghost use Rattle.nanobot_c.specs.Lent.{lent_files, side_named};
 use nanobot_words::Side;
 use vox_depot::{Depot, FetchFault, StoreFault, copy_piece};
 
-/// Bytes that a caller lends for a call: they are the files `s`, `t` and `b`, which are only read.
+/// Bytes that a caller lends for a call: the files `s`, `t` and `b`, which are only read.
 #[derive(Clone, Copy)]
 pub struct Lent<'a> {
     pub source: &'a [u8],
@@ -15,7 +15,7 @@ pub struct Lent<'a> {
     pub trace: &'a [u8],
 }
 
-/// The side of the file of this name, or of the empty model where the file has no bytes.
+/// Returns the side of the file of this name, or of the empty model if the file has no bytes.
 pub fn side(name: &'static str, bytes: &[u8]) -> Side<'static>
     ensures { side_of result ≡ side_named name.now bytes.now }
 {
@@ -26,7 +26,7 @@ pub fn side(name: &'static str, bytes: &[u8]) -> Side<'static>
 }
 
 impl<'a> Lent<'a> {
-    /// The file of this name.
+    /// Returns the file of this name.
     fn file(&self, name: &str) -> Option<&'a [u8]>
         ensures { option_map (λ x. x.now) result ≡ content (lent_files self.now) name.now }
     {
@@ -39,7 +39,7 @@ impl<'a> Lent<'a> {
     }
 }
 
-/// The files of lent bytes. None can be stored: that is a fault, and is counted.
+/// The files of lent bytes. Storing a file is a fault, and is counted.
 #[derive(Drop)]
 pub struct LentFiles<'a> {
     pub lent: Lent<'a>,

@@ -1,5 +1,5 @@
-//! nanobot as a static library for callers in C (`include/nanobot.h`). Each export is one call over the caller's bytes,
-//! which stand for the files of a row of the table of words, and gives what the row comes to into the caller's buffer.
+//! nanobot as a static library for callers in C (`include/nanobot.h`). Each export is one call: the caller's bytes are the files of
+//! a row of the command table, and the row's answer goes to the caller's buffer.
 #![tactic(auto)]
 
 mod call;

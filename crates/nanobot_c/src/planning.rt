@@ -65,9 +65,8 @@ fn plan_target(
     call(alloc, row, lent, plan, size)
 }
 
-/// Plans with one bot from the source to the target, and gives the trace that `nanobot plan layer S T B` stores or,
-/// where it is refused, the line that the program prints. A source or a target of no bytes is the empty model of the
-/// other's resolution.
+/// Plans with one bot from the source to the target. Writes the trace that `nanobot plan layer S T B` stores, or its printed line
+/// if it is refused. A source or a target of no bytes is the empty model of the other's resolution.
 #[unsafe(no_mangle)]
 pub extern "C" fn nanobot_plan_layer(
     alloc: Global,
@@ -81,9 +80,8 @@ pub extern "C" fn nanobot_plan_layer(
     plan_between(alloc, Planner::Layer, source, target, plan, size)
 }
 
-/// Plans with two bots from the source to the target, and gives the trace that `nanobot plan group S T B` stores or,
-/// where it is refused, the line that the program prints. A source or a target of no bytes is the empty model of the
-/// other's resolution.
+/// Plans with two bots from the source to the target. Writes the trace that `nanobot plan group S T B` stores, or its printed line
+/// if it is refused. A source or a target of no bytes is the empty model of the other's resolution.
 #[unsafe(no_mangle)]
 pub extern "C" fn nanobot_plan_group(
     alloc: Global,
@@ -97,9 +95,8 @@ pub extern "C" fn nanobot_plan_group(
     plan_between(alloc, Planner::Group, source, target, plan, size)
 }
 
-/// Plans with up to forty bots from the source to the target, and gives the trace that `nanobot plan crew S T B` stores or,
-/// where it is refused, the line that the program prints. A source or a target of no bytes is the empty model of the
-/// other's resolution.
+/// Plans with up to forty bots from the source to the target. Writes the trace that `nanobot plan crew S T B` stores, or its
+/// printed line if it is refused. A source or a target of no bytes is the empty model of the other's resolution.
 #[unsafe(no_mangle)]
 pub extern "C" fn nanobot_plan_crew(
     alloc: Global,
@@ -113,8 +110,8 @@ pub extern "C" fn nanobot_plan_crew(
     plan_between(alloc, Planner::Crew, source, target, plan, size)
 }
 
-/// Plans with four bots that take the source down, and gives the trace that `nanobot plan void S - B` stores or, where
-/// it is refused, the line that the program prints.
+/// Plans the removal of the source with four bots. Writes the trace that `nanobot plan void S - B` stores, or its printed line if
+/// it is refused.
 #[unsafe(no_mangle)]
 pub extern "C" fn nanobot_plan_void(
     alloc: Global,
@@ -141,8 +138,8 @@ pub extern "C" fn nanobot_plan_void(
     call(alloc, row, lent, plan, size)
 }
 
-/// Plans with one bot under Low that builds the target, and gives the trace that `nanobot plan low - T B` stores or,
-/// where it is refused, the line that the program prints.
+/// Plans with one bot under Low that builds the target. Writes the trace that `nanobot plan low - T B` stores, or its printed line
+/// if it is refused.
 #[unsafe(no_mangle)]
 pub extern "C" fn nanobot_plan_low(
     alloc: Global,
@@ -155,8 +152,8 @@ pub extern "C" fn nanobot_plan_low(
     plan_target(alloc, Planner::Low, target, plan, size)
 }
 
-/// Plans with up to twenty bots that build the target, and gives the trace that `nanobot plan swarm - T B` stores or,
-/// where it is refused, the line that the program prints.
+/// Plans with up to twenty bots that build the target. Writes the trace that `nanobot plan swarm - T B` stores, or its printed line
+/// if it is refused.
 #[unsafe(no_mangle)]
 pub extern "C" fn nanobot_plan_swarm(
     alloc: Global,

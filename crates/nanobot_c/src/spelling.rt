@@ -1,4 +1,4 @@
-//! Traces that are spelled as texts, and texts that are read as traces.
+//! Assembling texts and disassembling traces.
 ghost use Rattle.std.specs.Prelude.{◌≡◌, []};
 ghost use Rattle.nanobot_words.specs.Rows.{asm as asm_row, dis as dis_row};
 ghost use Rattle.nanobot_c.specs.Calls.{GaveFileOf};
@@ -10,7 +10,7 @@ use crate::lent::Lent;
 use nanobot_words::Row;
 use std::alloc::Global;
 
-/// Reads a text, and gives the trace that `nanobot asm X B` stores or, where the text is refused, the line that the program prints.
+/// Assembles a text. Writes the trace that `nanobot asm X B` stores; for a refused text, the line that it prints.
 #[unsafe(no_mangle)]
 pub extern "C" fn nanobot_asm(alloc: Global, text: &[u8], trace: &mut [u8], size: &mut usize) -> u32
     ensures answer { (IsMemory result → ⊥)
@@ -30,7 +30,7 @@ pub extern "C" fn nanobot_asm(alloc: Global, text: &[u8], trace: &mut [u8], size
     call(alloc, row, lent, trace, size)
 }
 
-/// Reads a trace, and gives the text that `nanobot dis B X` stores or, where the trace is refused, the line that the program prints.
+/// Disassembles a trace. Writes the text that `nanobot dis B X` stores; for a refused trace, the line that it prints.
 #[unsafe(no_mangle)]
 pub extern "C" fn nanobot_dis(alloc: Global, trace: &[u8], text: &mut [u8], size: &mut usize) -> u32
     ensures answer { (IsMemory result → ⊥)

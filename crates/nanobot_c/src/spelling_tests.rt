@@ -1,17 +1,17 @@
-//! Texts and traces as a caller in C has them read. The bytes are those of the table of commands.
+//! Assembling and disassembling as a C caller does. The bytes are those of the table of commands.
 use crate::spelling::{nanobot_asm, nanobot_dis};
 use std::alloc::Global;
 use std::process::Abort;
 use std::test::Fail;
 
-/// The front of the buffer has these bytes, and what is behind them is as it was.
+/// Asserts that the front of the buffer has these bytes and the rest is unchanged.
 fn assert_given(rt: &impl Abort, buffer: &[u8], size: usize, bytes: &[u8]) {
     assert_eq!(rt; size, bytes.len());
     assert_eq!(rt; buffer.get(..size), Some(bytes));
     assert_eq!(rt; buffer.last(), Some(&7));
 }
 
-/// A text is read, with this status, to these bytes.
+/// Asserts that a text assembles, with this status, to these bytes.
 fn assert_reads(
     rt: &impl Abort,
     alloc: Global,
@@ -29,7 +29,7 @@ fn assert_reads(
     Ok(())
 }
 
-/// A trace is spelled, with this status, as these bytes.
+/// Asserts that a trace disassembles, with this status, to these bytes.
 fn assert_spells(
     rt: &impl Abort,
     alloc: Global,

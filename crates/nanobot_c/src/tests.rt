@@ -26,7 +26,7 @@ const HOOK: &[u8] = &[
 /// No bytes.
 const NONE: &[u8] = &[];
 
-/// A source, a target, a trace and whether the profile is the light one; and the status and the line that are answered.
+/// A source, a target, a trace and whether the profile is the light one; and the expected status and line.
 type Run = (
     &'static [u8],
     &'static [u8],
@@ -36,7 +36,7 @@ type Run = (
     &'static str,
 );
 
-/// Runs that are accepted, that break a rule, and that are refused; a light profile, bytes of junk, and no bytes.
+/// Accepted runs, runs that break a rule, and refused runs; a light profile, junk bytes, and no bytes.
 const RUNS: [Run; 11] = [
     (NONE, P3, POST, false, 0, "ok energy 420 steps 4\n"),
     (P3, P3, POST, false, 0, "ok energy 414 steps 4\n"),
@@ -86,7 +86,7 @@ const RUNS: [Run; 11] = [
     (E3, E3, &[0x04, 0xFF], false, 4, "trace bad at 0\n"),
 ];
 
-/// The buffer begins with the line, has its old bytes behind it, and the size is the line's.
+/// Asserts that the buffer begins with the line, has its old bytes behind it, and that the size is the line's.
 fn assert_given(rt: &impl Abort, buffer: &[u8], size: usize, bytes: &[u8]) {
     assert_eq!(rt; size, bytes.len());
     assert!(rt; size < buffer.len());
@@ -96,7 +96,7 @@ fn assert_given(rt: &impl Abort, buffer: &[u8], size: usize, bytes: &[u8]) {
     }
 }
 
-/// The run is judged with its status and its line.
+/// Asserts the status and the line of the run.
 fn assert_judged(rt: &impl Abort, alloc: Global, run: &Run) -> Result<(), Fail> {
     let (source, target, trace, light, status, line) = run;
     let mut buffer = vec![in alloc; 7u8; 100]?;
@@ -107,7 +107,7 @@ fn assert_judged(rt: &impl Abort, alloc: Global, run: &Run) -> Result<(), Fail> 
     Ok(())
 }
 
-/// A buffer of one byte too few is told the size, and is as it was.
+/// Asserts that a buffer one byte too short is unchanged and the size is reported.
 fn assert_too_small(rt: &impl Abort, alloc: Global, run: &Run) -> Result<(), Fail> {
     let (source, target, trace, light, _, line) = run;
     let mut buffer = vec![in alloc; 7u8; line.len().saturating_sub(1)]?;
@@ -136,7 +136,7 @@ fn small_buffers(rt: HostRuntime) -> Result<(), Fail> {
     Ok(())
 }
 
-/// The status, the energy and the number of steps of the run.
+/// Asserts the status, the energy and the number of steps of the run.
 fn assert_cost(rt: &impl Abort, alloc: Global, run: &Run, want: (i64, u32)) {
     let (source, target, trace, light, status, line) = run;
     let mut energy = 7;
@@ -167,7 +167,7 @@ fn costs(rt: HostRuntime) {
     }
 }
 
-/// A model, and the status and the line that are answered.
+/// A model, and the expected status and line.
 const CHECKS: [(&[u8], u32, &str); 4] = [
     (P3, 0, "legal resolution 3 full 1\n"),
     (NONE, 3, "model 1 NoByte\n"),
@@ -191,7 +191,7 @@ fn models_are_checked(rt: HostRuntime) -> Result<(), Fail> {
     Ok(())
 }
 
-/// What the planner's export answers, with a source or a target that it does not take left out.
+/// Returns the answer of the planner's export, without the source or the target that it does not take.
 fn planned(
     alloc: Global,
     planner: Planner,
@@ -210,7 +210,7 @@ fn planned(
     }
 }
 
-/// A planner, a source, a target, and the status and what is given.
+/// A planner, a source, a target, and the expected status and bytes.
 const PLANS: [(Planner, &[u8], &[u8], u32, &[u8]); 12] = [
     (Planner::Layer, P3, P3, 0, &[0xFF]),
     (Planner::Group, P3, P3, 0, &[0xFF]),
@@ -238,7 +238,7 @@ fn plans_of_nothing_and_refusals(rt: HostRuntime) -> Result<(), Fail> {
     Ok(())
 }
 
-/// The planner's trace is as long as it was told to a buffer of no bytes, and the judge accepts it.
+/// Asserts that the planner's trace has the size reported for a buffer of no bytes, and that the judge accepts it.
 fn assert_accepted(
     rt: &impl Abort,
     alloc: Global,

@@ -1,4 +1,4 @@
--- The run of an only bot takes the next bytes of its trace.
+-- The loop for a single bot consumes the next bytes of its trace.
 use Rattle.std.proofs.Common.{◌≡◌, ℕ, ◌+◌, ◌-◌, ◌≤◌, ◌∙◌, refl, sym, ap, subst, arith, Bool, true, false, List, length, length-drop, take, drop}
 use Rattle.std.specs.Prelude.{Result, Ok, Err, IfOk}
 use Rattle.std.proofs.lemmas.List.{take_all}
@@ -41,7 +41,7 @@ pub further : (s t u : RunState) (piece : List ℕ) (at n : ℕ) (went : Went) (
     → TakesUpTo s piece (at + n) u i k
 further s t u piece at n went i j k l e a g =
     let size : length (drop at piece) ≡ length piece - at = length-drop at piece in
-    -- what is left of the piece is given whole
+    -- the rest of the piece is returned whole
     let whole : take (length piece - at) (drop at piece) ≡ drop at piece = take_all (length piece - at) (drop at piece) (omega (arith, size)) in
     let within : went.used ≤ length (drop at piece) = subst (λ (b : List ℕ). went.used ≤ length b) whole g.takes.within in
     let next = subst (λ (b : List ℕ). Takes t (take went.used b) u j k) whole g.takes.takes in

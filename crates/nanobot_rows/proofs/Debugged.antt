@@ -1,4 +1,4 @@
--- The answers of `debug`, by what was found in the files.
+-- The answers of `debug`, by the contents of the files.
 use Rattle.std.proofs.Common.{◌≡◌, ℕ, ◌≤◌, Global, List, Vec, refl, subst}
 use Rattle.std.specs.Prelude.{Option, Ok, Err, IfSome}
 use Rattle.nano_spec.specs.declared.commands.Command.{Command}
@@ -28,7 +28,7 @@ module _ (source trace script : List ℕ) (m : Matrix) where
   abbrev OfTraces : Answers
   OfTraces = Upon (TraceOf dis_limit trace) OfScripts
 
-  -- what comes after the source
+  -- the results after the source
   module _ (told later : Option Files) (before between now : ℕ) (found : IfSome told (λ files. ModelOf who.Source source files (Ok m))) (same : later ≡ told) (since : before ≤ between) where
     of_source : (s : Stop) → EndsStored OfTraces later (Rose between now) (Err s)
         → EndsStored OfDebug told (Rose before now) (Err s)
@@ -48,7 +48,7 @@ module _ (source trace script : List ℕ) (m : Matrix) where
         (says_stops (ScriptOf m.resolution script) (OfScripts commands) reply_by (λ files end e. (Err end, e, refl)) last (Rose third now) s
         (unviewed (λ (lines : Vec ScriptLine Global). lines_are lines.items) (ScriptOf m.resolution script) last (Rose third now) s (subst (λ (n : ℕ). OfScript n script last (Rose third now) (Err s)) high h))))
 
-  -- the session is told
+  -- the session is known
   pub session_ends : (told later last : Option Files) → IfSome told (λ files. ModelOf who.Source source files (Ok m))
       → later ≡ told → (commands : List Command) → IfSome later (λ files. TraceOf dis_limit trace files (Ok commands))
       → last ≡ later → (r : ℕ) → r ≡ m.resolution → (lines : List ScriptLine)

@@ -1,4 +1,4 @@
--- The worked examples of what is told, by computing.
+-- The worked examples of lines and answers, by computing.
 use Rattle.std.proofs.Common.{◌≡◌, ◌+◌, ◌<◌, refl, sym, subst, Bool}
 use Rattle.std.specs.Prelude.{Some, None, Ok, Err, MatchBool, ⊤}
 use Rattle.std.specs.Fmt.{digits}

@@ -13,7 +13,7 @@ use Rattle.plan_choice.specs.Planners.{IsGroupPlan, IsLayerPlan, PlanFacts}
 use Rattle.nanobot_rows.specs.Reading.{reply_of}
 use Rattle.nanobot_rows.proofs.Told.{if_some}
 
--- both plans cost what is told
+-- both plans have the reported costs
 pub exercised : (told : Option Files) (number resolution full : ℕ) (target : Matrix) (layer group : Cost)
     → target ≡ forged number resolution → Costs IsLayerPlan target layer → Costs IsGroupPlan target group
     → full ≡ full_count target → IfSome told

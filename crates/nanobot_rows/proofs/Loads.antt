@@ -1,4 +1,4 @@
--- What a file that was loaded says, of which one byte past the limit was asked for.
+-- The content of a loaded file, fetched up to one byte past the limit.
 use Rattle.std.proofs.Common.{◌≡◌, ℕ, ◌+◌, ◌<◌, ◌≤◌, ◌∙◌, Global, Vec, List, [], ◌∷◌, length, take, refl, sym, ap, subst, arith, Bool}
 use Rattle.std.specs.Prelude.{Option, Some, Result, Ok, Err, MatchBool, IfSome}
 use Rattle.std.specs.Result.{result_map_both}
@@ -66,7 +66,7 @@ module _ (told : Option Files) (name v : List ℕ) (limit most : ℕ) (status : 
 
 -- ---- a file that was not loaded, or is too long, ends the call
 
--- what is found of the bytes of a vector
+-- the result for the bytes of a vector
 abbrev pub OfBytes : Finding (List ℕ) → Option Files → Type 0 → Result (Vec ℕ Global) Stop → Type 0
 OfBytes X told rose result = FindsAs (λ bytes. bytes.items) X told rose result
 
@@ -91,7 +91,7 @@ pub trace_stops : (limit : ℕ) (name : List ℕ) (told : Option Files) (rose : 
     → Finds (TraceOf limit name) told rose (Err s)
 trace_stops limit name = bytes_stop limit is.Trace (trace_long_line limit) name (TraceOf limit name) (λ files end h. (Err end, h, refl))
 
--- what is found of the lines of a script
+-- the result for the lines of a script
 abbrev pub OfScript : ℕ → List ℕ → Option Files → Type 0 → Result (Vec ScriptLine Global) Stop → Type 0
 OfScript r name told rose result = FindsAs (λ script. lines_are script.items) (ScriptOf r name) told rose result
 
@@ -102,9 +102,9 @@ script_stops r name told rose s h =
     viewed {V = Vec ScriptLine Global} (λ script. lines_are script.items) (ScriptOf r name) told rose s
     (bytes_stop script_limit is.Text (text_long_line script_limit) name (ScriptOf r name) (λ files end h. (Err end, h, refl)) told rose s h)
 
--- ---- what the bytes say
+-- ---- the contents of bytes
 
--- what is said is found
+-- the content is the result
 as_said : {A W : Type 0} (status : Status) (line : W → List ℕ) (files : Files) (is_said r : Result A W) → is_said ≡ r
     → OfResult status line is_said files (result_map_both (λ a. a) (λ why. (status, line why)) r)
 as_said status line files is_said r e = ap (λ x. result_map_both (λ a. a) (λ why. (status, line why)) x) (sym e)
@@ -141,7 +141,7 @@ module _ (told : Option Files) (name v : List ℕ) where
     trace_refused rose (trace.Refused (Cut offset)) decoding = weaker told (λ files h. (Ok v, h, (Err (CutAt offset), decoding, refl))) whole
     trace_refused rose trace.Memory decoding = tt
 
--- ---- how many commands there are
+-- ---- the number of commands
 
 no_more : (commands : List Command) → length commands ≤ length (spellings commands)
 no_more [] = omega arith

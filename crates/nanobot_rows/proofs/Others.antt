@@ -151,7 +151,7 @@ a_forged_group_plan = record {
 each_supported : FirstUnsupported (empty 3) None
 each_supported = all_hold (λ c. IsTrue (is_full (empty 3) c) → IsSupported (empty 3) c) (all_of (empty 3)) (λ c f. absurd (not_full 3 c f))
 
--- ---- what is answered
+-- ---- answers
 
 no_file : (files : Files) (name : List ℕ) → content files name ≡ None → FileOf name files (Err (is.Depot, []))
 no_file files name none = sym (ap (λ (o : Option (List ℕ)). ok_or o (is.Depot, [])) none)
@@ -328,7 +328,7 @@ worked_answers = record {
   arguments_of_a_row = λ files w. inr (check (codes "nothing.mdl"), is_check (codes "nothing.mdl") (λ e. let no : codes "nothing.mdl" ≡ codes "-" = e in cc), (Ok (empty 3), is_nothing who.Model files w, refl));
 }
 
--- ---- what is so of plans, the models of sides, and touches
+-- ---- facts of plans, the models of sides, and touches
 
 pub worked_facts : WorkedFacts
 worked_facts = record {

@@ -43,7 +43,7 @@ WholeLaw = (source : Matrix) (profile : Profile) (commands rest : List Command) 
 abbrev pub WorkLaw : Type 0
 WorkLaw = (source : Matrix) (commands : List Command) (profile : Profile) → (n : ℕ) × Work source commands profile n
 
--- ---- what a decoder has given
+-- ---- the commands returned by a decoder
 
 taken_of : (bytes : List ℕ) (commands : List Command) (d : DecoderState) → IsFalse d.failed → HasGiven bytes commands d
     → HasTaken bytes commands d
@@ -120,7 +120,7 @@ goes_on (c ∷ given) (d ∷ commands) tail rest g h e l =
     let goes = goes_on given commands tail rest g.1 h.1 same_spelling.1 l in
     (goes.0, (λ i. same_spelling.0 i ∷ goes.1 i))
 
--- what was touched for the given commands
+-- the touches for the returned commands
 within : (law : WholeLaw) (source : Matrix) (profile : Profile) (bytes : List ℕ) (given : List Command) (p : Progress)
     (start now : ℕ) → BeginWith bytes given → IsPaid source profile given p start now → (commands : List Command)
     (n : ℕ) → AreInFront bytes commands → Work source commands profile n
@@ -131,7 +131,7 @@ within law source profile bytes given p start now b paid commands n front work =
 
 -- ---- a trace that is fetched piece by piece
 
--- where the file is told, the touches for its first bytes are paid for
+-- if the file is known, the touches for its first bytes are paid for
 pub record IsPaying (told : Option Files) (name : List ℕ) (source : Matrix) (profile : Profile) (at : ℕ) (run : RunState) (start now : ℕ) : Type 0 where
   pub front : (files : Files) (file : List ℕ) → told ≡ Some files → content files name ≡ Some file
       → (at ≤ length file) × HasPaid source profile (take at file) run start now
@@ -187,7 +187,7 @@ model_once files name m n h k = by (content files name) h k
     by None h k = absurd h
     by (Some bytes) h k = let a = h.0 in let b = k.0 in cc
 
--- the source is one only, where the source or the target has a file
+-- there is only one source, if the source or the target has a file
 models_once : (files : Files) (source target : Option (List ℕ)) (s t u v : Matrix) → HasName source target
     → AreModels source target files s t → AreModels source target files u v → s ≡ u
 models_once files (Some name) target s t u v named h k = model_once files name s u h.source_is k.source_is

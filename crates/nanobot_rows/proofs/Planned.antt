@@ -25,13 +25,13 @@ use Rattle.nanobot_rows.specs.Report.{report_line}
 use Rattle.nanobot_rows.proofs.Replies.{models_found}
 use Rattle.nanobot_rows.proofs.Told.{weaker}
 
--- where one of two sides is named, they are not both none
+-- if one of two sides is named, they are not both none
 pub some_named : (source target : Option (List ℕ)) → HasName source target → source ≡ None → target ≡ None → ⊥
 some_named None None named first second = named
 some_named None (Some t) named first second = absurd (cc)
 some_named (Some s) target named first second = absurd (cc)
 
--- what keeps a plan is answered so
+-- the answer that keeps a plan
 plan_kept : (Is : PlanFacts) (s t : Matrix) (name : List ℕ) (commands : List Command) (energy : ℤ) (steps : ℕ)
     (effect : Effect) → Is s t commands energy steps → KeepsPlan name commands energy steps effect → (files : Files)
     → StoresPlan Is name s t files (reply_by files effect)
@@ -46,7 +46,7 @@ plan_kept Is s t name commands energy steps effect is keeps files = (commands, e
     by None h = absurd h
     by (Some file) h = λ i. record { status = status_by (keeps.told i); line = bytes_by (keeps.told i); after = with_file files (h.0 i) (h.1 i) }
 
--- what has no file is the empty model
+-- a side without a file is the empty model
 takes_models : (planner : Planner) (source target : Option (List ℕ)) (files : Files) (s t : Matrix)
     → TakesSides planner source target → AreModels source target files s t → TakesModels planner s t
 takes_models Layer source target files s t takes models = tt

@@ -1,4 +1,4 @@
--- What is found and answered after more files were read.
+-- The values and answers after more files were read.
 use Rattle.std.proofs.Common.{◌≡◌, ◌==◌, ◌≢◌, ℕ, ◌≤◌, List, [], refl, sym, ap, subst, inl, inr, arith, Bool, true, false, ◌∙◌}
 use Rattle.std.specs.Result.{result_map_both}
 use Rattle.std.specs.Prelude.{Option, Some, None, Result, Ok, Err, MatchOption, MatchResult, MatchBool, IfSome, IsSomeAnd}
@@ -31,7 +31,7 @@ use Rattle.nanobot_rows.proofs.Told.{file_found, finds_file, weaker, weaker_and}
 pub rose_since : (a b c : ℕ) → a ≤ b → Rose b c → Rose a c
 rose_since a b c l h = omega (arith, h)
 
--- ---- what a call finds
+-- ---- the results of a call
 
 -- a stop, seen by another call
 pub stops : {A B : Type 0} (X : Finding A) (Y : Finding B) (told : Option Files) (rose wider : Type 0) (s : Stop)
@@ -60,7 +60,7 @@ and_told : {P Q R : Files → Type 0} (told : Option Files) → ((files : Files)
 and_told None f h k = absurd k
 and_told (Some files) f h k = f files h k
 
--- what a call finds, seen by one that knows more of the files
+-- the results of a call, as seen by one that knows more of the files
 module _ {A : Type 0} (X Y : Finding A) (P : Files → Type 0) (more : (files : Files) → P files → (found : Found A) → X files found → Y files found) where
   widens : (told : Option Files) (rose wider : Type 0) (r : Result A Stop) → IfSome told P → (rose → wider)
       → Finds X told rose r → Finds Y told wider r
@@ -84,7 +84,7 @@ module _ {A B : Type 0} (X : Finding A) (p : A → Finding B) where
       → Finds (With X p) told (Rose before now) r
   with_found a = widens_since (p a) (With X p) (λ files. X files (Ok a)) (λ files h found rest. (Ok a, h, rest))
 
-  -- a value that is found comes of one that was found first
+  -- a value that is found depends on one that was found first
   pub with_ok : (files : Files) (b : B) → With X p files (Ok b) → (a : A) × X files (Ok a) × p a files (Ok b)
   with_ok files b h = by h.0 h.1 h.2
     where
@@ -100,7 +100,7 @@ pub says_stops : {A V : Type 0} (X : Finding A) (answers : Answers) (reply : Fil
     (s : Stop) → Finds X told rose (Err s) → Settles reply answers told rose (Err s)
 says_stops X answers reply ends told rose s = stops X (λ files found. answers files (reply_to reply files found)) told rose rose s ends (λ h. h)
 
--- what comes after a value that was found is answered
+-- the results after a value that was found are the answer
 pub says_found : {A V : Type 0} (X : Finding A) (p : A → Answers) (reply : Files → V → Reply) (a : A)
     (told later : Option Files) (before between now : ℕ) (r : Result V Stop) → IfSome told (λ files. X files (Ok a))
     → later ≡ told → before ≤ between → Settles reply (p a) later (Rose between now) r
@@ -121,7 +121,7 @@ module _ (who : Who) (files : Files) (name : List ℕ) (m : Matrix) where
   abbrev Said : List ℕ → Finding Matrix
   Said bytes = OfResult is.Model (no_model_line who) (model bytes)
 
-  -- a file of a legal model says it
+  -- a file of a legal model has it as its result
   pub finds_model : IsModelOf files name m → ModelOf who name files (Ok m)
   finds_model is_model = by (content files name) refl is_model
     where
@@ -161,7 +161,7 @@ one_named (Some a) target h = tt
 pair_is : (s t a b : Matrix) → ◌≡◌ {A = Found (Matrix × Matrix)} (Ok (s, t)) (Ok (a, b)) → (s ≡ a) × (t ≡ b)
 pair_is s t a b e = let same : (s, t) ≡ (a, b) = cc in (ap (λ (x : Matrix × Matrix). x.0) same, ap (λ (x : Matrix × Matrix). x.1) same)
 
--- both models, where they are of one resolution
+-- both models, if they are of one resolution
 abbrev Choice : Matrix → Matrix → Bool → Found (Matrix × Matrix) → Type 0
 Choice s t alike both = MatchBool alike (both ≡ Ok (s, t)) (both ≡ Err (is.Model, resolutions_line s.resolution t.resolution))
 

@@ -38,7 +38,7 @@ started source profile d r taken e f =
     subst (λ (x : DecoderState). HasRun source profile [] (record { decoder = x; run = r })) (sym e)
     (record { commands = []; taken = taken; progress_is = first refl f })
 
--- what the decoder's law says of a command
+-- the decoder's law on a command
 abbrev pub GotLaw : Type 0
 GotLaw = (bytes piece : List ℕ) (commands : List Command) (decoder : DecoderState) (command : Command) (used : ℕ) →
     HasTaken bytes commands decoder → AnswersPiece decoder piece (Got command used) →

@@ -1,4 +1,4 @@
--- A run takes the next bytes of its trace: step by step, and many steps one after another.
+-- A run consumes the next bytes of its trace: step by step, and many steps one after another.
 use Rattle.std.proofs.Common.{◌≡◌, ℕ, ◌+◌, ◌*◌, ◌/◌, ◌%◌, ◌≤◌, ◌∙◌, refl, sym, ap, subst, arith, List, [], ◌∷◌, ◌++◌, slice_index_or, append_assoc, append-nil, false, length, length-append, take, drop}
 use Rattle.std.specs.Prelude.{Result, Ok, Err, IfOk}
 use Rattle.std.proofs.Math.Seq.{take-add}
@@ -51,7 +51,7 @@ module _ (got : GotLaw) (all : AllLaw) (bad : BadLaw) (push : PushLaw) (d : Deco
     paid = λ source profile before start same paid. paid_bad source profile before piece old start began paid offset;
   }
 
-  -- where n bytes are all, or none of a command's
+  -- if n bytes are all, or none of a command's
   whole : (n : ℕ) → n ≡ length piece → take n piece ≡ piece
   whole n e = take_all n piece (omega (arith, e))
 
@@ -69,14 +69,14 @@ module _ (got : GotLaw) (all : AllLaw) (bad : BadLaw) (push : PushLaw) (d : Deco
       (subst (λ (x : Course). Takes old piece (record { decoder = decoder_after d piece (Bad offset); run = x }) began ended) (sym same)
       (subst (λ (t : ℕ). Takes old piece (record { decoder = decoder_after d piece (Bad offset); run = r }) began t) (sym still) (takes_bad offset began answers)))
 
--- how many bytes are taken
+-- the number of bytes consumed
 pub some_taken : (d : DecoderState) (r new : Course) (piece : List ℕ) (fed : Fed) (n began ended : ℕ) → 1 ≤ length piece
     → AnswersPiece d piece fed → Gets r fed (length piece) n new began ended → (1 ≤ n) × (n ≤ length piece)
 some_taken d r new piece (Got command used) n began ended some answers (e, g) = (omega (arith, e, answers.some), omega (arith, e, answers.within))
 some_taken d r new piece All n began ended some answers (e, same, still) = (omega (arith, e), omega (arith, e))
 some_taken d r new piece (Bad offset) n began ended some answers (e, same, still) = (omega (arith, e), omega (arith, e))
 
--- the bytes that a call takes which may be refused memory, over a run that has these parts
+-- the bytes consumed by a call that may run out of memory, over a run of these parts
 pub takes_if_ok : (got : GotLaw) (all : AllLaw) (bad : BadLaw) (push : PushLaw) {E : Type 0} (answer : Result ℕ E)
     (old : RunState) (d next : DecoderState) (r new : Course) (piece : List ℕ) (fed : Fed) (began ended : ℕ)
     → record { decoder = d; run = r } ≡ old → old.run.spent ≡ false → next ≡ decoder_after d piece fed

@@ -1,4 +1,4 @@
--- What is found where files are told.
+-- The values found if the files are known.
 use Rattle.std.proofs.Common.{◌≡◌, ◌⊎◌, inl, inr, ℕ, List, [], refl, sym, ◌∙◌, ap, subst, take}
 use Rattle.std.specs.Prelude.{Option, Some, None, ok_or, Result, Ok, Err, IfSome, IsErrAnd, IsSomeAnd}
 use Rattle.nano_spec.specs.Legal.{IsLegal, NotLegal}
@@ -42,7 +42,7 @@ err_is (Err x) e h = ap Err h
 
 -- ---- files
 
--- a file is found where it is there
+-- a file that exists is found
 module _ (files : Files) (name bytes : List ℕ) where
   pub finds_file : content files name ≡ Some bytes → FileOf name files (Ok bytes)
   finds_file e = sym (ap (λ (o : Option (List ℕ)). ok_or o (is.Depot, [])) e)
@@ -54,7 +54,7 @@ module _ (files : Files) (name bytes : List ℕ) where
       by None e = absurd (cc)
       by (Some file) e = cc
 
--- what is so with the bytes of a file
+-- facts of the bytes of a file
 pub with_file : {Q : Files → Type 0} (told : Option Files) (name : List ℕ) (P : List ℕ → Type 0) → IfTold told name P
     → ((files : Files) (bytes : List ℕ) → told ≡ Some files → content files name ≡ Some bytes → P bytes → Q files)
     → IfSome told Q
@@ -84,12 +84,12 @@ not_fetched X told name rose gone fetch.Failed missing failed = inl (failed refl
 
 -- ---- models
 
--- the bytes that were loaded say what the file says
+-- the loaded bytes have the content of the file
 module _ (told : Option Files) (name v : List ℕ) (loaded : IfTold told name (λ file. v ≡ take 256000008 file)) (who : Who) where
   says : IfTold told name (λ file. model file ≡ model v)
   says = told_weaker told name _ _ (λ file e. sym (cut_is file) ∙ ap model (sym e)) loaded
 
-  -- what comes of the model that they say is found
+  -- the results for their model are found
   said : (r : Result Matrix NoModel) (found : Found Matrix) → model v ≡ r
       → ((files : Files) → With (OfResult is.Model (no_model_line who) r) (LegalOf who) files found)
       → IfSome told (λ files. ModelOf who name files found)

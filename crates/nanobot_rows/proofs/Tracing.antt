@@ -17,7 +17,7 @@ use Rattle.nanobot_rows.specs.Reading.{AnswerOfBytes, HasRun, RunState, reply_of
 use Rattle.nanobot_rows.proofs.Loads.{exceeds, fits}
 use Rattle.nanobot_rows.proofs.Told.{with_file}
 
--- where the file is told, its first bytes were taken
+-- if the file is known, its first bytes were consumed
 pub record IsUnderway (told : Option Files) (name : List ℕ) (source : Matrix) (profile : Profile) (at : ℕ) (run : RunState) : Type 0 where
   pub front : (files : Files) (file : List ℕ) → told ≡ Some files → content files name ≡ Some file
       → (at ≤ length file) × HasRun source profile (take at file) run

@@ -1,5 +1,4 @@
--- What is answered to the words over known files: a status, a line and the files afterwards (docs/FORMATS.md, "Printed
--- lines").
+-- The answer to a command over known files: a status, a line and the files afterwards (docs/FORMATS.md, "Printed lines").
 use Rattle.std.specs.Prelude.{◌≡◌, ◌⊎◌, ℕ, ◌+◌, ℤ, nat_lt, ◌==◌, List, [], length, Option, Some, None, ok_or, Result, Ok, Err, MatchOption, MatchBool, MatchResult, ⊤}
 use Rattle.std.specs.Result.{result_map_both}
 use Rattle.std.specs.FinMap as finite
@@ -40,59 +39,59 @@ use Rattle.nanobot_words.specs.declared.row.Round.{Round}
 use Rattle.nanobot_words.specs.declared.row.Round.TheVariants.{Full, Light}
 use Rattle.nanobot_words.specs.Rows.{Row, asm, check, debug, dis, exercise, make, plan, run, IsRow, IsInNoRow, MakesPlans}
 
--- what is answered: a status, a line, which is empty where none is told, and the files afterwards
+-- the reply: a status, a line, which is empty if none is printed, and the files afterwards
 pub record Reply : Type 0 where
   pub status : Status
   pub line : List ℕ
   pub after : Files
 
--- what may be answered over files
+-- the possible answers over files
 abbrev pub Answers : Type 1
 Answers = Files → Reply → Type 0
 
--- this status and this line, and the files as they were
+-- this status and this line, and the files unchanged
 abbrev pub IsReply : Status → List ℕ → Answers
 IsReply status line files reply = reply ≡ record { status = status; line = line; after = files }
 
--- the files, of which that of the name now has these bytes
+-- the files, with these bytes as the file of the name
 abbrev pub with_file : Files → List ℕ → List ℕ → Files
 with_file files name bytes = finite.insert files name bytes
 
--- it is done, with this line, and the file of the name now has these bytes
+-- success, with this line, and these bytes as the file of the name
 abbrev pub Stores : List ℕ → List ℕ → List ℕ → Answers
 Stores line name bytes files reply =
     reply ≡ record { status = is.Done; line = line; after = with_file files name bytes }
 
--- ---- what files say
+-- ---- the contents of files
 
--- what is found: a value, or the status and the line that end the call
+-- the result of reading: a value, or the status and the line that end the call
 abbrev pub Found : Type 0 → Type 0
 Found A = Result A (Status × List ℕ)
 
--- what may be found in files
+-- the possible results of reading files
 abbrev pub Finding : Type 0 → Type 1
 Finding A = Files → Found A → Type 0
 
--- first X is found, and then what p says of its value; where X ends the call, its end is found
+-- first X is found, and then p of its value; if X ends the call, its end is found
 abbrev pub With : {A B : Type 0} → Finding A → (A → Finding B) → Finding B
 With {A} X p files found =
     (first : Found A) × X files first × MatchResult first (λ a. p a files found) (λ end. found ≡ Err end)
 
--- first X is found, and then what p says of its value is answered; where X ends the call, its end is answered
+-- first X is found, and then p of its value is answered; if X ends the call, its end is answered
 abbrev pub Upon : {A : Type 0} → Finding A → (A → Answers) → Answers
 Upon {A} X p files reply =
     (first : Found A) × X files first
     × MatchResult first (λ a. p a files reply) (λ end. IsReply end.0 end.1 files reply)
 
--- the value, or with this status the line of why there is none
+-- the value, or with this status the line of the reason for having none
 abbrev pub OfResult : {A W : Type 0} → Status → (W → List ℕ) → Result A W → Finding A
 OfResult status line said files found = found ≡ result_map_both (λ a. a) (λ why. (status, line why)) said
 
--- the bytes of a file; where it is not there no line is told
+-- the bytes of a file; if it does not exist, no line is printed
 abbrev pub FileOf : List ℕ → Finding (List ℕ)
 FileOf name files found = found ≡ ok_or (content files name) (is.Depot, [])
 
--- the bytes of a file that has at most so many, or else this status and this line
+-- the bytes of a file of at most n bytes, otherwise this status and this line
 abbrev pub FileUpTo : ℕ → Status → List ℕ → List ℕ → Finding (List ℕ)
 FileUpTo limit status line name =
     With (FileOf name)
@@ -100,7 +99,7 @@ FileUpTo limit status line name =
 
 -- ---- models
 
--- the model, where it is legal
+-- the model, if it is legal
 abbrev pub LegalOf : Who → Matrix → Finding Matrix
 LegalOf who m files found =
     (why : Option NotLegal) × Legality m why
@@ -111,7 +110,7 @@ abbrev pub ModelOf : Who → List ℕ → Finding Matrix
 ModelOf who name =
     With (FileOf name) (λ bytes. With (OfResult is.Model (no_model_line who) (model bytes)) (LegalOf who))
 
--- the models of a source and a target, of one resolution: by `None` it has no file, and is the empty model of the
+-- the models of a source and a target, of the same resolution; `None` has no file, and is the empty model of the
 -- other's
 abbrev pub ModelsOf : Option (List ℕ) → Option (List ℕ) → Finding (Matrix × Matrix)
 ModelsOf None None files found = ⊥
@@ -132,25 +131,25 @@ DecodingOf bytes files found =
     (decoding : Result (List Command) NoTrace) × Decoding bytes decoding
     × OfResult is.Trace trace_line decoding files found
 
--- the commands of the trace of a file, where it is not too long
+-- the commands of the trace of a file, if it is not too long
 abbrev pub TraceOf : ℕ → List ℕ → Finding (List Command)
 TraceOf limit name = With (FileUpTo limit is.Trace (trace_long_line limit) name) DecodingOf
 
--- the most bytes of a text
+-- the maximum length of a text in bytes
 abbrev pub text_limit : ℕ
 text_limit = 1073741824
 
--- the commands that the text of a file says
+-- the commands of the text of a file
 abbrev pub TextOf : List ℕ → Finding (List Command)
 TextOf name =
     With (FileUpTo text_limit is.Text (text_long_line text_limit) name)
     (λ bytes. OfResult is.Text faulty_text_line (read bytes))
 
--- the most bytes of a script
+-- the maximum length of a script in bytes
 abbrev pub script_limit : ℕ
 script_limit = 65536
 
--- the lines that the script of a file says over a source of a resolution
+-- the lines of the script of a file over a source of a resolution
 abbrev pub ScriptOf : ℕ → List ℕ → Finding (List DebugLine)
 ScriptOf r name =
     With (FileUpTo script_limit is.Text (text_long_line script_limit) name) (λ bytes files found.
@@ -159,7 +158,7 @@ ScriptOf r name =
 
 -- ---- runs
 
--- what is told of a verdict
+-- the reply to a verdict
 abbrev pub TellsVerdict : Verdict → Answers
 TellsVerdict (verdict.Accepted energy steps) files reply = IsReply is.Done (accepted_line energy steps) files reply
 TellsVerdict (verdict.Refused broken) files reply = IsReply is.Broken (broken_line broken) files reply
@@ -171,7 +170,7 @@ OfRun profile source target commands files reply =
 
 -- ---- plans
 
--- what is so of a planner's plans
+-- the facts of a planner's plans
 abbrev pub facts_of : Planner → PlanFacts
 facts_of Layer = IsLayerPlan
 facts_of Group = IsGroupPlan
@@ -180,11 +179,11 @@ facts_of Void = IsVoidPlan
 facts_of Low = IsLowPlan
 facts_of Swarm = IsSwarmPlan
 
--- the most bytes of a plan of the group planner
+-- the maximum length in bytes of a plan by the group planner
 abbrev pub group_limit : ℕ
 group_limit = 1073741824
 
--- that the planner makes a plan: a group plan may be too long, by the runs and rows of both models, and a part of a low
+-- the planner can make a plan: a group plan may be too long, by the runs and rows of both models, and a part of a low
 -- plan's target may be unsupported
 abbrev pub CanPlan : Planner → Matrix → Matrix → Finding ⊤
 CanPlan Group source target files found =
@@ -195,22 +194,22 @@ CanPlan Low source target files found =
     × MatchOption at (found ≡ Ok tt) (λ c. found ≡ Err (is.Unsupported, unsupported_line c))
 CanPlan planner source target files found = found ≡ Ok tt
 
--- a plan of which this is so is stored as a trace of the name, and told with its numbers; which one is free
+-- a plan with these facts is stored as a trace of the name, and reported with its numbers; which one is free
 abbrev pub StoresPlan : PlanFacts → List ℕ → Matrix → Matrix → Answers
 StoresPlan Is name source target files reply =
     (commands : List Command) × (energy : ℤ) × (steps : ℕ) × Is source target commands energy steps × Stores
     (planned_line energy steps (length commands) (length (spellings commands))) name (spellings commands) files reply
 
--- a plan of the planner is stored so, where it makes one
+-- a plan of the planner is stored so, if it makes one
 abbrev pub OfPlan : Planner → List ℕ → Matrix → Matrix → Answers
 OfPlan planner name source target =
     Upon (CanPlan planner source target) (λ _. StoresPlan (facts_of planner) name source target)
 
--- a plan of which this is so makes the target of the empty model at this cost
+-- a plan with these facts makes the target from the empty model at this cost
 abbrev pub Costs : PlanFacts → Matrix → Cost → Type 0
 Costs Is target cost = (commands : List Command) × Is (empty target.resolution) target commands cost.energy cost.steps
 
--- what plans of both planners cost that make a forged model of nothing; which ones are judged is free
+-- the costs of plans of both planners that make a forged model from nothing; which ones are judged is free
 abbrev pub OfExercise : ℕ → ℕ → Matrix → Answers
 OfExercise number resolution target files reply =
     (layer : Cost) × (group : Cost) × Costs IsLayerPlan target layer × Costs IsGroupPlan target group
@@ -225,11 +224,11 @@ OfSession source commands script files reply =
 
 -- ---- the rows
 
--- the most bytes of a trace that is run
+-- the maximum length of a trace to run, in bytes
 abbrev pub run_limit : ℕ
 run_limit = 1073741824
 
--- the most bytes of a trace that is printed
+-- the maximum length of a trace to print, in bytes
 abbrev pub dis_limit : ℕ
 dis_limit = 50000000
 
@@ -247,7 +246,7 @@ abbrev pub profile_of : Round → Profile
 profile_of Full = full_profile
 profile_of Light = light_profile
 
--- what is answered to a row: what it reads is found in the order of its words
+-- the answer to a command: its inputs are read in the order of its arguments
 abbrev pub AnswerOf : Row → Answers
 AnswerOf (check name) = Upon (ModelOf who.Model name) (λ m. IsReply is.Done (legal_line m.resolution (full_count m)))
 AnswerOf (run round source target trace) = AnswerOfRun (profile_of round) source target trace
@@ -265,11 +264,11 @@ AnswerOf (debug source trace script) =
     Upon (TraceOf dis_limit trace) (λ commands.
     Upon (ScriptOf m.resolution script) (OfSession m commands)))
 
--- the words ask for no plans
+-- the arguments request no plans
 abbrev pub AskNoPlan : List (List ℕ) → Type 0
 AskNoPlan words = (row : Row) → IsRow words row → MakesPlans row → ⊥
 
--- the answer to the words
+-- the answer to the arguments
 abbrev pub Answer : List (List ℕ) → Answers
 Answer words files reply =
     (IsInNoRow words × IsReply is.Words words_line files reply)

@@ -1,4 +1,4 @@
--- What a row comes to: a report, and the file that is stored before it is told.
+-- The outcome of a command: a report, and the file to store before it is printed.
 use Rattle.std.specs.Prelude.{◌≡◌, ℕ, ℤ, List, length, Option, Some, None, IfSome, IsSomeAnd, Result, Ok, Err, ⊤}
 use Rattle.nano_spec.specs.declared.commands.Command.{Command}
 use Rattle.nano_spec.specs.Cutting.{AreCommands}
@@ -26,7 +26,7 @@ abbrev pub bytes_by : Message → List ℕ
 bytes_by (message.Line report) = report_line report
 bytes_by (message.Session lines) = lines.items
 
--- a report alone
+-- a report without a file
 abbrev pub alone : Result Report Stop → Result Effect Stop
 alone (Ok report) = Ok (record { message = message.Line report; file = None })
 alone (Err stop) = Err stop
@@ -41,17 +41,17 @@ abbrev pub reply_by : Files → Effect → Reply
 reply_by files effect =
     record { status = status_by effect.message; line = bytes_by effect.message; after = files_with files effect.file }
 
--- the effect stores the spellings of a plan's commands under the name, and tells of its numbers
+-- the effect stores the spellings of a plan's commands under the name, and reports its numbers
 pub record KeepsPlan (name : List ℕ) (commands : List Command) (energy : ℤ) (steps : ℕ) (effect : Effect) : Type 0 where
   pub are_commands : AreCommands commands
   pub told : effect.message ≡ message.Line (Planned energy steps (length commands) (length (spellings commands)))
   pub file : IsSomeAnd effect.file (λ file. (file.name.now ≡ name) × (file.bytes.items ≡ spellings commands))
 
--- what is answered where a file may be stored
+-- the outcome if a file may be stored
 abbrev pub EndsStored : Answers → Option Files → Type 0 → Result Effect Stop → Type 0
 EndsStored answers told rose result = Settles reply_by answers told rose result
 
--- a file that the effect stores has this name, and is stored where the call is done
+-- a file that the effect stores has this name, and is stored only if the call succeeds
 abbrev pub IsFor : Option (List ℕ) → Effect → Type 0
 IsFor name effect = IfSome effect.file (λ file. (name ≡ Some file.name.now) × (status_by effect.message ≡ is.Done))
 
@@ -65,7 +65,7 @@ abbrev pub told_with : Option Files → Option NewFile → Option Files
 told_with told None = told
 told_with told (Some file) = stored told file.name.now file.bytes.items
 
--- a new file was not stored: all others are as they were
+-- a new file was not stored: all others are unchanged
 abbrev pub IsUnstored : Option NewFile → Option Files → Option Files → Type 0
 IsUnstored None old new = new ≡ old
 IsUnstored (Some file) old new = others new file.name.now ≡ others old file.name.now

@@ -1,4 +1,4 @@
--- The lines that are told, each with its line feed (docs/FORMATS.md, "Printed lines").
+-- The printed lines, each with its line feed (docs/FORMATS.md, "Printed lines").
 use Rattle.std.specs.Prelude.{ℕ, ℤ, List, [], ◌∷◌, codes, decimal}
 use Rattle.std.specs.Fmt.{signed_decimal}
 use Rattle.std.specs.List.{concat}
@@ -16,11 +16,11 @@ use Rattle.nanobot_rows.specs.declared.report.Who.TheVariants as who
 
 -- ---- refusals
 
--- the line of words that are in no row of the table
+-- the line of arguments that are no command
 abbrev pub words_line : List ℕ
 words_line = codes "words not understood\n"
 
--- whose model is refused
+-- the role of a refused model
 abbrev pub who_of : Who → List ℕ
 who_of who.Model = codes "model"
 who_of who.Source = codes "source"
@@ -58,18 +58,18 @@ abbrev pub trace_line : NoTrace → List ℕ
 trace_line (BadAt offset) = concat (codes "trace bad at " ∷ decimal offset ∷ codes "\n" ∷ [])
 trace_line (CutAt offset) = concat (codes "trace cut at " ∷ decimal offset ∷ codes "\n" ∷ [])
 
--- the line of a trace with more bytes than that
+-- the line of a trace over a limit in bytes
 abbrev pub trace_long_line : ℕ → List ℕ
 trace_long_line limit = concat (codes "trace longer than " ∷ decimal limit ∷ codes "\n" ∷ [])
 
--- the line of a text, or of a script, of which the line of this number is faulty
+-- the line of a text, or of a script, with this faulty line
 abbrev pub text_line : Fault → ℕ → List ℕ
 text_line line.NotAscii n = concat (codes "text 1 NotAscii line " ∷ decimal n ∷ codes "\n" ∷ [])
 text_line line.UnknownWord n = concat (codes "text 2 UnknownWord line " ∷ decimal n ∷ codes "\n" ∷ [])
 text_line line.Shape n = concat (codes "text 3 Shape line " ∷ decimal n ∷ codes "\n" ∷ [])
 text_line line.Range n = concat (codes "text 4 Range line " ∷ decimal n ∷ codes "\n" ∷ [])
 
--- the line of a text, or of a script, with more bytes than that
+-- the line of a text, or of a script, over a limit in bytes
 abbrev pub text_long_line : ℕ → List ℕ
 text_long_line limit = concat (codes "text longer than " ∷ decimal limit ∷ codes "\n" ∷ [])
 
@@ -82,19 +82,19 @@ group_long_line runs rows =
 abbrev pub unsupported_line : Coord → List ℕ
 unsupported_line at = concat (codes "unsupported at " ∷ printed_place at ∷ codes "\n" ∷ [])
 
--- ---- what was done
+-- ---- success
 
 -- the line of an accepted run
 abbrev pub accepted_line : ℤ → ℕ → List ℕ
 accepted_line energy steps =
     concat (codes "ok energy " ∷ signed_decimal energy ∷ codes " steps " ∷ decimal steps ∷ codes "\n" ∷ [])
 
--- the line of a legal model, of which so many voxels are full
+-- the line of a legal model with `full` full voxels
 abbrev pub legal_line : ℕ → ℕ → List ℕ
 legal_line resolution full =
     concat (codes "legal resolution " ∷ decimal resolution ∷ codes " full " ∷ decimal full ∷ codes "\n" ∷ [])
 
--- the line of a file of so many bytes that has the bytes, or the text, of so many commands
+-- the line of a file: its length in bytes, and the number of commands in its trace or text
 abbrev pub stored_line : ℕ → ℕ → List ℕ
 stored_line commands bytes =
     concat (codes "commands " ∷ decimal commands ∷ codes " bytes " ∷ decimal bytes ∷ codes "\n" ∷ [])
@@ -104,13 +104,13 @@ abbrev pub forged_line : ℕ → ℕ → List ℕ
 forged_line resolution full =
     concat (codes "model resolution " ∷ decimal resolution ∷ codes " full " ∷ decimal full ∷ codes "\n" ∷ [])
 
--- the line of a plan of so many commands, spelled in so many bytes
+-- the line of a plan: its energy, steps, commands, and bytes of its trace
 abbrev pub planned_line : ℤ → ℕ → ℕ → ℕ → List ℕ
 planned_line energy steps commands bytes =
     concat (codes "plan energy " ∷ signed_decimal energy ∷ codes " steps " ∷ decimal steps ∷ codes " commands "
     ∷ decimal commands ∷ codes " bytes " ∷ decimal bytes ∷ codes "\n" ∷ [])
 
--- the line of a forged model: up to what its plans cost, and whole
+-- the line of a forged model: up to the costs of its plans, and whole
 abbrev pub exercised_head : ℕ → ℕ → ℕ → List ℕ
 exercised_head number resolution full =
     concat (codes "exercise number " ∷ decimal number ∷ codes " resolution " ∷ decimal resolution ∷ codes " full "

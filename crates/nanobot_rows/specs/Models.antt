@@ -9,12 +9,12 @@ use Rattle.vox_depot.specs.Files.{Files, content}
 abbrev pub IsModelOf : Files → List ℕ → Matrix → Type 0
 IsModelOf files name m = IsSomeAnd (content files name) (λ bytes. (model bytes ≡ Ok m) × IsLegal m)
 
--- the model of a source or a target: that of its file, or by `None` the empty one of the other's resolution
+-- the model of a source or a target: that of its file, or for `None` the empty one of the other's resolution
 abbrev pub IsSide : Files → Option (List ℕ) → Matrix → Matrix → Type 0
 IsSide files None m other = m ≡ empty other.resolution
 IsSide files (Some name) m other = IsModelOf files name m
 
--- the models of a source and a target, of one resolution
+-- the models of a source and a target, of the same resolution
 pub record AreModels (source target : Option (List ℕ)) (files : Files) (s t : Matrix) : Type 0 where
   pub source_is : IsSide files source s t
   pub target_is : IsSide files target t s

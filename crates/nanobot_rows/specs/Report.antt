@@ -1,4 +1,4 @@
--- What the code tells of a call: the status and the line of each report.
+-- The status and the line of each report.
 use Rattle.std.specs.Prelude.{◌⊎◌, ℕ, List}
 use mathlib.Core.Logic.{inl, inr}
 use Rattle.nano_spec.specs.declared.outcomes.Verdict.{Verdict}

@@ -1,4 +1,4 @@
--- When a run may be fed the next bytes of its trace, and what it makes of them.
+-- When a run may consume the next bytes of its trace, and the effect.
 use Rattle.std.specs.Prelude.{◌≡◌, ℕ, ◌+◌, ◌≤◌, List, ◌++◌, length, take, false}
 use Rattle.nano_spec.specs.declared.commands.Command.{Command}
 use Rattle.nano_spec.specs.declared.system.Profile.{Profile}
@@ -11,13 +11,13 @@ use Rattle.trace_codec.specs.declared.decoder.Fed.TheVariants.{Got, All, Bad}
 use Rattle.nanobot_rows.specs.Reading.{HasRun, RunState}
 use Rattle.nanobot_rows.specs.Touching.{HasPaid}
 
--- a run may be fed the bytes: it stands, and with them its trace is no longer than one that is run
+-- a run may consume the bytes: it is not poisoned, and with them its trace is within the limit
 pub record CanFeed (s : RunState) (bytes : List ℕ) : Type 0 where
   pub offset : s.decoder.offset + length s.decoder.held + length bytes ≤ 1073741824
   pub stands : s.run.spent ≡ false
 
--- a run takes the bytes, with voxels touched so often until it began and until it ended: whatever it was a run of, it
--- is then one of these bytes more, and the work of their commands pays for the touches
+-- a run consumes the bytes, with touches counted from `began` to `ended`: whatever bytes it had consumed, it has now consumed
+-- these too, and the work of their commands pays for the touches
 pub record Takes (old : RunState) (bytes : List ℕ) (new : RunState) (began ended : ℕ) : Type 0 where
   pub run : (source : Matrix) (profile : Profile) (before : List ℕ) → HasRun source profile before old
       → HasRun source profile (before ++ bytes) new
@@ -29,7 +29,7 @@ pub record Takes (old : RunState) (bytes : List ℕ) (new : RunState) (began end
       → old.run.progress.state.matrix.resolution ≡ source.resolution → HasPaid source profile before old start began
       → HasPaid source profile (before ++ bytes) new start ended
 
--- a run takes the first n bytes of a piece, at least one
+-- a run consumes the first n bytes of a piece, at least one
 pub record TakesFront (old : RunState) (piece : List ℕ) (n : ℕ) (new : RunState) (began ended : ℕ) : Type 0 where
   pub some : 1 ≤ n
   pub within : n ≤ length piece
@@ -42,7 +42,7 @@ pub record Gains (old : Course) (command : Command) (new : Course) (began ended 
   pub resolution : new.progress.state.matrix.resolution ≡ old.progress.state.matrix.resolution
   pub touches : Touches old.progress new.progress command began ended
 
--- a runner gets what was cut from the front of so many bytes, of which then n are taken
+-- a runner gets the command cut from the front of `count` bytes, of which then n are consumed
 abbrev pub Gets : Course → Fed → ℕ → ℕ → Course → ℕ → ℕ → Type 0
 Gets old (Got command used) count n new began ended = (n ≡ used) × Gains old command new began ended
 Gets old All count n new began ended = (n ≡ count) × (new ≡ old) × (ended ≡ began)

@@ -1,4 +1,4 @@
--- How often a run touches voxels at most (this project's own: docs/FORMATS.md, "Levels and work").
+-- The bound on a run's touches of voxels (this project's own: docs/FORMATS.md, "Levels and work").
 use Rattle.std.specs.Prelude.{◌≡◌, ℕ, List, ◌++◌, Option, Some, MatchBool, ⊤}
 use Rattle.nano_spec.specs.declared.commands.Command.{Command}
 use Rattle.nano_spec.specs.declared.system.Profile.{Profile}
@@ -15,7 +15,7 @@ use Rattle.nanobot_words.specs.Rows.{Row, run}
 
 -- ---- the bound
 
--- the commands of the longest front of the bytes that is a join of spellings
+-- the commands of the longest prefix of the bytes that is a join of spellings
 abbrev pub AreInFront : List ℕ → List Command → Type 0
 AreInFront bytes commands =
     (rest : List ℕ) × RestOf bytes rest × AreCommands commands × (bytes ≡ spellings commands ++ rest)
@@ -26,15 +26,15 @@ pub record BeginWith (bytes : List ℕ) (commands : List Command) : Type 0 where
   pub rest : List ℕ
   pub bytes_are : bytes ≡ spellings commands ++ rest
 
--- from before to after there are at most a hundred touches for each voxel of the source and for each part of a work: of
--- that of the longest front of the trace, and of that of commands that the trace begins with
+-- from before to after there are at most a hundred touches for each voxel of the source and for each unit of a work: of
+-- that of the longest such prefix of the trace, and of that of commands that the trace begins with
 pub record IsWithinTrace (profile : Profile) (source : Matrix) (bytes : List ℕ) (before after : ℕ) : Type 0 where
   pub longest : (commands : List Command) → AreInFront bytes commands
       → IsWithinWorkOfRun source commands profile before after
   pub given :
       (commands : List Command) × BeginWith bytes commands × IsWithinWorkOfRun source commands profile before after
 
--- the same where files are told, and the trace is one of them
+-- the same if the files are known, and the trace is one of them
 abbrev pub IsWithinFile : Profile → Matrix → Option Files → List ℕ → ℕ → ℕ → Type 0
 IsWithinFile profile source told trace before after =
     (files : Files) (bytes : List ℕ) → told ≡ Some files → content files trace ≡ Some bytes
@@ -45,7 +45,7 @@ abbrev pub IsRunWithin : Profile → Option (List ℕ) → Option (List ℕ) →
 IsRunWithin profile source target trace told before after = (files : Files) (from to : Matrix) → told ≡ Some files
     → AreModels source target files from to → IsWithinFile profile from told trace before after
 
--- the same of a row that runs a trace
+-- the same for a command that runs a trace
 abbrev pub IsRowWithin : Row → Option Files → ℕ → ℕ → Type 0
 IsRowWithin (run round source target trace) told before after =
     IsRunWithin (profile_of round) source target trace told before after
@@ -53,11 +53,11 @@ IsRowWithin row told before after = ⊤
 
 -- ---- a trace that comes in pieces
 
--- the commands that a decoder has given of the bytes
+-- the commands that a decoder has returned of the bytes
 abbrev pub HasGiven : List ℕ → List Command → DecoderState → Type 0
 HasGiven bytes commands decoder = MatchBool decoder.failed (BeginWith bytes commands) (HasTaken bytes commands decoder)
 
--- the touches from start to now are paid for by the work of the commands that were given, with any that follow
+-- the touches from start to now are paid for by the work of the returned commands, with any that follow
 pub record HasPaid (source : Matrix) (profile : Profile) (bytes : List ℕ) (s : RunState) (start now : ℕ) : Type 0 where
   pub commands : List Command
   pub given : HasGiven bytes commands s.decoder

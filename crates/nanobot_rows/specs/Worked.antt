@@ -1,5 +1,4 @@
--- Worked examples of what is told: statuses and lines, limits, and numbers that plans are bounded by (docs/FORMATS.md,
--- "Printed lines").
+-- Worked examples of the output: statuses and lines, limits, and bounds of plans (docs/FORMATS.md, "Printed lines").
 use Rattle.std.specs.Prelude.{◌≡◌, ℕ, ◌+◌, ◌*◌, ◌^◌, ◌<◌, ◌≤◌, pos, negsuc, List, [], ◌∷◌, codes, map, length, Some, None, Ok, Err}
 use Rattle.vox_geom.specs.declared.coordinate.Coord.{Coord}
 use Rattle.vox_geom.specs.Point.{coord}
@@ -32,7 +31,7 @@ use Rattle.nanobot_words.specs.Rows.{debug}
 abbrev pub told : Report → ℕ × List ℕ
 told r = (code_of (status_of r), report_line r)
 
--- what each row tells where it is done, and each refusal
+-- the output of each command if it succeeds, and of each refusal
 pub record WorkedLines : Type 0 where
   pub a_run : told (report.Accepted (pos 1077) 39) ≡ (0, codes "ok energy 1077 steps 39\n")
   pub a_run_that_gains : told (report.Accepted (negsuc 11) 2) ≡ (0, codes "ok energy -12 steps 2\n")
@@ -82,7 +81,7 @@ pub record WorkedStatuses : Type 0 where
   pub exit_statuses : map code_of (is.Done ∷ is.Broken ∷ is.Words ∷ is.Model ∷ is.Trace ∷ is.Depot ∷ is.Sink ∷ is.Memory
       ∷ is.Text ∷ is.Unsupported ∷ []) ≡ numbers_below 10
 
--- how many bytes of a file are read at most
+-- the most bytes read of a file
 pub record WorkedLimits : Type 0 where
   pub of_a_run : run_limit ≡ 2 ^ 30
   pub of_a_printed_trace : dis_limit ≡ 50 * 1000 * 1000
@@ -90,7 +89,7 @@ pub record WorkedLimits : Type 0 where
   pub of_a_script : script_limit ≡ 2 ^ 16
   pub of_a_group_plan : group_limit ≡ 2 ^ 30
 
--- numbers that plans are bounded by
+-- bounds of plans
 pub record WorkedBounds : Type 0 where
   pub strips : (width 2 ≡ 1) × (width 3 ≡ 1) × (width 22 ≡ 1) × (width 23 ≡ 2) × (width 250 ≡ 13)
   pub full_voxels : full_count (voxels_at 3 (coord 1 0 0 ∷ coord 1 0 2 ∷ coord 2 0 0 ∷ [])) ≡ 3
@@ -101,7 +100,7 @@ pub record WorkedBounds : Type 0 where
   pub void_steps :
       (void.most_void_steps 31 ≡ 696) × (void.most_void_steps 32 ≡ 1480) × (void.most_void_steps 250 ≡ 164200)
 
--- what is so long as may be is answered, and a group plan that may be too long is refused with its runs and rows, as is
+-- inputs of the maximum length are answered, and a group plan that may be too long is refused with its runs and rows, as is
 -- a low plan with its unsupported part
 pub record WorkedLengths : Type 0 where
   pub of_a_text : (files : Files) (name bytes : List ℕ) (commands : List Command) → content files name ≡ Some bytes

@@ -22,26 +22,26 @@ use Rattle.plan_choice.specs.Planners.{IsCrewPlan, IsGroupPlan, IsLayerPlan, IsL
 
 -- the files of the examples
 pub record AreWorkedFiles (files : Files) : Type 0 where
-  -- at resolution 3 no voxel, the voxel (1,0,1), and the voxel (0,0,0), which is outside the legal box
+  -- at resolution 3: no voxel, the voxel (1,0,1), and the voxel (0,0,0), which is outside the legal box
   pub nothing : content files (codes "nothing.mdl") ≡ Some empty_3
   pub post : content files (codes "post.mdl") ≡ Some one_voxel
   pub edge : content files (codes "edge.mdl") ≡ Some (hex "03 01 00 00 00")
-  -- at resolution 4 no voxel
+  -- at resolution 4: no voxel
   pub larger : content files (codes "larger.mdl") ≡ Some empty_4
   -- a Halt, and a trace that fills (1,0,1)
   pub halt : content files (codes "halt.nbt") ≡ Some (hex "FF")
   pub build : content files (codes "build.nbt") ≡ Some (hex "14 10 73 14 0E FF")
   pub text : content files (codes "halt.txt") ≡ Some (codes "Halt\n")
-  -- a file of no bytes, and one that is not there
+  -- an empty file, and one that does not exist
   pub blank : content files (codes "blank") ≡ Some []
   pub missing : content files (codes "missing") ≡ None
 
--- over those files the row answers this status and this line, and stores nothing
+-- over those files the command has this status and this line, and stores nothing
 abbrev pub Tells : Row → Status → List ℕ → Type 0
 Tells row status line = (files : Files) → AreWorkedFiles files
     → AnswerOf row files (record { status = status; line = line; after = files })
 
--- over those files the row is done with this line, and stores these bytes as the file of the name
+-- over those files the command succeeds with this line, and stores these bytes as the file of the name
 abbrev pub Makes : Row → List ℕ → List ℕ → List ℕ → Type 0
 Makes row line name bytes = (files : Files) → AreWorkedFiles files
     → AnswerOf row files (record { status = is.Done; line = line; after = with_file files name bytes })
@@ -49,7 +49,7 @@ Makes row line name bytes = (files : Files) → AreWorkedFiles files
 pub record WorkedAnswers : Type 0 where
   pub a_check : Tells (check (codes "nothing.mdl")) is.Done (codes "legal resolution 3 full 0\n")
   pub a_check_of_a_voxel : Tells (check (codes "post.mdl")) is.Done (codes "legal resolution 3 full 1\n")
-  -- a file that is not there has no line
+  -- a missing file has no line
   pub a_check_of_no_file : Tells (check (codes "missing")) is.Depot []
   pub a_check_of_no_bytes : Tells (check (codes "blank")) is.Model (codes "model 1 NoByte\n")
   pub a_check_of_an_illegal_model : Tells (check (codes "edge.mdl")) is.Model (codes "model 6 Border at 0 0 0\n")
@@ -90,20 +90,20 @@ pub record WorkedAnswers : Type 0 where
       (codes "plan energy 101 steps 1 commands 1 bytes 1\n") (codes "new.nbt") (hex "FF")
   pub an_exercise : Tells (exercise 0 1) is.Done
       (codes "exercise number 0 resolution 1 full 0 layer energy 23 steps 1 group energy 23 steps 1\n")
-  -- a script of no lines prints nothing
+  -- a script without lines prints nothing
   pub a_session : Tells (debug (codes "nothing.mdl") (codes "halt.nbt") (codes "blank")) is.Done []
-  -- arguments that are in no row, and that are in one
+  -- arguments that are no command, and arguments that are one
   pub no_arguments : (files : Files) → Answer [] files
       (record { status = is.Words; line = codes "words not understood\n"; after = files })
   pub arguments_of_a_row : (files : Files) → AreWorkedFiles files → Answer (codes "check" ∷ codes "nothing.mdl" ∷ [])
       files (record { status = is.Done; line = codes "legal resolution 3 full 0\n"; after = files })
 
--- the first facts are so of each plan of which the second are
+-- the first facts hold for each plan with the second facts
 abbrev pub Follow : PlanFacts → PlanFacts → Type 0
 Follow Is Are = (source target : Matrix) (commands : List Command) (energy : ℤ) (steps : ℕ)
     → Are source target commands energy steps → Is source target commands energy steps
 
--- what is so of each planner's plans
+-- the facts of each planner's plans
 pub record WorkedFacts : Type 0 where
   pub of_a_layer_plan : Follow IsLayerPlan (facts_of Layer)
   pub of_a_group_plan : Follow IsGroupPlan (facts_of Group)
@@ -121,7 +121,7 @@ pub record WorkedModels : Type 0 where
   pub not_another_model : (files : Files) → AreWorkedFiles files
       → IsSide files (Some (codes "post.mdl")) (empty 3) (empty 3) → ⊥
   pub no_names : (files : Files) (found : Found (Matrix × Matrix)) → ModelsOf None None files found → ⊥
-  -- what has no file is empty, and of the other's resolution
+  -- a side without a file is empty, and of the other's resolution
   pub not_a_full_model : (files : Files) → IsSide files None (voxels_at 3 (coord 1 0 1 ∷ [])) (empty 3) → ⊥
   pub not_of_another_resolution : (files : Files) → IsSide files None (empty 4) (empty 3) → ⊥
 
@@ -142,6 +142,6 @@ pub record WorkedTouching : Type 0 where
   pub of_a_light_run : (files : Files) (before after : ℕ) → AreWorkedFiles files
       → IsRowWithin (run Light None (Some (codes "post.mdl")) (codes "build.nbt")) (Some files) before after
       → IsWithinTrace light_profile (empty 3) (hex "14 10 73 14 0E FF") before after
-  -- of a row that runs no trace nothing is said
+  -- nothing is stated for a command that runs no trace
   pub of_another_row :
       (told : Option Files) (before after : ℕ) → IsRowWithin (check (codes "post.mdl")) told before after

@@ -13,13 +13,13 @@ use trace_codec::decode_all;
 use trace_text::read_text;
 use vox_depot::Depot;
 
-/// The most bytes of a text.
+/// The maximum length of a text in bytes.
 const TEXT_LIMIT: u64 = 1_073_741_824;
 
-/// The most bytes of a trace that is printed.
+/// The maximum length of a trace to print, in bytes.
 const TRACE_LIMIT: u64 = 50_000_000;
 
-/// The commands that the text of a file says. Of a text that is too long no line is read.
+/// Parses the file's text into commands. A text over the limit is refused before any line is parsed.
 pub fn load_text<D: Depot>(alloc: Global, depot: &mut D, name: &str) -> Result<CommandList, Stop>
     requires { D.may_fetch name.now }
     ensures reads { Finds (TextOf name.now) (D.files depot.old)
@@ -34,7 +34,7 @@ pub fn load_text<D: Depot>(alloc: Global, depot: &mut D, name: &str) -> Result<C
     }
 }
 
-/// The commands of the trace of a file. A trace that is too long is refused so also where it has a bad byte.
+/// Decodes the file's trace into commands. A trace over the limit is refused for its length even if it has a bad byte.
 pub fn load_trace<D: Depot>(alloc: Global, depot: &mut D, name: &str) -> Result<CommandList, Stop>
     requires { D.may_fetch name.now }
     ensures reads { Finds (TraceOf dis_limit name.now) (D.files depot.old)

@@ -1,4 +1,4 @@
-//! The row `debug`: a trace, walked as a script says.
+//! The command `debug`: walks a trace by a script.
 ghost use Rattle.std.specs.Prelude.{IfOk, None};
 ghost use Rattle.vox_depot.specs.Causes.{Rose};
 ghost use Rattle.nanobot_words.specs.Rows.{debug as debug_row};
@@ -19,10 +19,10 @@ use std::sync::ledger::Ledger;
 use vox_depot::Depot;
 use vox_geom::Steps;
 
-/// The most bytes of a script.
+/// The maximum length of a script in bytes.
 const SCRIPT_LIMIT: u64 = 65_536;
 
-/// The lines that the script of a file says. Of a script that is too long no line is read.
+/// Parses the file's script into lines. A script over the limit is refused before any line is parsed.
 fn load_script<D: Depot>(
     alloc: Global,
     depot: &mut D,
@@ -44,7 +44,7 @@ fn load_script<D: Depot>(
     }
 }
 
-/// `debug`: the lines of a session over the trace from the source on.
+/// Implements `debug`: returns the lines of a session over the trace, starting at the source.
 pub fn debug<'a, D: Depot, L: Ledger>(
     alloc: Global,
     depot: &mut D,

@@ -1,4 +1,4 @@
-//! What a row comes to.
+//! The outcome of a command: the output, and the file to store first.
 ghost use Rattle.std.specs.Prelude.{◌≡◌, ◌≤◌, OnOk, OnErr, Some};
 ghost use Rattle.vox_depot.specs.Causes.{Rose};
 ghost use Rattle.nanobot_rows.specs.Effects.{IsUnstored, MayKeep, alone, status_by, told_with};
@@ -8,14 +8,14 @@ use crate::status::Status;
 use crate::stop::Stop;
 use vox_depot::{Depot, StoreFault};
 
-/// A file that is to be stored.
+/// A file to store.
 #[derive(Drop)]
 pub struct NewFile<'a> {
     pub name: &'a str,
     pub bytes: Vec<u8>,
 }
 
-/// What is written: the line of a report, or the lines of a debugger's session.
+/// The output: a report's line, or the lines of a debugger session.
 #[derive(Drop)]
 pub enum Message {
     Line(Report),
@@ -23,7 +23,7 @@ pub enum Message {
 }
 
 impl Message {
-    /// The status that is answered with it.
+    /// Returns the status to exit with.
     pub fn status(&self) -> Status
         ensures { result ≡ status_by self.now }
     {
@@ -34,7 +34,7 @@ impl Message {
     }
 }
 
-/// What a row comes to: what is to be written, and the file that is stored before. All memory was taken but that for a report's line.
+/// The outcome of a command: the output, and the file to store before it. All memory is allocated but that for a report's line.
 #[derive(Drop)]
 pub struct Effect<'a> {
     pub message: Message,
@@ -42,7 +42,7 @@ pub struct Effect<'a> {
 }
 
 impl<'a> Effect<'a> {
-    /// A report alone.
+    /// Makes an effect of a report without a file.
     pub fn telling(told: Result<Report, Stop>) -> Result<Effect<'a>, Stop>
         ensures { result ≡ alone told }
     {
@@ -55,7 +55,7 @@ impl<'a> Effect<'a> {
         }
     }
 
-    /// A report and a file.
+    /// Makes an effect of a report and a file.
     pub fn storing(report: Report, name: &'a str, bytes: Vec<u8>) -> Effect<'a>
         ensures { result
             ≡ record { message = Message.Line report; file = Some (record { name = name.entry; bytes = bytes }) } }

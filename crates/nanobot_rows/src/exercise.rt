@@ -1,4 +1,4 @@
-//! The row `exercise`: both plans of a forged model, judged.
+//! The command `exercise`: judges both plans of a forged model.
 ghost use Rattle.std.specs.Prelude.{◌≡◌, ◌≤◌, ℕ, IfOk, None, Option};
 ghost use Rattle.vox_depot.specs.Causes.{Rose};
 ghost use Rattle.vox_depot.specs.Files.{Files};
@@ -24,11 +24,11 @@ use trace_judge::judge;
 use vox_geom::{MOST_R, Memory, Steps};
 use vox_planes::Planes;
 
-/// The most commands that the machine is given at once. No plan of a forged model has more.
+/// The most commands passed to the machine at once. No plan of a forged model has more.
 const MOST_COMMANDS: usize = 1_073_741_824;
 
-/// What an accepted plan from the empty model to a target costs, by the machine; a plan of more commands than it is given at
-/// once is told by its own numbers, which are proved.
+/// Returns the cost, by the machine, of an accepted plan from the empty model to a target.
+/// For a plan of more than [`MOST_COMMANDS`] commands, returns the plan's own numbers, which are proved.
 fn judge_plan<L: Ledger>(
     alloc: Global,
     target: &Planes,
@@ -54,7 +54,7 @@ fn judge_plan<L: Ledger>(
     }
 }
 
-/// The report on the plans of the layer planner and of the group planner that make a forged model of nothing.
+/// Reports the costs of the layer planner's and the group planner's plans that build a forged model.
 fn judge_plans<L: Ledger>(
     alloc: Global,
     number: u32,
@@ -81,7 +81,7 @@ fn judge_plans<L: Ledger>(
     })
 }
 
-/// `exercise`: what the plans of the layer planner and of the group planner cost that make a forged model of nothing.
+/// Implements `exercise`: reports the costs of the layer planner's and the group planner's plans of a forged model.
 pub fn exercise<'a, L: Ledger>(
     alloc: Global,
     number: u32,

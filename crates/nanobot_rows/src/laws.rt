@@ -3,7 +3,7 @@ ghost use Rattle.nanobot_rows.specs.Worked.{WorkedBounds, WorkedLengths, WorkedL
 ghost use Rattle.nanobot_rows.specs.WorkedAnswers.{WorkedAnswers, WorkedFacts, WorkedModels, WorkedTouching};
 
 /// Worked examples of reports: their statuses and lines, the limits of files and the answers within them, and the
-/// numbers that bound plans.
+/// bounds of plans.
 pub fn worked_reports()
     ensures lines { WorkedLines }
     ensures statuses { WorkedStatuses }

@@ -1,5 +1,5 @@
-//! What each row of the table of words comes to (docs/FORMATS.md, "Printed lines"): files are read, and what is to be told and
-//! stored is answered, but nothing is stored or written yet.
+//! Implements each command (docs/FORMATS.md, "Printed lines"): reads its files, and returns the line to print and the file to
+//! store. Nothing is stored or written yet.
 #![tactic(auto)]
 
 mod commands;

@@ -1,4 +1,4 @@
-//! Files that have at most so many bytes.
+//! Files of limited length.
 ghost use Rattle.std.specs.Prelude.{◌≤◌, IfOk, vec_len};
 ghost use Rattle.vox_depot.specs.Causes.{Rose};
 ghost use Rattle.nanobot_rows.specs.Answer.{FileUpTo};
@@ -10,7 +10,7 @@ use crate::stop::Stop;
 use std::alloc::Global;
 use vox_depot::{Depot, load};
 
-/// The bytes of a file, or this report where it has more than the limit. One byte past the limit shows that.
+/// Reads a file, or returns this report if it is over the limit. One byte past the limit is fetched to detect that.
 pub fn load_file<D: Depot>(
     alloc: Global,
     depot: &mut D,

@@ -14,7 +14,7 @@ use std::alloc::{AllocError, Global};
 use trace_text::TextRefusal;
 use vox_geom::Coord;
 
-/// The line of a model with a coordinate that is not as it may be.
+/// Formats the line of a model with a coordinate that breaks a rule.
 fn at_line(alloc: Global, who: &str, refusal: &str, at: Coord) -> Result<String, AllocError>
     ensures { IfOk result
         (λ s. string_bytes s ≡ concat (who.now ∷ refusal.now ∷ place_of at ∷ codes "\n" ∷ [])) }
@@ -23,7 +23,7 @@ fn at_line(alloc: Global, who: &str, refusal: &str, at: Coord) -> Result<String,
     format!(in alloc; "{who}{refusal}{place}\n")
 }
 
-/// The line of a model that was refused.
+/// Formats the line of a refused model.
 pub(crate) fn model_line(
     alloc: Global,
     who: Who,
@@ -49,7 +49,7 @@ pub(crate) fn model_line(
     }
 }
 
-/// The line of a text that was refused.
+/// Formats the line of a refused text.
 pub(crate) fn text_line(alloc: Global, refusal: TextRefusal) -> Result<String, AllocError>
     ensures { IfOk result (λ s. string_bytes s ≡ faulty_text_line (faulty_line refusal)) }
 {
@@ -61,7 +61,7 @@ pub(crate) fn text_line(alloc: Global, refusal: TextRefusal) -> Result<String, A
     }
 }
 
-/// The line of a target with an unsupported part.
+/// Formats the line of a target with an unsupported part.
 pub(crate) fn unsupported_line(alloc: Global, at: Coord) -> Result<String, AllocError>
     ensures { IfOk result (λ s. string_bytes s ≡ unsupported_line_of at) }
 {
@@ -69,7 +69,7 @@ pub(crate) fn unsupported_line(alloc: Global, at: Coord) -> Result<String, Alloc
     format!(in alloc; "unsupported at {place}\n")
 }
 
-/// The line of a forged model up to what its plans cost.
+/// Formats the line of a forged model up to the costs of its plans.
 fn exercised_head(
     alloc: Global,
     number: u32,
@@ -81,7 +81,7 @@ fn exercised_head(
     format!(in alloc; "exercise number {number} resolution {resolution} full {full} layer")
 }
 
-/// The line of a forged model and what its plans cost, by what stands before the costs.
+/// Appends the costs of both plans to the head of a line.
 fn with_costs(alloc: Global, head: &str, layer: Cost, group: Cost) -> Result<String, AllocError>
     ensures { IfOk result (λ s. string_bytes s ≡ exercised_line_of head.now layer group) }
 {
@@ -91,7 +91,7 @@ fn with_costs(alloc: Global, head: &str, layer: Cost, group: Cost) -> Result<Str
     )
 }
 
-/// The line of a forged model and what its plans cost.
+/// Formats the line of a forged model and the costs of its plans.
 pub(crate) fn exercised_line(
     alloc: Global,
     number: u32,
@@ -107,7 +107,7 @@ pub(crate) fn exercised_line(
     with_costs(alloc, head.as_str(), layer, group)
 }
 
-/// The line of a plan.
+/// Formats the line of a plan.
 pub(crate) fn planned_line(
     alloc: Global,
     energy: i64,
@@ -120,7 +120,7 @@ pub(crate) fn planned_line(
     format!(in alloc; "plan energy {energy} steps {steps} commands {commands} bytes {bytes}\n")
 }
 
-/// The line of two models of different resolutions.
+/// Formats the line of two models of different resolutions.
 pub(crate) fn resolutions_line(
     alloc: Global,
     source: u16,
@@ -131,7 +131,7 @@ pub(crate) fn resolutions_line(
     format!(in alloc; "resolutions {source} {target}\n")
 }
 
-/// The line of a plan of the group planner that may be too long.
+/// Formats the line of a plan by the group planner that may be too long.
 pub(crate) fn group_long_line(alloc: Global, runs: u64, rows: u64) -> Result<String, AllocError>
     ensures { IfOk result (λ s. string_bytes s ≡ group_long_line_of runs rows) }
 {

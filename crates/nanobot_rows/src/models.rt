@@ -14,10 +14,10 @@ use std::alloc::Global;
 use vox_depot::{Depot, load};
 use vox_planes::Planes;
 
-/// One byte more than the longest model file has: a longer file is refused by its first bytes as by all.
+/// One byte more than the longest model file: the first bytes of a longer file decide its refusal.
 const MOST_BYTES: u64 = 256_000_008;
 
-/// The legal model of a file.
+/// Reads the legal model of a file.
 pub fn load_model<D: Depot>(
     alloc: Global,
     depot: &mut D,
@@ -41,7 +41,7 @@ pub fn load_model<D: Depot>(
     }
 }
 
-/// The legal models of a source and a target that both have a file, of one resolution.
+/// Reads the legal models of a source and a target, both files, of the same resolution.
 fn load_both<D: Depot>(
     alloc: Global,
     depot: &mut D,
@@ -68,7 +68,8 @@ fn load_both<D: Depot>(
     Ok((source, target))
 }
 
-/// The legal models of a source and a target, of one resolution: what has no file is the empty model of the other's.
+/// Reads the legal models of a source and a target of the same resolution. A side without a file is the empty model of the
+/// other's resolution.
 pub fn load_models<D: Depot>(
     alloc: Global,
     depot: &mut D,

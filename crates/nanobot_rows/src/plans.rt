@@ -1,4 +1,4 @@
-//! The row `plan`: the trace of a planner's plan.
+//! The command `plan`: makes the trace of a planner's plan.
 ghost use Rattle.std.specs.Prelude.{◌≡◌, ◌+◌, ◌<◌, ◌≤◌, IfOk, MatchOption, Some};
 ghost use Rattle.nano_spec.specs.Legal.{IsLegal};
 ghost use Rattle.nano_spec.specs.Matrix.{Matrix};
@@ -32,10 +32,10 @@ use vox_depot::Depot;
 use vox_geom::Memory;
 use vox_planes::Planes;
 
-/// The most bytes of a plan of the group planner.
+/// The maximum length in bytes of a plan by the group planner.
 const GROUP_LIMIT: u64 = 1_073_741_824;
 
-/// The trace of a plan as a file.
+/// Makes the file of a plan's trace, and its report.
 fn keep_plan<'a>(alloc: Global, plan: &Plan, trace: &'a str) -> Result<Effect<'a>, Memory>
     ensures { IfOk result (KeepsPlan trace.now plan.now.commands plan.now.energy plan.now.steps) }
 {
@@ -44,7 +44,7 @@ fn keep_plan<'a>(alloc: Global, plan: &Plan, trace: &'a str) -> Result<Effect<'a
     Ok(Effect::storing(report, trace, bytes))
 }
 
-/// The report on a plan of the group planner that may be too long.
+/// Returns the report on a plan of the group planner that may be too long, if it may.
 fn group_long(source: &Planes, target: &Planes) -> Option<Report>
     requires { source.now.resolution ≡ target.now.resolution }
     ensures { MatchOption result (most_bytes source.now target.now ≤ 1073741824)
@@ -59,7 +59,7 @@ fn group_long(source: &Planes, target: &Planes) -> Option<Report>
     None
 }
 
-/// The plan of two bots, or the report that it may be too long.
+/// Returns the plan of two bots, or the report that it may be too long.
 fn plan_group(alloc: Global, source: &Planes, target: &Planes) -> Result<Plan, Stop>
     requires { AreLegalModels source.now target.now }
     ensures { Plans Planner.Group source.now target.now result }
@@ -71,7 +71,7 @@ fn plan_group(alloc: Global, source: &Planes, target: &Planes) -> Result<Plan, S
     Ok(plan)
 }
 
-/// The plan of one bot under Low, or the report that a part of the target is unsupported.
+/// Returns the plan of one bot under Low, or the report that a part of the target is unsupported.
 fn plan_low(alloc: Global, target: &Planes) -> Result<Plan, Stop>
     requires { IsLegal target.now }
     ensures { (source : Matrix) → Plans Planner.Low source target.now result }
@@ -83,7 +83,7 @@ fn plan_low(alloc: Global, target: &Planes) -> Result<Plan, Stop>
     }
 }
 
-/// The planner's plan from the source to the target, or why there is none.
+/// Returns the planner's plan from the source to the target, or the reason for having none.
 fn choose_plan(
     alloc: Global,
     planner: Planner,
@@ -115,7 +115,7 @@ fn choose_plan(
     }
 }
 
-/// `plan`: the trace of the planner's plan that makes the target of the source.
+/// Implements `plan`: makes the trace of the planner's plan from the source to the target.
 pub fn plan<'a, D: Depot>(
     alloc: Global,
     depot: &mut D,

@@ -1,4 +1,4 @@
-//! What is told of a call.
+//! The reports on a call.
 ghost use Rattle.std.specs.Prelude.{◌≡◌, IfOk, length, string_bytes};
 ghost use Rattle.nanobot_rows.specs.Lines.{who_of};
 ghost use Rattle.nanobot_rows.specs.Report.{of_verdict, report_line, status_of};
@@ -16,7 +16,7 @@ use std::alloc::{AllocError, Global};
 use trace_text::TextRefusal;
 use vox_geom::Coord;
 
-/// Whose model is refused.
+/// The role of a refused model.
 #[derive(Clone, Copy, PartialEq, Eq, Debug)]
 pub enum Who {
     Model,
@@ -24,7 +24,7 @@ pub enum Who {
     Target,
 }
 
-/// What is told of a call whose files could be read: each report has a status and a line.
+/// The report on a call whose files could be read. Each report has a status and a line.
 #[derive(Clone, Copy, PartialEq, Eq, Debug)]
 pub enum Report {
     /// A run was accepted.
@@ -32,22 +32,22 @@ pub enum Report {
         energy: i64,
         steps: u32,
     },
-    /// A model is legal, and so many of its voxels are full.
+    /// A model is legal, and has this many full voxels.
     Legal {
         resolution: u16,
         full: u32,
     },
-    /// A file of so many bytes has the bytes, or the text, of so many commands.
+    /// A file was made; its length in bytes, and the number of commands in its trace or text.
     Stored {
         commands: u64,
         bytes: u64,
     },
-    /// A model was forged, and so many of its voxels are full.
+    /// A model was forged, and has this many full voxels.
     Forged {
         resolution: u16,
         full: u32,
     },
-    /// A plan of so many commands, spelled in so many bytes, is accepted with this energy in so many steps.
+    /// A plan is accepted; its energy, steps, commands, and bytes of its trace.
     Planned {
         energy: i64,
         steps: u32,
@@ -66,34 +66,34 @@ pub enum Report {
         source: u16,
         target: u16,
     },
-    /// What begins at the offset of a trace is no command.
+    /// The bytes at this offset of a trace are no command.
     TraceBad {
         offset: u64,
     },
-    /// A trace ends within the command that begins there.
+    /// A trace ends within the command that begins at this offset.
     TraceCut {
         offset: u64,
     },
-    /// A trace has more bytes than that.
+    /// A trace is longer than the limit in bytes.
     TraceLong {
         limit: u64,
     },
     /// A text was refused.
     Text(TextRefusal),
-    /// A text has more bytes than that.
+    /// A text is longer than the limit in bytes.
     TextLong {
         limit: u64,
     },
-    /// A plan of the group planner may have too many bytes, by so many runs and rows of both models.
+    /// A plan of the group planner may have too many bytes, by the runs and rows of both models.
     GroupLong {
         runs: u64,
         rows: u64,
     },
-    /// A part of the target is unsupported: the least voxel of all such parts.
+    /// A part of the target is unsupported; the least voxel of all such parts.
     Unsupported {
         at: Coord,
     },
-    /// A model was forged, and what both plans of it cost.
+    /// A model was forged; the costs of both plans of it.
     Exercised {
         number: u32,
         resolution: u16,
@@ -111,7 +111,7 @@ pub struct Cost {
 }
 
 impl Who {
-    /// The word of the line.
+    /// Returns the word for the role in a line.
     pub(crate) fn name(self) -> &'static str
         ensures { result.now ≡ who_of self }
     {
@@ -124,7 +124,7 @@ impl Who {
 }
 
 impl Report {
-    /// The report of a verdict.
+    /// Returns the report of a verdict.
     pub fn of_verdict(verdict: Verdict) -> Report
         ensures { result ≡ of_verdict verdict }
     {
@@ -134,7 +134,7 @@ impl Report {
         }
     }
 
-    /// The report on a file that has these bytes, of so many commands.
+    /// Returns the report on a file with these commands and bytes.
     pub fn of_commands(commands: &[Command], bytes: &[u8]) -> Report
         ensures { result ≡ Report.Stored (length commands.now) (length bytes.now) }
     {
@@ -144,7 +144,7 @@ impl Report {
         }
     }
 
-    /// The report on a plan whose commands have these bytes.
+    /// Returns the report on a plan whose commands have these bytes.
     pub fn of_plan(plan: &Plan, bytes: &[u8]) -> Report
         ensures { result ≡ Report.Planned plan.now.energy plan.now.steps (length plan.now.commands) (length bytes.now) }
     {
@@ -156,7 +156,7 @@ impl Report {
         }
     }
 
-    /// The status of the report.
+    /// Returns the status of the report.
     pub fn status(&self) -> Status
         ensures { result ≡ status_of self.now }
     {
@@ -179,7 +179,7 @@ impl Report {
         }
     }
 
-    /// The line of the report.
+    /// Returns the line of the report.
     pub fn line(&self, alloc: Global) -> Result<String, AllocError>
         ensures { IfOk result (λ s. string_bytes s ≡ report_line self.now) }
     {

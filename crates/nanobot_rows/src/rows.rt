@@ -1,4 +1,4 @@
-//! What each row of the table of words asks for.
+//! Implementations of the commands.
 ghost use Rattle.std.specs.Prelude.{◌≡◌, ◌≤◌, ℕ, All, Err, IfOk, Option, Some, None};
 ghost use Rattle.vox_depot.specs.Causes.{Rose};
 ghost use Rattle.vox_depot.specs.Files.{Files};
@@ -30,7 +30,7 @@ use trace_text::print_trace;
 use vox_depot::Depot;
 use vox_geom::{MOST_R, Steps};
 
-/// `check`: the resolution and the number of full voxels of a legal model.
+/// Implements `check`: reports the resolution and the number of full voxels of a legal model.
 fn check<D: Depot, L: Ledger>(
     alloc: Global,
     depot: &mut D,
@@ -49,7 +49,7 @@ fn check<D: Depot, L: Ledger>(
     })
 }
 
-/// The report on a trace from a source to a target, by a profile.
+/// Judges a trace from a source to a target by a profile, and reports the verdict.
 fn judge_run<D: Depot, L: Ledger>(
     alloc: Global,
     depot: &mut D,
@@ -75,7 +75,7 @@ fn judge_run<D: Depot, L: Ledger>(
     run_trace(alloc, depot, trace, source, &target, profile, steps)
 }
 
-/// The profile of a round.
+/// Returns the profile of a round.
 fn profile_of(round: Round) -> Profile
     ensures value { result ≡ profile_of round }
     ensures seeds { result.seeds ≤ 39 }
@@ -86,7 +86,7 @@ fn profile_of(round: Round) -> Profile
     }
 }
 
-/// `run`: the verdict of a trace from a source to a target, in a round.
+/// Implements `run`: reports the verdict on a trace from a source to a target, in a round.
 fn run<'a, D: Depot, L: Ledger>(
     alloc: Global,
     depot: &mut D,
@@ -113,7 +113,7 @@ fn run<'a, D: Depot, L: Ledger>(
     Effect::telling(told)
 }
 
-/// `asm`: the bytes of the commands that a text says.
+/// Implements `asm`: encodes the commands of a text as bytes.
 fn asm<'a, D: Depot>(
     alloc: Global,
     depot: &mut D,
@@ -132,7 +132,7 @@ fn asm<'a, D: Depot>(
     Ok(Effect::storing(report, trace, bytes))
 }
 
-/// `dis`: the text of the commands of a trace.
+/// Implements `dis`: prints the commands of a trace as text.
 fn dis<'a, D: Depot>(
     alloc: Global,
     depot: &mut D,
@@ -151,7 +151,7 @@ fn dis<'a, D: Depot>(
     Ok(Effect::storing(report, text, bytes))
 }
 
-/// `make`: the model that is forged of a number.
+/// Implements `make`: forges the model of a number.
 fn make<'a, L: Ledger>(
     alloc: Global,
     number: u32,
@@ -174,7 +174,7 @@ fn make<'a, L: Ledger>(
     Ok(Effect::storing(report, model, bytes))
 }
 
-/// What a row of the table comes to. Files are read, and none is stored yet.
+/// Executes a command. Reads its files; stores none yet.
 pub fn answer<'a, D: Depot, L: Ledger>(
     alloc: Global,
     row: Row<'a>,

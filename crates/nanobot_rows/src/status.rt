@@ -1,15 +1,15 @@
-//! How a call ended.
+//! Exit statuses.
 ghost use Rattle.std.specs.Prelude.{◌≡◌};
 ghost use Rattle.nanobot_rows.specs.Report.{code_of};
 
-/// How a call ended (docs/FORMATS.md, "Printed lines").
+/// The end of a call (docs/FORMATS.md, "Printed lines").
 #[derive(Clone, Copy, PartialEq, Eq, Debug)]
 pub enum Status {
-    /// The words were done, and their line was printed.
+    /// The command succeeded, and its line was printed.
     Done,
     /// A step broke a rule, or the run does not end in the target.
     Broken,
-    /// The words are in no row of the table.
+    /// The arguments are no command.
     Words,
     /// A model was refused, or two models have different resolutions.
     Model,
@@ -19,7 +19,7 @@ pub enum Status {
     Depot,
     /// The line could not be written.
     Sink,
-    /// There was no memory.
+    /// Out of memory.
     Memory,
     /// A text was refused.
     Text,
@@ -28,7 +28,7 @@ pub enum Status {
 }
 
 impl Status {
-    /// The number of the status, with which the program ends.
+    /// Returns the exit code.
     pub fn code(self) -> u8
         ensures { result ≡ code_of self }
     {

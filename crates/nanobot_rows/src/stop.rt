@@ -1,4 +1,4 @@
-//! Why a call ends before its last report.
+//! The reasons for an early end of a call.
 ghost use Rattle.std.specs.Prelude.{◌≡◌};
 ghost use Rattle.nanobot_rows.specs.declared.stop.Stop.TheVariants as stop;
 ghost use Rattle.nanobot_rows.specs.Reading.{of_fault, of_fetch, of_load, of_text, of_trace};
@@ -11,7 +11,7 @@ use trace_text::TextFault;
 use vox_depot::{FetchFault, LoadFault};
 use vox_geom::Memory;
 
-/// Why a call ends here: something was refused, a file could not be read, or there was no memory.
+/// The reason for an early end of a call: a refusal, an unreadable file, or out of memory.
 #[derive(Clone, Copy, PartialEq, Eq, Debug)]
 pub enum Stop {
     Told(Report),
@@ -20,7 +20,7 @@ pub enum Stop {
 }
 
 impl Stop {
-    /// The stop of a model that was not read or is not legal.
+    /// Returns the stop for a model that was not read or is not legal.
     pub fn of_fault(who: Who, fault: ModelFault) -> Stop
         ensures { result ≡ of_fault who fault }
     {
@@ -30,7 +30,7 @@ impl Stop {
         }
     }
 
-    /// The stop of a text that was not read.
+    /// Returns the stop for a text that was not read.
     pub fn of_text(fault: TextFault) -> Stop
         ensures { result ≡ of_text fault }
     {
@@ -40,7 +40,7 @@ impl Stop {
         }
     }
 
-    /// The stop of a trace that was not decoded.
+    /// Returns the stop for a trace that was not decoded.
     pub fn of_trace(fault: TraceFault) -> Stop
         ensures { result ≡ of_trace fault }
     {

@@ -17,13 +17,13 @@ use vox_depot::Depot;
 use vox_geom::Steps;
 use vox_planes::Planes;
 
-/// The most bytes of a trace that is run.
+/// The maximum length of a trace to run, in bytes.
 const LIMIT: u64 = 1_073_741_824;
 
-/// How much one fetch asks for.
+/// The number of bytes per fetch.
 const PIECE: usize = 65536;
 
-/// What comes of the trace of a file. It is read in pieces to its end, or up to its first byte past the limit.
+/// Runs the trace of a file and returns the report. Reads it in pieces to its end, or up to its first byte past the limit.
 pub fn run_trace<D: Depot, L: Ledger>(
     alloc: Global,
     depot: &mut D,

@@ -1,4 +1,4 @@
-//! A run whose trace comes in pieces.
+//! A run whose trace arrives in pieces.
 ghost use Rattle.std.specs.Prelude.{◌≡◌, ◌+◌, ◌*◌, ◌<◌, ◌≤◌, ℕ, List, [], ◌∷◌, false, length, None, IfOk, OnOk};
 ghost use Rattle.nano_spec.specs.declared.system.Profile.{Profile as ProfileOf};
 ghost use Rattle.nano_spec.specs.Grounded.{FirstUngrounded};
@@ -23,8 +23,8 @@ use trace_judge::{Runner, the_work_pays};
 use vox_geom::{Memory, Steps};
 use vox_planes::Planes;
 
-/// A run whose trace comes in pieces: the commands go to the machine one by one, and none is kept once its step is made.
-/// Decoding goes on after a step was refused.
+/// A run whose trace arrives in pieces: passes the commands to the machine one by one, and drops each once its step is made.
+/// Decoding continues after a step is refused.
 #[derive(Drop)]
 pub struct TraceRun {
     decoder: Decoder,
@@ -43,7 +43,7 @@ impl Model for TraceRun {
 }
 
 impl TraceRun {
-    /// The run before the first byte. At most 91 touches for each voxel.
+    /// Returns the run before the first byte. At most 91 touches for each voxel.
     pub fn start<L: Ledger>(
         alloc: Global,
         source: Planes,
@@ -68,7 +68,7 @@ impl TraceRun {
         })
     }
 
-    /// Takes the next bytes of the trace. The work of their commands pays for the touches.
+    /// Consumes the next bytes of the trace. The work of their commands pays for the touches.
     pub fn feed<L: Ledger>(&mut self, piece: &[u8], steps: &mut Steps<L>) -> Result<(), Memory>
         requires { CanFeed self.old piece.now }
         ensures { OnOk result (Takes self.old piece.now self.new steps.old steps.new) }
@@ -80,7 +80,7 @@ impl TraceRun {
         Ok(())
     }
 
-    /// Takes bytes of the piece, at least one. How many were taken. The run of an only bot has a way of its own.
+    /// Consumes at least one byte of the piece, and returns how many. A single bot has a fast path.
     #[inline(always)]
     fn advance<L: Ledger>(&mut self, piece: &[u8], steps: &mut Steps<L>) -> Result<usize, Memory>
         requires some { 1 ≤ length piece.now }
@@ -94,9 +94,9 @@ impl TraceRun {
         self.next(piece, steps)
     }
 
-    /// Takes the next bytes up to the end of a command, or all of them where none ends there. How many were taken.
+    /// Consumes the bytes up to the end of a command, or all of them if none ends there. Returns how many.
     ///
-    /// The frequent commands of a bot have ways of their own, since the byte that they begin with is a constant there.
+    /// Frequent commands have fast paths, in which the first byte is a constant.
     #[inline(always)]
     fn next<L: Ledger>(&mut self, piece: &[u8], steps: &mut Steps<L>) -> Result<usize, Memory>
         requires some { 1 ≤ length piece.now }
@@ -119,7 +119,7 @@ impl TraceRun {
         }
     }
 
-    /// The same where a command begins, with this byte.
+    /// Does the same if a command begins with this byte.
     #[inline(always)]
     fn take_from<L: Ledger>(
         &mut self,
@@ -138,7 +138,7 @@ impl TraceRun {
         push(&mut self.runner, fed, piece.len(), steps)
     }
 
-    /// The same wherever the piece begins.
+    /// Does the same from any state of the decoder.
     #[inline(never)]
     fn take<L: Ledger>(&mut self, piece: &[u8], steps: &mut Steps<L>) -> Result<usize, Memory>
         requires some { 1 ≤ length piece.now }
@@ -151,7 +151,7 @@ impl TraceRun {
         push(&mut self.runner, fed, piece.len(), steps)
     }
 
-    /// The report on the trace, where no more bytes come. At most two touches for each voxel.
+    /// Returns the report on the complete trace. At most two touches for each voxel.
     pub fn finish<L: Ledger>(self, target: &Planes, steps: &mut Steps<L>) -> Report
         requires stands { self.run.spent ≡ false }
         requires resolution { self.run.progress.state.matrix.resolution ≡ target.now.resolution }
@@ -169,7 +169,7 @@ impl TraceRun {
     }
 }
 
-/// The runner gets the command that was cut from the front of so many bytes, where there is one. How many of them are taken then.
+/// Passes the command cut from the front of `count` bytes to the runner, if there is one, and returns how many it consumed.
 #[inline(always)]
 fn push<L: Ledger>(
     runner: &mut Runner,

@@ -1,4 +1,4 @@
--- The row of the words is one.
+-- Arguments are at most one command.
 use Rattle.std.proofs.Common.{◌≡◌, ℕ, List, [], ◌∷◌, Option, codes, decimal, refl, arith, sym, ap, ◌∙◌, subst}
 use Rattle.std.specs.Str.{bytes_eq}
 use Rattle.std.specs.Prelude.{All, IsFalse, IsTrue}

@@ -1,4 +1,4 @@
--- The bytes of words that a slice pattern took.
+-- The bytes of words matched by a slice pattern.
 use Rattle.std.proofs.Common.{◌≡◌, ◌<◌, ◌≤◌, ◌∙◌, ℕ, zero, suc, List, [], ◌∷◌, length, get_or, String, string_bytes, codes, false, refl, sym, ap, subst, arith}
 use Rattle.std.specs.Prelude.{All, IsFalse, IsTrue, Option, Some, None}
 use Rattle.std.specs.Str.{bytes_eq}
@@ -21,7 +21,7 @@ module _ {Y : Type 0} where
 
 -- ---- a source and a target
 
--- a side whose word is that of another is the same, where none has the name `-`
+-- a side whose word is that of another is the same, if none has the name `-`
 pub same_side : (s u : Option (List ℕ)) → ((name : List ℕ) → s ≡ Some name → IsName name)
     → ((name : List ℕ) → u ≡ Some name → IsName name) → side_word s ≡ side_word u → s ≡ u
 same_side None None hs hu e = refl
@@ -82,7 +82,7 @@ trace_last (Some x) None b h = swapped b x h
 trace_last None (Some y) b h = swapped b y h
 trace_last (Some x) (Some y) b h = to_the_end x y b h
 
--- ---- the words of rows
+-- ---- the words of commands
 
 -- a planner whose word is that of another is the same
 other_words : (a b : List ℕ) → IsTrue (bytes_eq a a) → IsFalse (bytes_eq a b) → a ≡ b → ⊥
@@ -97,7 +97,7 @@ same_planner Low Low e = refl
 same_planner Swarm Swarm e = refl
 same_planner p q e = absurd (other_words (planner_word p) (planner_word q) refl refl e)
 
--- the words of a run in the full round say its source, target and trace
+-- the words of a run in the full round are its source, target and trace
 module _ (words : List (List ℕ)) (w x y z : List ℕ) (are : words ≡ w ∷ x ∷ y ∷ z ∷ []) (s t : Option (List ℕ)) (b : List ℕ) (row : IsRow words (run Full s t b)) where
   same_words : w ∷ x ∷ y ∷ z ∷ [] ≡ codes "run" ∷ side_word s ∷ side_word t ∷ b ∷ []
   same_words = sym are ∙ row.written
@@ -130,7 +130,7 @@ module _ (words : List (List ℕ)) (f g x y z : List ℕ) (are : words ≡ f ∷
       of_table = takes_a_name p s t row.of_table;
     }
 
-    -- the planner takes the sides that were found
+    -- the planner accepts the sides that were found
     pub plan_takes : (q : Planner) (u v : Option (List ℕ)) → planner_word q ≡ g → AreOperands x y z u v z
         → TakesSides q u v
     plan_takes q u v word found =
@@ -140,7 +140,7 @@ module _ (words : List (List ℕ)) (f g x y z : List ℕ) (are : words ≡ f ∷
         subst (λ (planner : Planner). TakesSides planner u v) (same_planner p q (planned_word ∙ sym word))
         (subst (λ (side : Option (List ℕ)). TakesSides p side v) same_source (subst (λ (side : Option (List ℕ)). TakesSides p s side) same_target row.of_table))
 
--- a source, a target and a trace that were found behind a planner's word make the words of a plan
+-- a source, a target and a trace after a planner's word are the words of a plan
 pub plan_written : (words : List (List ℕ)) (f g x y z : List ℕ) (p : Planner) (s t : Option (List ℕ))
     → words ≡ f ∷ g ∷ x ∷ y ∷ z ∷ [] → f ≡ codes "plan" → planner_word p ≡ g → AreOperands x y z s t z
     → words ≡ row_words (plan p s t z)

@@ -1,10 +1,10 @@
--- The sides that planners take.
+-- The sides that planners accept.
 use Rattle.std.specs.Prelude.{ℕ, List, Option, Some, None}
 use Rattle.nanobot_words.specs.declared.planner.Planner.{Planner}
 use Rattle.nanobot_words.specs.declared.planner.Planner.TheVariants.{Layer, Group, Crew, Void, Low, Swarm}
 use Rattle.nanobot_words.specs.Rows.{HasName, TakesSides}
 
--- a planner takes one side at least that is the file of a name
+-- a planner accepts at least one side that is a named file
 pub takes_a_name : (p : Planner) (s t : Option (List ℕ)) → TakesSides p s t → HasName s t
 takes_a_name Layer s t h = h
 takes_a_name Group s t h = h

@@ -1,4 +1,4 @@
--- The row that a value of the code stands for.
+-- The command that a value of the code represents.
 use Rattle.std.specs.Prelude.{ℕ, List, Option, Some, None}
 use Rattle.nanobot_words.specs.declared.row.Row as code
 use Rattle.nanobot_words.specs.declared.row.Row.TheVariants.{Asm, Check, Debug, Dis, Exercise, Make, Plan, Run}

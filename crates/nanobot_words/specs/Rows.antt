@@ -106,7 +106,7 @@ IsOfTable (plan planner source target trace) = TakesSides planner source target
 IsOfTable (exercise number resolution) = CanForge number resolution
 IsOfTable row = ⊤
 
--- the row asks for plans, of which any may be made that is as it should be
+-- the command makes a plan, and any plan with the required facts may be made
 abbrev pub MakesPlans : Row → Type 0
 MakesPlans (plan planner source target trace) = ⊤
 MakesPlans (exercise number resolution) = ⊤
@@ -130,13 +130,13 @@ pub record IsRunOf (words : List (List ℕ)) (source target : Option (List ℕ))
   pub named : All IsName (with_side source (with_side target (trace ∷ [])))
   pub of_table : HasName source target
 
--- the words are written as this row
+-- the arguments are those of this command
 pub record IsRow (words : List (List ℕ)) (row : Row) : Type 0 where
   pub written : words ≡ row_words row
   pub named : All IsName (names_of row)
   pub of_table : IsOfTable row
 
--- the words are in no row of the table
+-- the arguments are no command
 abbrev pub IsInNoRow : List (List ℕ) → Type 0
 IsInNoRow words = (row : Row) → IsRow words row → ⊥
 
@@ -144,10 +144,10 @@ IsInNoRow words = (row : Row) → IsRow words row → ⊥
 abbrev pub texts : {Y : Type 0} → List (String Y) → List (List ℕ)
 texts words = map string_bytes words
 
--- each name that the row of the words reads may be fetched
+-- each name that the command reads may be fetched
 abbrev pub MayRead : (List ℕ → Type 0) → List (List ℕ) → Type 0
 MayRead may_fetch words = (row : Row) → IsRow words row → All may_fetch (reads_of row)
 
--- the name that the row of the words stores may be stored
+-- the name that the command stores may be stored
 abbrev pub MayStore : (List ℕ → Type 0) → List (List ℕ) → Type 0
 MayStore may_store words = (row : Row) (name : List ℕ) → IsRow words row → stores_of row ≡ Some name → may_store name

@@ -50,7 +50,7 @@ pub record WorkedFiles : Type 0 where
   pub a_forged_model_is_stored : stores_of (make 7 20 (codes "m")) ≡ Some (codes "m")
   pub a_session_stores_nothing : stores_of (debug (codes "s") (codes "b") (codes "x")) ≡ None
 
--- the sides that planners take
+-- the sides that planners accept
 pub record WorkedSides : Type 0 where
   pub from_a_source : TakesSides Layer (Some (codes "s")) None
   pub to_a_target : TakesSides Group None (Some (codes "t"))

@@ -1,4 +1,4 @@
-//! The rows of named files: `check`, `asm`, `dis` and `debug`.
+//! Parses the commands of named files: `check`, `asm`, `dis` and `debug`.
 ghost use Rattle.std.specs.Prelude.{◌≡◌, ℕ, List, [], ◌∷◌, MatchOption};
 ghost use Rattle.nanobot_words.specs.Rows.{asm, check, debug, dis, IsName, IsRow, texts};
 ghost use Rattle.nanobot_words.specs.Parsing.{row_of};
@@ -7,7 +7,7 @@ use crate::row::Row;
 use crate::several::{four, three};
 use crate::word::is_name;
 
-/// The model after `check`.
+/// Returns the model after `check`.
 pub(crate) fn parse_check(words: &[String]) -> Option<&str>
     ensures { MatchOption result ((model : List ℕ) → IsRow (texts words.now) (check model) → ⊥)
         (λ model. IsRow (texts words.now) (check model.now)) }
@@ -20,7 +20,7 @@ pub(crate) fn parse_check(words: &[String]) -> Option<&str>
     None
 }
 
-/// The two names behind a word, where the words are three and the first is that word.
+/// Returns the two names after a word, if there are three arguments and the first is that word.
 fn parse_names<'a>(words: &'a [String], word: &str) -> Option<(&'a str, &'a str)>
     ensures { MatchOption result ((a b : List ℕ) → texts words.now ≡ word.now ∷ a ∷ b ∷ [] → IsName a → IsName b → ⊥)
         (λ names. (texts words.now ≡ word.now ∷ names.0.now ∷ names.1.now ∷ []) × IsName names.0.now × IsName
@@ -39,7 +39,7 @@ fn parse_names<'a>(words: &'a [String], word: &str) -> Option<(&'a str, &'a str)
     Some((a, b))
 }
 
-/// The text and the trace after `asm`.
+/// Returns the text and the trace after `asm`.
 pub(crate) fn parse_asm(words: &[String]) -> Option<Row<'_>>
     ensures { MatchOption result ((x b : List ℕ) → IsRow (texts words.now) (asm x b) → ⊥)
         (λ row. IsRow (texts words.now) (row_of row)) }
@@ -48,7 +48,7 @@ pub(crate) fn parse_asm(words: &[String]) -> Option<Row<'_>>
     Some(Row::Asm { text, trace })
 }
 
-/// The trace and the text after `dis`.
+/// Returns the trace and the text after `dis`.
 pub(crate) fn parse_dis(words: &[String]) -> Option<Row<'_>>
     ensures { MatchOption result ((b x : List ℕ) → IsRow (texts words.now) (dis b x) → ⊥)
         (λ row. IsRow (texts words.now) (row_of row)) }
@@ -57,7 +57,7 @@ pub(crate) fn parse_dis(words: &[String]) -> Option<Row<'_>>
     Some(Row::Dis { trace, text })
 }
 
-/// The source, the trace and the script after `debug`.
+/// Returns the source, the trace and the script after `debug`.
 pub(crate) fn parse_debug(words: &[String]) -> Option<Row<'_>>
     ensures { MatchOption result ((s b x : List ℕ) → IsRow (texts words.now) (debug s b x) → ⊥)
         (λ row. IsRow (texts words.now) (row_of row)) }

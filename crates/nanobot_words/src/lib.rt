@@ -1,4 +1,4 @@
-//! The table of words: which row the words of the command line are in (docs/FORMATS.md, "Printed lines"). Nothing takes memory.
+//! The command table: parses the arguments of the command line (docs/FORMATS.md, "Printed lines"). Nothing allocates.
 #![tactic(auto)]
 
 mod files;

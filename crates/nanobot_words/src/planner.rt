@@ -5,7 +5,7 @@ ghost use Rattle.nanobot_words.specs.Rows.{HasName, HasOnly, TakesSides};
 
 use crate::row::Side;
 
-/// Who plans. What is so of each one's plans stands in `plan_choice`.
+/// A planner. `plan_choice` has the facts of each one's plans.
 #[derive(Clone, Copy, PartialEq, Eq, Debug)]
 pub enum Planner {
     /// One bot, from any model to any other.
@@ -22,7 +22,7 @@ pub enum Planner {
     Swarm,
 }
 
-/// Whether one of the two is the file of a name.
+/// Returns whether one of the two sides is a named file.
 pub(crate) fn has_name(source: Side<'_>, target: Side<'_>) -> bool
     ensures { IsTrue result ↔ HasName (side_of source.entry) (side_of target.entry) }
 {
@@ -32,7 +32,7 @@ pub(crate) fn has_name(source: Side<'_>, target: Side<'_>) -> bool
     }
 }
 
-/// Whether the first of the two alone is the file of a name.
+/// Returns whether only the first of the two sides is a named file.
 fn has_only(side: Side<'_>, other: Side<'_>) -> bool
     ensures { IsTrue result ↔ HasOnly (side_of side.entry) (side_of other.entry) }
 {
@@ -43,7 +43,7 @@ fn has_only(side: Side<'_>, other: Side<'_>) -> bool
 }
 
 impl Planner {
-    /// Whether it plans between these sides.
+    /// Returns whether it plans between these sides.
     pub(crate) fn takes(self, source: Side<'_>, target: Side<'_>) -> bool
         ensures { IsTrue result ↔ TakesSides self (side_of source.entry) (side_of target.entry) }
     {

@@ -1,14 +1,14 @@
-//! The rows of the table of words.
+//! The commands.
 use crate::planner::Planner;
 
-/// A source or a target: the file of a name, or the empty model of the other's resolution.
+/// A source or a target: a named file, or the empty model of the other's resolution.
 #[derive(Clone, Copy)]
 pub enum Side<'a> {
     Empty,
     Named(&'a str),
 }
 
-/// By which profile a run is judged.
+/// The profile of a run.
 #[derive(Clone, Copy, PartialEq, Eq, Debug)]
 pub enum Round {
     /// The full round of the contest.
@@ -17,49 +17,49 @@ pub enum Round {
     Light,
 }
 
-/// What the words ask for.
+/// A command.
 #[derive(Clone, Copy)]
 pub enum Row<'a> {
-    /// Is the model legal?
+    /// Checks whether the model is legal.
     Check {
         model: &'a str,
     },
-    /// What comes of the trace from the source to the target, in the round?
+    /// Judges the trace from the source to the target, in the round.
     Run {
         round: Round,
         source: Side<'a>,
         target: Side<'a>,
         trace: &'a str,
     },
-    /// The bytes of the commands that the text says, as a file.
+    /// Stores the bytes of the text's commands.
     Asm {
         text: &'a str,
         trace: &'a str,
     },
-    /// The text of the commands of the trace, as a file.
+    /// Stores the text of the trace's commands.
     Dis {
         trace: &'a str,
         text: &'a str,
     },
-    /// The model that is forged of a number, as a file.
+    /// Stores the model forged of a number.
     Make {
         number: u32,
         resolution: u16,
         model: &'a str,
     },
-    /// The trace of the planner's plan from the source to the target, as a file.
+    /// Stores the trace of the planner's plan from the source to the target.
     Plan {
         planner: Planner,
         source: Side<'a>,
         target: Side<'a>,
         trace: &'a str,
     },
-    /// What the layer planner's and the group planner's plans of a forged model come to.
+    /// Reports the costs of the layer planner's and the group planner's plans of a forged model.
     Exercise {
         number: u32,
         resolution: u16,
     },
-    /// The trace from the source, walked as the script says.
+    /// Walks the trace from the source by the script.
     Debug {
         source: &'a str,
         trace: &'a str,

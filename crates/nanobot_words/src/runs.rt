@@ -1,4 +1,4 @@
-//! The rows between a source and a target: `run` and `plan`.
+//! Parses the commands between a source and a target: `run` and `plan`.
 ghost use Rattle.std.specs.Prelude.{ℕ, List, Option, MatchOption};
 ghost use Rattle.nanobot_words.specs.Rows.{plan, run, AreOperands, IsRow, texts};
 ghost use Rattle.nanobot_words.specs.declared.planner.Planner.{Planner as PlannerOf};
@@ -10,7 +10,7 @@ use crate::row::{Round, Row, Side};
 use crate::several::{five, four};
 use crate::word::{is_name, parse_planner, parse_side};
 
-/// The source and the target of two words, where a third is the name of a trace and one of the two is the file of a name.
+/// Returns the source and the target of two arguments, if the third is the name of a trace and one of the two is a named file.
 fn parse_sides<'a>(source: &'a str, target: &'a str, trace: &str) -> Option<(Side<'a>, Side<'a>)>
     ensures { MatchOption result
         ((s t : Option (List ℕ)) (b : List ℕ) → AreOperands source.now target.now trace.now s t b → ⊥)
@@ -27,7 +27,7 @@ fn parse_sides<'a>(source: &'a str, target: &'a str, trace: &str) -> Option<(Sid
     Some((first, second))
 }
 
-/// The source, the target and the trace after `run`.
+/// Returns the source, the target and the trace after `run`.
 fn parse_full(words: &[String]) -> Option<Row<'_>>
     ensures { MatchOption result
         ((s t : Option (List ℕ)) (b : List ℕ) → IsRow (texts words.now) (run Round.Full s t b) → ⊥)
@@ -46,7 +46,7 @@ fn parse_full(words: &[String]) -> Option<Row<'_>>
     })
 }
 
-/// The source, the target and the trace after `run light`.
+/// Returns the source, the target and the trace after `run light`.
 fn parse_light(words: &[String]) -> Option<Row<'_>>
     ensures { MatchOption result
         ((s t : Option (List ℕ)) (b : List ℕ) → IsRow (texts words.now) (run Round.Light s t b) → ⊥)
@@ -68,7 +68,7 @@ fn parse_light(words: &[String]) -> Option<Row<'_>>
     })
 }
 
-/// The round, the source, the target and the trace of a run.
+/// Returns the round, the source, the target and the trace of a run.
 pub(crate) fn parse_run(words: &[String]) -> Option<Row<'_>>
     ensures { MatchOption result
         ((round : RoundOf) (s t : Option (List ℕ)) (b : List ℕ) → IsRow (texts words.now) (run round s t b) → ⊥)
@@ -80,7 +80,7 @@ pub(crate) fn parse_run(words: &[String]) -> Option<Row<'_>>
     parse_light(words)
 }
 
-/// The planner, the source, the target and the trace after `plan`.
+/// Returns the planner, the source, the target and the trace after `plan`.
 pub(crate) fn parse_plan(words: &[String]) -> Option<Row<'_>>
     ensures { MatchOption result
         ((planner : PlannerOf) (s t : Option (List ℕ)) (b : List ℕ) → IsRow (texts words.now) (plan planner s t b) → ⊥)

@@ -1,8 +1,8 @@
-//! Words that are three, four or five.
+//! Splits three, four or five arguments.
 ghost use Rattle.std.specs.Prelude.{◌≡◌, ℕ, List, [], ◌∷◌, MatchOption};
 ghost use Rattle.nanobot_words.specs.Rows.{texts};
 
-/// The words, where they are three.
+/// Returns the arguments, if there are three.
 pub(crate) fn three(words: &[String]) -> Option<(&str, &str, &str)>
     ensures { MatchOption result ((a b c : List ℕ) → texts words.now ≡ a ∷ b ∷ c ∷ [] → ⊥)
         (λ r. texts words.now ≡ r.0.now ∷ r.1.now ∷ r.2.now ∷ []) }
@@ -13,7 +13,7 @@ pub(crate) fn three(words: &[String]) -> Option<(&str, &str, &str)>
     }
 }
 
-/// The words, where they are four.
+/// Returns the arguments, if there are four.
 pub(crate) fn four(words: &[String]) -> Option<(&str, &str, &str, &str)>
     ensures { MatchOption result ((a b c d : List ℕ) → texts words.now ≡ a ∷ b ∷ c ∷ d ∷ [] → ⊥)
         (λ r. texts words.now ≡ r.0.now ∷ r.1.now ∷ r.2.now ∷ r.3.now ∷ []) }
@@ -24,7 +24,7 @@ pub(crate) fn four(words: &[String]) -> Option<(&str, &str, &str, &str)>
     }
 }
 
-/// The words, where they are five.
+/// Returns the arguments, if there are five.
 pub(crate) fn five(words: &[String]) -> Option<(&str, &str, &str, &str, &str)>
     ensures { MatchOption result ((a b c d e : List ℕ) → texts words.now ≡ a ∷ b ∷ c ∷ d ∷ e ∷ [] → ⊥)
         (λ r. texts words.now ≡ r.0.now ∷ r.1.now ∷ r.2.now ∷ r.3.now ∷ r.4.now ∷ []) }

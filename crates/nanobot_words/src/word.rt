@@ -1,4 +1,4 @@
-//! What one word says: a name, a side, a number, a planner.
+//! Parses one argument: a name, a side, a number, a planner.
 ghost use Rattle.std.specs.Prelude.{◌≡◌, ◌↔◌, ◌<◌, ◌≤◌, ◌^◌, ℕ, List, Option, IsTrue, MatchOption, decimal};
 ghost use Rattle.nanobot_words.specs.Rows.{planner_word, side_word, IsName};
 ghost use Rattle.nanobot_words.specs.declared.planner.Planner.{Planner as PlannerOf};
@@ -9,14 +9,14 @@ use crate::row::Side;
 use itoa::Buffer;
 use vox_geom::MOST_R;
 
-/// Whether the word can be the name of a file.
+/// Returns whether the argument can be the name of a file.
 pub(crate) fn is_name(word: &str) -> bool
     ensures { IsTrue result ↔ IsName word.now }
 {
     word != "-"
 }
 
-/// The source or the target of a word.
+/// Returns the source or the target of an argument.
 pub(crate) fn parse_side(word: &str) -> Side<'_>
     ensures value { side_word (side_of result) ≡ word.now }
     ensures name { (name : List ℕ) → side_of result ≡ Option.Some name → IsName name }
@@ -28,7 +28,7 @@ pub(crate) fn parse_side(word: &str) -> Side<'_>
     }
 }
 
-/// The number that the word has in decimal digits, without sign or leading zero.
+/// Returns the number of an argument in decimal digits, without sign or leading zero.
 pub(crate) fn parse_number(word: &str) -> Option<u32>
     ensures { MatchOption result ((n : ℕ) → n < 2 ^ 32 → word.now ≡ decimal n → ⊥) (λ n. word.now ≡ decimal n) }
 {
@@ -42,7 +42,7 @@ pub(crate) fn parse_number(word: &str) -> Option<u32>
     Some(number)
 }
 
-/// The resolution of a model that the word has in decimal digits, without sign or leading zero.
+/// Returns the resolution of a model of an argument in decimal digits, without sign or leading zero.
 pub(crate) fn parse_resolution(word: &str) -> Option<u16>
     ensures { MatchOption result ((r : ℕ) → 1 ≤ r → r ≤ MOST_R → word.now ≡ decimal r → ⊥)
         (λ r. (word.now ≡ decimal r) × (1 ≤ r) × (r ≤ MOST_R)) }
@@ -57,7 +57,7 @@ pub(crate) fn parse_resolution(word: &str) -> Option<u16>
     Some(number as u16)
 }
 
-/// The planner of a word.
+/// Returns the planner of an argument.
 pub(crate) fn parse_planner(word: &str) -> Option<Planner>
     ensures { MatchOption result ((planner : PlannerOf) → planner_word planner ≡ word.now → ⊥)
         (λ planner. planner_word planner ≡ word.now) }

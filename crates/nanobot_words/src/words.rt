@@ -1,4 +1,4 @@
-//! The row of the words.
+//! Parses the arguments.
 ghost use Rattle.std.specs.Prelude.{MatchOption};
 ghost use Rattle.nanobot_words.specs.Rows.{IsInNoRow, IsRow, texts};
 ghost use Rattle.nanobot_words.specs.Parsing.{row_of};
@@ -8,7 +8,7 @@ use crate::forged::{parse_exercise, parse_make};
 use crate::row::Row;
 use crate::runs::{parse_plan, parse_run};
 
-/// The row of the words.
+/// Returns the command given by the arguments.
 pub fn parse(words: &[String]) -> Option<Row<'_>>
     ensures { MatchOption result (IsInNoRow (texts words.now)) (λ row. IsRow (texts words.now) (row_of row)) }
 {

@@ -1,4 +1,4 @@
--- What a tape is after its only bot went somewhere.
+-- A tape after a move of its only bot.
 use Rattle.std.proofs.Common.{◌≡◌, ℕ, zero, suc, ◌+◌, ◌*◌, ◌≤◌, refl, sym, ◌∙◌, ap, subst, arith, List, [], ◌∷◌, ◌++◌, Bool, true, false, cond, length, get_or, ◌==◌}
 use Rattle.std.specs.Prelude.{All, ℤ, pos, ◌+ℤ◌, IfSome, Some, None}
 use Rattle.std.proofs.lemmas.Int.{ints}
@@ -30,7 +30,7 @@ free_one [] now c d l e = absurd (omega arith)
 free_one (b ∷ []) now c d l e = rw e (free_for b (stands_at c b))
 free_one (a ∷ b ∷ bots) now c d l e = absurd (omega arith)
 
--- what holds of the bots after the only one moved
+-- a property of the bots after the only one moved
 pub moved_one : (P : List Bot → Type 0) (bots now : List Bot) (c : Coord) (d : Bot) → length bots ≡ 1 → now ≡ bots
     → IfSome (bot_of bots (get_or now 0 d).bid)
     (λ (b : Bot). P (replaced bots ((get_or now 0 d).bid ∷ []) (moved b (point c) ∷ []))) → P (bots_at bots c)
@@ -50,7 +50,7 @@ moved_one P (a ∷ b ∷ bots) now c d l e h = absurd (omega arith)
 
 -- ---- the tape
 
--- the tape now, of which moves to a coordinate were written
+-- the tape now, after moves to a coordinate
 pub record Comes (old now : TapeState) (to : Coord) : Type 0 where
   pub reached : IsReached now
   pub moves : Moves old now to
@@ -73,7 +73,7 @@ placed_at r (b ∷ []) c l i = one
     one (suc k) d m = absurd (omega arith)
 placed_at r (a ∷ b ∷ bots) c l i = absurd (omega arith)
 
--- where the only bot is is in space
+-- the position of the only bot is in space
 spot_placed : (p : TapeState) → IsReached p → length p.bots ≡ 1 → IsInSpace p.matrix.resolution (spot p.bots)
 spot_placed p r l = by p.bots l r.placed
   where

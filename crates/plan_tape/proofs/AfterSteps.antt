@@ -1,4 +1,4 @@
--- What a tape is after a step of all bots.
+-- A tape after a step of all bots.
 use Rattle.std.proofs.Common.{◌≡◌, ℕ, ◌+◌, ◌≤◌, ◌<◌, refl, sym, ◌∙◌, ap, subst, arith, List, ◌++◌, length}
 use Rattle.std.specs.Prelude.{All, ℤ, pos, ◌+ℤ◌, ◌<ℤ◌, None}
 use Rattle.std.proofs.lemmas.Int.{ints}
@@ -37,7 +37,7 @@ pub record IsAfter (s : State) (k : List Command) (t : State) : Type 0 where
   pub rises : t.energy <ℤ (s.energy +ℤ pos 3000000000)
   pub falls : s.energy <ℤ (t.energy +ℤ pos 3000000000)
 
--- the tape now, on which the commands of a step of all bots were written
+-- the tape now, after the commands of a step of all bots
 pub record Takes (old now : TapeState) (k : List Command) : Type 0 where
   pub reached : IsReached now
   pub value : now ≡ tape_stepped old k
@@ -75,7 +75,7 @@ pub step_takes : (inside old : TapeState) → inside ≡ old → IsReached insid
 step_takes inside old e r k commands t = subst (λ (o : TapeState). 1 ≤ length o.bots → length k ≡ length o.bots → broken (state_of o) k (o.steps + 1) ≡ None → IsHeld (tape_stepped o k).harmonics (tape_stepped o k).matrix → o.steps < 1073741824 → commands ≡ inside.commands ++ k → IsAfter (state_of inside) k t → Takes o (progress_of inside.source commands t (inside.steps + 1)) k) e
     (λ some l b held few ec a. takes inside k commands t r some l b held few ec a)
 
--- how many bytes the commands have then
+-- the number of bytes of the commands then
 pub bytes_stepped : (old now : TapeState) (k : List Command) → now ≡ tape_stepped old k
     → bytes now ≡ bytes old + length (spellings k)
 unfolding bytes

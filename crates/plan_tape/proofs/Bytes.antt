@@ -1,4 +1,4 @@
--- How many bytes a tape has.
+-- The number of bytes of a tape.
 use Rattle.std.proofs.Common.{◌≡◌, List, length, ap}
 use Rattle.nano_spec.specs.declared.commands.Command.{Command}
 use Rattle.nano_spec.specs.declared.system.Profile.{Profile}

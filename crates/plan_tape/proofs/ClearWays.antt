@@ -1,5 +1,5 @@
--- Ways along which all is void, which are free, how many moves they take, the ways home of a legal model, and that High
--- asks for no grounding.
+-- Void and free paths, the number of their moves, the paths home of a legal model, and that High requires no
+-- grounding.
 use Rattle.std.proofs.Common.{◌≡◌, ◌⊎◌, inl, inr, ℕ, ◌+◌, ◌≤◌, sym, ◌∙◌, subst, arith, Bool, false, ◌&&◌}
 use Rattle.std.specs.Prelude.{pos, IsTrue}
 use Rattle.vox_geom.specs.declared.coordinate.Coord.{Coord}
@@ -25,9 +25,9 @@ held_high h m e = λ l. absurd (high_low (sym e ∙ l))
     high_low : High ≡ Low → ⊥
     high_low f = cc
 
--- ---- where all is void
+-- ---- void paths
 
--- where all is void from the heights of two coordinates on, so is all between them
+-- if all is void from the heights of two coordinates on, so is all between them
 pub void_between : (m : Matrix) (a b : Coord) → IsVoidFrom m a.y → IsVoidFrom m b.y
     → IsVoid m (between (point a) (point b))
 void_between m a b v w = λ c t. by c (from_one_end a.y b.y c.y (second_of_three (is_between (pos a.x) (pos b.x) (pos c.x)) _ _ t))
@@ -36,7 +36,7 @@ void_between m a b v w = λ c t. by c (from_one_end a.y b.y c.y (second_of_three
     by c (inl h) = v c h
     by c (inr h) = w c h
 
--- so are the ways
+-- so are the paths
 pub ways_between : (m : Matrix) (a b : Coord) → IsVoidFrom m a.y → IsVoidFrom m b.y → AreVoidTo m a b
 ways_between m a b v w = record {
   x = void_between m a (put X a b.x) v v;
@@ -44,7 +44,7 @@ ways_between m a b v w = record {
   z = void_between m (put Y (put X a b.x) b.y) b w w;
 }
 
--- and a way to a point in space is free
+-- and a path to a point in space is free
 pub free_way : (m : Matrix) (a b : Coord) (q : Point) → q ≡ point b → IsInSpace m.resolution b → IsVoidFrom m a.y
     → IsVoidFrom m b.y → IsFreeWay m (point a) q
 free_way m a b q e i v w = subst (λ (u : Point). IsFreeWay m (point a) u) (sym e) (record { within = in_space_is m.resolution b i; void = void_between m a b v w })
@@ -54,7 +54,7 @@ pub free_place : (m : Matrix) (b : Coord) (q : Point) → q ≡ point b → IsIn
     → IsFreeWay m q q
 free_place m b q e i v = subst (λ (u : Point). IsFreeWay m u q) (sym e) (free_way m b b q e i v v)
 
--- where the way along x is void, and all is void where x is 0, so are the ways to an end there
+-- if the path along x is void, and all is void at x = 0, so are the paths to an end there
 ways_by_x : (m : Matrix) (a b : Coord) → b.x ≡ 0 → IsVoidAlong m X a b.x → ((c : Coord) → c.x ≡ 0 → is_full m c ≡ false)
     → AreVoidTo m a b
 ways_by_x m a b e along border = record { x = along; y = λ c t. at_zero c _ _ t; z = λ c t. at_zero c _ _ t }
@@ -63,17 +63,17 @@ ways_by_x m a b e along border = record { x = along; y = λ c t. at_zero c _ _ t
         → is_full m c ≡ false
     at_zero c v w t = border c (between_zeros c.x (subst (λ n. IsTrue (is_between (pos n) (pos n) (pos c.x))) e (first_of_three (is_between (pos b.x) (pos b.x) (pos c.x)) v w t)))
 
--- where all is void from the height of the one end on, and where x is 0, so are the ways to an end there
+-- if all is void from the height of one end on, and at x = 0, so are the paths to an end there
 pub ways_to_border : (m : Matrix) (a b : Coord) → b.x ≡ 0 → IsVoidFrom m a.y
     → ((c : Coord) → c.x ≡ 0 → is_full m c ≡ false) → AreVoidTo m a b
 ways_to_border m a b e v border = ways_by_x m a b e (λ c t. v c (from_both_ends a.y c.y (second_of_three (is_between (pos a.x) (pos b.x) (pos c.x)) _ _ t))) border
 
--- ---- how many moves
+-- ---- the number of moves
 
 on : (a b c : ℕ) → moves a c ≤ moves a b + moves b c
 on a b c = omega (arith)
 
--- a way by another coordinate takes no fewer moves
+-- a path by another coordinate takes no fewer moves
 pub moves_on : (a b c : Coord) → moves_to a c ≤ moves_to a b + moves_to b c
 moves_on a b c = omega (arith, on a.x b.x c.x, on a.y b.y c.y, on a.z b.z c.z)
 
@@ -86,10 +86,10 @@ moves_most r a b l i j =
     let bx = j.x in let by' = j.y in let bz = j.z in
     omega arith
 
--- ---- ways home
+-- ---- paths home
 
--- where all is void from the height of the one coordinate on, or it is at the border of x, the ways from there to the
--- border and along it are void
+-- if all is void from the height of the first coordinate on, or it is at the border of x, the paths from there to the border
+-- and along it are void
 pub ways_home : (m : Matrix) (a b : Coord) → IsLegal m → IsVoidFrom m a.y ⊎ (a.x ≡ 0) → b.x ≡ 0 → AreVoidTo m a b
 ways_home m a b h (inl void) e = ways_to_border m a b e void (void_at_border m h)
 ways_home m a b h (inr f) e = ways_by_x m a b e (λ c t. void_at_border m h c (at_zero c (first_of_three (is_between (pos a.x) (pos b.x) (pos c.x)) _ _ t))) (void_at_border m h)

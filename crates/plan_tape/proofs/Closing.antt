@@ -1,4 +1,4 @@
--- A plan of every target with a tape's voxels is one of this target; and how many bots it has at most.
+-- A plan of every target with a tape's voxels is one of this target; and a bound on its bots.
 use Rattle.std.proofs.Common.{◌≡◌, ℕ, ◌+◌, ◌≤◌, subst, arith}
 use Rattle.std.specs.Prelude.{IfOk, Result, count_by}
 use Rattle.std.proofs.lemmas.Result.{IfOk-weaker}

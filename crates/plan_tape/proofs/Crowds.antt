@@ -50,7 +50,7 @@ flips_not m p (SMove d) h = refl
 flips_not m p _ h = absurd h
 
 module _ (p : TapeState) where
-  -- what follows for each bot
+  -- a consequence for each bot
   pub each_by : (P : Act → Type 0) → ((a : Act) → CanGo p a → P a) → (xs : List Act) → AllByRecursion (CanGo p) xs
       → AllByRecursion P xs
   each_by P f [] h = tt
@@ -88,7 +88,7 @@ module _ (p : TapeState) where
 
 -- ---- the tape afterwards
 
--- where matrix and harmonics stay, all stays held
+-- if matrix and harmonics stay, all stays held
 pub held_as : (s t : State) → t.matrix ≡ s.matrix → t.harmonics ≡ s.harmonics → IsHeld s.harmonics s.matrix
     → IsHeld t.harmonics t.matrix
 held_as s t em eh held = λ low. subst (λ (m : Matrix). FirstUngrounded m None) (sym em) (held (sym eh ∙ low))
@@ -115,7 +115,7 @@ stepped_is p q k m h bots e em eh eb = record {
   bytes_are = bytes_stepped p q k e;
 }
 
--- what such a step leaves, told in other words
+-- the effect of such a step, restated
 pub step_as : (p q : TapeState) (k : List Command) (m n : Matrix) (h : Harmonics) (xs ys : List Bot) → m ≡ n → xs ≡ ys
     → AllStep p q k m h xs → AllStep p q k n h ys
 step_as p q k m n h xs ys e f s = subst (λ (x : Matrix). AllStep p q k x h ys) e (subst (λ (bots : List Bot). AllStep p q k m h bots) f s)

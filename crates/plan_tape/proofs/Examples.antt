@@ -1,4 +1,4 @@
--- The worked examples of how many bots there are, by computing.
+-- The worked examples of `HasAtMost`, which bounds the bots of a plan, proved by computing.
 use Rattle.std.proofs.Common.{◌≤◌, refl, arith, [], ◌∷◌}
 use Rattle.nano_spec.specs.declared.commands.Command.TheVariants.{Halt}
 use Rattle.nano_spec.specs.Matrix.{empty}

@@ -1,4 +1,4 @@
--- The only bot breaks no rule.
+-- The conditions under which a step of a single bot breaks no rule, by command.
 use Rattle.std.proofs.Common.{◌≡◌, ℕ, refl, ap, [], ◌∷◌, Bool, true, false, cond}
 use Rattle.std.specs.Prelude.{ℤ, None}
 use Rattle.vox_geom.specs.declared.difference.Diff.{Diff}
@@ -25,7 +25,7 @@ use Rattle.step_order.proofs.Lists.{none_find}
 use Rattle.step_order.specs.Unbroken.{IsVoid}
 use Rattle.step_order.proofs.Faultless.{one_way}
 
--- the only bot with its command
+-- a single bot and its command
 abbrev pub lone : Bot → Command → Act
 lone b k = record { bot = b; command = k }
 
@@ -33,7 +33,7 @@ lone b k = record { bot = b; command = k }
 abbrev pub with_one : Matrix → Harmonics → Bot → ℤ → Profile → State
 with_one m h b e profile = record { matrix = m; harmonics = h; bots = b ∷ []; energy = e; profile = profile }
 
--- the bot breaks no rule of single bots by the command
+-- with this command the bot breaks no rule that is judged bot by bot
 abbrev pub IsFaultless : Matrix → Harmonics → Bot → ℤ → Profile → Command → Type 0
 IsFaultless m h b e profile k = (rule : Rule) → fault (with_one m h b e profile) (lone b k ∷ []) (lone b k) rule ≡ None
 
@@ -41,7 +41,7 @@ no_pairs : (m : Matrix) (a : Act) (step : ℕ) (leads : Bool) → judge_pairs m 
 no_pairs m a step true = refl
 no_pairs m a step false = refl
 
--- then no rule is broken at all
+-- if so, the step breaks no rule that is judged at its start
 pub unbroken : (m : Matrix) (h : Harmonics) (b : Bot) (e : ℤ) (profile : Profile) (k : Command) (step : ℕ)
     → IsFaultless m h b e profile k → broken (with_one m h b e profile) (k ∷ []) step ≡ None
 unbroken m h b e profile k step f = simp f (ap first_value (no_pairs m (lone b k) step (is_leader (lone b k ∷ []) (lone b k))))

@@ -81,7 +81,7 @@ few_reached source profile commands s steps (steps_on t before step done r some 
     let same_count : count_by is_fission commands ≡ count_by is_fission before + count_by is_fission step = ap (count_by is_fission) e ∙ sum_by-append (λ x. cond {A = ℕ} (is_fission x) 1 0) before step in
     omega arith
 
--- where few commands make bots there are few bots at all times
+-- if few commands make bots, there are few bots at all times
 pub few_at_most : (source : Matrix) (profile : Profile) (commands : List Command) (n : ℕ)
     → 1 + count_by is_fission commands ≤ n → HasAtMost source profile commands n
 few_at_most source profile commands n le = λ before rest s steps e r.

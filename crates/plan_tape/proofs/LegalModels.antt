@@ -1,4 +1,4 @@
--- Where a legal model is void and where its full voxels are, when two models are the same, and which are grounded.
+-- The void and the full voxels of a legal model, when two models are the same, and which are grounded.
 use Rattle.std.proofs.Common.{◌≡◌, ℕ, ◌+◌, ◌-◌, ◌<◌, ◌≤◌, nat_le, nat_lt, refl, sym, ◌∙◌, ap, subst, arith, List, [], ◌∷◌, Bool, true, false, ◌&&◌, not}
 use Rattle.std.specs.Prelude.{IsTrue, None}
 use Rattle.vox_geom.specs.declared.coordinate.Coord.{Coord}
@@ -21,7 +21,7 @@ use Rattle.plan_tape.specs.Progress.{IsVoidFrom}
 pub full_within : (m : Matrix) (c : Coord) → is_full m c ≡ true → IsInSpace m.resolution c
 full_within m c h = space_by_test m.resolution c (first_of_two (in_space m.resolution (point c)) _ h)
 
--- a voxel is void where it is so in space
+-- a voxel is void if it is so in space
 pub void_by_space : (m : Matrix) (c : Coord) → (IsInSpace m.resolution c → is_full m c ≡ false) → is_full m c ≡ false
 void_by_space m c h = by (in_space m.resolution (point c)) refl
   where

@@ -1,4 +1,4 @@
--- Ways and moves along an axis.
+-- Paths and moves along an axis.
 use Rattle.std.proofs.Common.{◌≡◌, ℕ, ◌+◌, ◌<◌, refl, ap, subst, arith, List, [], ◌∷◌, ◌++◌, Bool, true, false, ◌&&◌, length, inl, inr, append_assoc, append-nil}
 use Rattle.std.specs.Prelude.{pos, ◌+ℤ◌, ◌-ℤ◌, IsTrue, unsigned_abs}
 use Rattle.std.proofs.lemmas.Bool.Decides.{nat_tests}
@@ -70,7 +70,7 @@ mlen-along X u v = let far_here = far u v in omega arith
 mlen-along Y u v = let far_here = far u v in omega arith
 mlen-along Z u v = let far_here = far u v in omega arith
 
--- ---- a part of a way
+-- ---- a part of a path
 
 first_part : (u v w x : ℕ) → IsOnward u v w → IsTrue (is_between (pos u) (pos v) (pos x))
     → IsTrue (is_between (pos u) (pos w) (pos x))

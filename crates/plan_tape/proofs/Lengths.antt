@@ -1,4 +1,4 @@
--- How many commands a tape has.
+-- The number of commands of a tape.
 use Rattle.std.proofs.Common.{◌≡◌, ◌+◌, ◌∙◌, ap, arith, List, [], ◌∷◌, ◌++◌, length, length-append}
 use Rattle.vox_geom.specs.declared.coordinate.Coord.{Coord}
 use Rattle.nano_spec.specs.declared.commands.Command.{Command}

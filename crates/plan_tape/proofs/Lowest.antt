@@ -35,7 +35,7 @@ last true true e = refl
 last true false e = cc
 last false t e = cc
 
--- where no coordinate of a layer differs, both are the same there
+-- if no coordinate of a layer differs, both are the same there
 pub same_layer : (m n : Matrix) (y : ℕ) → m.resolution ≡ n.resolution
     → LeastOf m.resolution (in_layer_differ m n y) None → (c : Coord) → c.y ≡ y → is_full m c ≡ is_full n c
 same_layer m n y e h c f = by (in_space m.resolution (point c)) refl
@@ -70,6 +70,6 @@ pub all_same : (m n : Matrix) (y : ℕ) → IsWhole m → IsWhole n → m.resolu
     → ((c : Coord) → c.y < y → is_full m c ≡ is_full n c) → m ≡ n
 all_same m n y v w e l h = alike_is_same m n v w e (λ c i. let along_y = i.y in h c (omega arith))
 
--- models that differ somewhere are not the same
+-- models with a difference are not equal
 pub not_same : (m n : Matrix) (y : ℕ) → IsLowest m n y → m ≢ n
 not_same m n y h e = h.differ (ap (λ (k : Matrix). is_full k h.at) e)

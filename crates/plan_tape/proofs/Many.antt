@@ -1,4 +1,4 @@
--- A state that is reached has at most as many bots as there are numbers: those of the seeds, and of the first bot.
+-- A reached state has at most as many bots as there are numbers: those of the seeds, and of the first bot.
 use Rattle.std.proofs.Common.{◌≡◌, ℕ, suc, ◌+◌, ◌<◌, ◌≤◌, refl, sym, ◌∙◌, ap, subst, inl, inr, ◌⊎◌, arith, List, [], ◌∷◌, ◌++◌, true, length, drop, None}
 use Rattle.std.specs.Prelude.{flat_map}
 use Rattle.std.specs.List.{AllByRecursion}

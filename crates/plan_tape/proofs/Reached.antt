@@ -1,4 +1,4 @@
--- A run of the definitions goes through the states that are reached, and ends at one of them.
+-- A run of the definitions goes through the reached states, and ends at one of them.
 use Rattle.std.proofs.Common.{◌≡◌, ◌⊎◌, ℕ, suc, ◌+◌, ◌<◌, ◌≤◌, refl, sym, ◌∙◌, ap, subst, inl, inr, arith, List, [], ◌∷◌, ◌++◌, length, take, drop, get_or, append_assoc, append-nil, Option, Some, None}
 use Rattle.std.specs.Prelude.{ℤ, ◌↔◌, option_map}
 use Rattle.std.specs.List.{slice_get}
@@ -27,7 +27,7 @@ use Rattle.plan_tape.proofs.Runs.{run_of}
 
 -- ---- one step
 
--- a step that is accepted has a command for each bot
+-- an accepted step has a command for each bot
 pub enough : (s t : State) (step : List Command) (k : ℕ) → Next s step k (Goes t) → length s.bots ≤ length step
 enough s t step k next = by (slice_get_cases s.bots (length step)).1
   where
@@ -50,7 +50,7 @@ module _ (target : Matrix) (s t : State) (step rest : List Command) (done : ℕ)
   back : drop (length s.bots) (step ++ rest) ≡ rest
   back = subst (λ (k : ℕ). drop k (step ++ rest) ≡ rest) whole (drop-append_seam step rest)
 
-  -- what comes of the commands from the state before the step comes of the rest from the state after it
+  -- the verdict on the commands from the state before the step is that on the rest from the state after it
   one_after : Run target s (step ++ rest) done v → Run target t rest (done + 1) v
   one_after (ends none f) = absurd (let length_is : length s.bots ≡ 0 = ap length none in omega arith)
   one_after (breaks {b = b} a n f) =
@@ -63,7 +63,7 @@ module _ (target : Matrix) (s t : State) (step rest : List Command) (done : ℕ)
 
 -- ---- all steps
 
--- what comes of all commands comes of those that are left at a reached state
+-- the verdict on all commands is that on the rest at a reached state
 to_reached : (source target : Matrix) (profile : Profile) (before rest : List Command) (s : State) (done : ℕ)
     (v : Verdict) → Reaches source profile before s done → VerdictOf source target (before ++ rest) profile v
     → Run target s rest done v
@@ -80,7 +80,7 @@ pub onward : (source target : Matrix) (profile : Profile) (before rest : List Co
     → (VerdictOf source target (before ++ rest) profile v ↔ Run target s rest done v)
 onward source target profile before rest s done v r = (to_reached source target profile before rest s done v r, run_of target rest v r)
 
--- each verdict falls at a reached state
+-- each verdict is decided at a reached state
 pub decided : (source target : Matrix) (profile : Profile) (before rest : List Command) (s : State) (done : ℕ)
     (v : Verdict) → Reaches source profile before s done → Run target s rest done v
     → IsDecided source target profile (before ++ rest) v
@@ -102,7 +102,7 @@ decided source target profile before rest s done v r (goes {bot = bot} {bots = b
 -- ---- the end
 
 module _ (source target : Matrix) (profile : Profile) (energy : ℤ) (steps : ℕ) where
-  -- a verdict that accepts falls at a state without bots, whose voxels are those of the target
+  -- an accepting verdict is decided at a state without bots, whose voxels are those of the target
   at_end : (before rest : List Command) (s : State) (done : ℕ) → Reaches source profile before s done → s.bots ≡ []
       → ending target s rest done ≡ Accepted energy steps
       → ReachesTarget source target profile (before ++ rest) energy steps

@@ -1,4 +1,4 @@
--- What a tape has reached is a run of the definitions.
+-- The commands of a tape are a run of the definitions.
 use Rattle.std.proofs.Common.{◌≡◌, ℕ, ◌+◌, ◌<◌, refl, sym, ◌∙◌, ap, subst, arith, List, [], ◌∷◌, ◌++◌, Bool, true, false, ◌&&◌, ◌||◌, not, length, take, drop, append_assoc, append-nil}
 use Rattle.std.proofs.Math.Seq.{take-append_seam, drop-append_seam}
 use Rattle.nano_spec.specs.declared.commands.Command.{Command}
@@ -24,7 +24,7 @@ one_more target s t step rest done v (bot ∷ bots) e h l n r =
     let later : drop (length s.bots) (step ++ rest) ≡ rest = subst (λ (k : ℕ). drop k (step ++ rest) ≡ rest) l (drop-append_seam step rest) in
     goes {bot = bot} {bots = bots} {t = t} e (subst (λ (k : List Command). Next s k (done + 1) (Goes t)) (sym first) n) (subst (λ (k : List Command). Run target t k (done + 1) v) (sym later) r)
 
--- what comes of the rest of the commands from the state that was reached comes of all of them
+-- the verdict on the rest of the commands from the reached state is that on all of them
 pub run_of : {source : Matrix} {profile : Profile} {commands : List Command} {s : State} {steps : ℕ} (target : Matrix)
     (rest : List Command) (v : Verdict) → Reaches source profile commands s steps → Run target s rest steps v
     → VerdictOf source target (commands ++ rest) profile v

@@ -37,7 +37,7 @@ use Rattle.step_order.specs.Unbroken.{IsVoid}
 
 -- ---- the step is accepted
 
--- where no rule is broken, and the state after is grounded if its harmonics are Low, the step is accepted
+-- if no rule is broken, and the state after is grounded if its harmonics are Low, the step is accepted
 pub goes_on : (s t : State) (commands : List Command) (step : ℕ) → broken s commands step ≡ None → after s commands ≡ t
     → (t.harmonics ≡ Low → FirstUngrounded t.matrix None) → Next s commands step (Goes t)
 goes_on s t commands step b e g =
@@ -46,7 +46,7 @@ goes_on s t commands step b e g =
 
 -- ---- one more step of the only bot
 
--- what a tape shows after a command
+-- the tape after a command
 abbrev pub progress_after : TapeState → Command → Matrix → Harmonics → List Bot → ℤ → TapeState
 progress_after p k m h bots cost = record {
   source = p.source;
@@ -63,7 +63,7 @@ progress_after p k m h bots cost = record {
 abbrev pub IsRun : TapeState → Type 0
 IsRun p = Reaches p.source p.profile p.commands (state_of p) p.steps
 
--- what the only bot does by a command that breaks no rule
+-- the effect of a command of the only bot that breaks no rule
 pub record Does (p : TapeState) (b : Bot) (k : Command) (m : Matrix) (h : Harmonics) (bots : List Bot) (cost : ℤ) : Type 0 where
   pub faultless : IsFaultless p.matrix p.harmonics b p.energy p.profile k
   pub matrix_is : matrix_after p.matrix (lone b k ∷ []) ≡ m
@@ -162,7 +162,7 @@ module _ (p : TapeState) (w : IsWhole p.matrix) (alone : length p.bots ≡ 1) wh
 
 -- ---- many moves along an axis
 
--- what a tape shows after them
+-- the tape after them
 abbrev pub progress_along : TapeState → Axis → ℕ → ℕ → List Command → TapeState
 progress_along p axis a b moves = record {
   source = p.source;
@@ -200,7 +200,7 @@ component_of-put X c v = refl
 component_of-put Y c v = refl
 component_of-put Z c v = refl
 
--- from where a tape stands, moves along an axis reach what it shows after them
+-- from a tape, moves along an axis reach the tape after them
 pub walked : (moves : List Command) (p : TapeState) (axis : Axis) (a b : ℕ) → IsWhole p.matrix
     → IsHeld p.harmonics p.matrix → length p.bots ≡ 1 → IsInSpace p.matrix.resolution (spot p.bots)
     → component_of axis (spot p.bots) ≡ a → b < p.matrix.resolution → MayMove p
@@ -277,7 +277,7 @@ walked (k ∷ more) p axis a b w g alone i at l may v leg r =
 pub spellings-joined : (x y : List Command) → length (spellings (x ++ y)) ≡ length (spellings x) + length (spellings y)
 spellings-joined x y = ap length (flat_map-append spelling x y) ∙ length-append (spellings x) (spellings y)
 
--- what a tape shows after moves to a coordinate
+-- the tape after moves to a coordinate
 abbrev pub progress_at : TapeState → Coord → List Command → TapeState
 progress_at p to moves = record {
   source = p.source;

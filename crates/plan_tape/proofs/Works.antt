@@ -22,7 +22,7 @@ use Rattle.step_order.proofs.Lists.{In, flat_in, in_map}
 use Rattle.plan_tape.specs.Crowd.{FillsOrWaits, FusesOrWaits, SplitsOrWaits, bots_fused, bots_split, parts, with_fills}
 use Rattle.plan_tape.specs.Progress.{TapeState, state_of}
 
--- what holds of the acts by their commands
+-- a property of the acts by their commands
 pub each_act : (P : Command → Type 0) (Q : Act → Type 0) → ((a : Act) → P a.command → Q a) → (bots : List Bot)
     (commands : List Command) → AllByRecursion P commands → AllByRecursion Q (acts bots commands)
 each_act P Q f [] commands h = tt
@@ -140,7 +140,7 @@ pub fusions_flip_not : (bots : List Bot) (commands : List Command) → AllByRecu
     → AllByRecursion (λ a. IsFalse (is_flip a.command)) (acts bots commands)
 fusions_flip_not = each_act FusesOrWaits (λ a. IsFalse (is_flip a.command)) (λ a h. fuse_flips_not a.command h)
 
--- what becomes of a bot has its bid
+-- the successors of a bot have its bid
 bid_stays : (all : List Act) (a : Act) (k : Command) (x : Bot) → FusesOrWaits k → In x (successors all a k)
     → x.bid ≡ a.bot.bid
 bid_stays all a Wait x h (inl e) = ap (λ (b : Bot). b.bid) e

@@ -1,4 +1,4 @@
--- What a tape is after one command of its only bot, and after many moves.
+-- A tape after one command of its only bot, and after many moves.
 use Rattle.std.proofs.Common.{◌≡◌, ℕ, zero, suc, ◌+◌, ◌*◌, ◌<◌, refl, sym, ◌∙◌, ap, subst, arith, List, [], ◌∷◌, ◌++◌, true, false, cond, length, None, length-append, append-nil}
 use Rattle.std.specs.Prelude.{All, ℤ, pos, negsuc, ◌+ℤ◌, unsigned_abs}
 use Rattle.std.proofs.lemmas.Grind.{flat_map-append}
@@ -68,7 +68,7 @@ charged_is inside old count r cost result e l f v =
 once : (n : ℕ) → 1 * n ≡ n
 once n = omega arith
 
--- what a tape's fields are after a command
+-- the fields of a tape after a command
 abbrev pub now_of : TapeState → List Command → Matrix → Harmonics → List Bot → ℤ → ℕ → TapeState
 now_of p commands m h bots energy count = record { source = p.source; commands = commands; matrix = m; harmonics = h; bots = bots; energy = energy; profile = p.profile; steps = p.steps + count }
 
@@ -87,7 +87,7 @@ module _ (p : TapeState) (k : Command) (m : Matrix) (h : Harmonics) (bots : List
     bytes_are = bytes_after p (now_of p commands matrix harmonics bots' energy 1) k ec;
   }
 
--- what was written was accepted
+-- the written command was accepted
 module _ (p now : TapeState) (b : Bot) (k : Command) (m : Matrix) (h : Harmonics) (bots : List Bot) (cost : ℤ) where
   reached : p.bots ≡ b ∷ [] → IsReached p → Does p b k m h bots cost → IsWhole now.matrix
       → All (λ c. IsInSpace m.resolution c.pos) bots → p.steps < 1073741824 → Writes p now k m h bots cost
@@ -106,9 +106,9 @@ module _ (p now : TapeState) (b : Bot) (k : Command) (m : Matrix) (h : Harmonics
           let en = sym s.steps in
           λ j. record { source = es j; commands = ec j; matrix = em j; harmonics = eh j; bots = eb j; energy = ee j; profile = ep j; steps = en j }
 
--- ---- what each call has made: it is reached, and it is what the call promises
+-- ---- the result of each call: it is reached, and it is as the call promises
 
--- the tape now, of which one command was written: what it is from the tape within, and from the old one
+-- the tape now, after one command: computed from the tape within, and from the old one
 pub record Makes (old now : TapeState) (k : Command) (m : Matrix) (h : Harmonics) (bots : List Bot) (cost : ℤ) : Type 0 where
   pub reached : IsReached now
   pub writes : Writes old now k m h bots cost

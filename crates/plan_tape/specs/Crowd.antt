@@ -19,32 +19,32 @@ use Rattle.step_order.specs.Apart.{LieApart}
 use Rattle.step_order.specs.Unbroken.{AreFree, AreOneGroup, IsFreeWay}
 use Rattle.plan_tape.specs.Progress.{IsAllowed, TapeState, bytes, state_of, upkeep_of_step}
 
--- what a bot at a point needs to wait, or to move along an axis
+-- the condition for a bot at a point to wait, or to move along an axis
 abbrev pub MayGo : Matrix → Point → Command → Type 0
 MayGo m p Wait = Unit {0}
 MayGo m p (SMove d) = IsFreeWay m p (plus p d)
 MayGo m p _ = ⊥
 
--- the profile allows the bot's command, and it waits or moves on a free way
+-- the profile allows the bot's command, and it waits or moves on a free path
 pub record CanGo (p : TapeState) (a : Act) : Type 0 where
   pub allowed : IsAllowed p a.command
   pub may : MayGo p.matrix (position a) a.command
 
--- the way of a bot that waits or moves: from where it stands to where it will
+-- the path of a bot that waits or moves: from its position to the next
 abbrev pub way : Act → Span
 way a = between (position a) (goal_of (position a) a.command)
 
--- the ways of any two lie apart
+-- the paths of any two are disjoint
 abbrev pub AreWaysApart : List Act → Type 0
 AreWaysApart [] = Unit {0}
 AreWaysApart (a ∷ more) = AllByRecursion (λ b. LieApart (way a) (way b)) more × AreWaysApart more
 
--- each of the bots waits or moves, and their ways lie apart
+-- each of the bots waits or moves, and their paths are disjoint
 pub record CanMoveAll (p : TapeState) (commands : List Command) : Type 0 where
   pub each : AllByRecursion (CanGo p) (acts p.bots commands)
   pub apart : AreWaysApart (acts p.bots commands)
 
--- the tape after a step of all bots: what it leaves of the matrix, the harmonics and the bots, and what it costs
+-- the tape after a step of all bots: the matrix, the harmonics and the bots, and the cost
 pub record AllStep (old new : TapeState) (commands : List Command) (m : Matrix) (h : Harmonics) (bots : List Bot)
     : Type 0 where
   pub source : new.source ≡ old.source
@@ -57,7 +57,7 @@ pub record AllStep (old new : TapeState) (commands : List Command) (m : Matrix) 
   pub steps : new.steps ≡ old.steps + 1
   pub bytes_are : bytes new ≡ bytes old + length (spellings commands)
 
--- no bot has a group command or a Flip, each has what it needs, and any two fuse or are apart
+-- no bot has a group command or a Flip, each command is possible, and any two fuse or do not interfere
 pub record AreCalm (p : TapeState) (commands : List Command) : Type 0 where
   pub free : AreFree (state_of p) (acts p.bots commands)
   pub calm : AllByRecursion (λ a. IsFalse (is_flip a.command)) (acts p.bots commands)
@@ -67,7 +67,7 @@ abbrev pub CalmStep : TapeState → TapeState → List Command → Type 0
 CalmStep old new commands =
     AllStep old new commands (after (state_of old) commands).matrix old.harmonics (after (state_of old) commands).bots
 
--- the bots where they have gone
+-- the bots after their moves
 abbrev pub bots_gone : List Bot → List Command → List Bot
 bots_gone bots commands = map gone (acts bots commands)
 
@@ -98,7 +98,7 @@ FusesOrWaits (FusionP d) = Unit {0}
 FusesOrWaits (FusionS d) = Unit {0}
 FusesOrWaits _ = ⊥
 
--- the matrix in which what the bots fill is full too
+-- the matrix with the voxels that the bots fill
 abbrev pub with_fills : Matrix → List Act → Matrix
 with_fills m all = matrix_where m.resolution (λ c. is_filled all c || is_full m c)
 
@@ -111,6 +111,6 @@ parts a _ = a.bot ∷ []
 abbrev pub bots_split : List Bot → List Command → List Bot
 bots_split bots commands = in_rising_order (flat_map (λ a. parts a a.command) (acts bots commands))
 
--- the bots after some have fused, in their order: what becomes of each
+-- the bots after some have fused, in their order: the successors of each
 abbrev pub bots_fused : List Bot → List Command → List Bot
 bots_fused bots commands = flat_map (λ a. successors (acts bots commands) a a.command) (acts bots commands)

@@ -9,6 +9,6 @@ abbrev pub is_fission : Command → Bool
 is_fission (Fission d m) = true
 is_fission _ = false
 
--- how many of a tape's commands do
+-- the number of such commands of a tape
 unfoldable pub fissions : TapeState → ℕ
 fissions p = count_by is_fission p.commands

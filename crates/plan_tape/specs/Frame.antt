@@ -1,4 +1,4 @@
--- How the frame of a plan begins.
+-- The start of the frame of a plan.
 use Rattle.std.specs.Prelude.{◌≡◌, ◌+◌, ◌*◌, [], ◌∷◌, length}
 use Rattle.vox_geom.specs.Space.{IsInSpace}
 use Rattle.nano_spec.specs.declared.system.Harmonics.TheVariants.{High}

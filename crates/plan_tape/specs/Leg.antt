@@ -30,7 +30,7 @@ along X z = record { dx = z; dy = pos 0; dz = pos 0 }
 along Y z = record { dx = pos 0; dy = z; dz = pos 0 }
 along Z z = record { dx = pos 0; dy = pos 0; dz = z }
 
--- how far one component is from another
+-- the distance of two components
 abbrev pub gap : ℕ → ℕ → ℕ
 gap a b = (a - b) + (b - a)
 
@@ -38,11 +38,11 @@ gap a b = (a - b) + (b - a)
 abbrev pub moves : ℕ → ℕ → ℕ
 moves a b = (gap a b + 14) / 15
 
--- a component on the way from one to another, past the first
+-- a component between one and another, past the first
 abbrev pub IsOnward : ℕ → ℕ → ℕ → Type 0
 IsOnward a v b = (a < v × v ≤ b) ⊎ (b ≤ v × v < a)
 
--- one move leads from a component to one that is at most 15 away, on the way to another
+-- one move leads from a component to one that is at most 15 away, toward another
 pub record IsMove (a v b : ℕ) : Type 0 where
   pub onward : IsOnward a v b
   pub near : gap a v ≤ 15
@@ -68,19 +68,19 @@ pub record AreLegs (a b : Coord) (commands : List Command) : Type 0 where
   pub along_y : IsLeastLeg Y a.y b.y y
   pub along_z : IsLeastLeg Z a.z b.z z
 
--- how many moves those are
+-- the number of those moves
 abbrev pub moves_to : Coord → Coord → ℕ
 moves_to a b = moves a.x b.x + moves a.y b.y + moves a.z b.z
 
--- how far one coordinate is from another along the axes
+-- the distance of two coordinates along the axes
 abbrev pub distance : Coord → Coord → ℕ
 distance a b = gap a.x b.x + gap a.y b.y + gap a.z b.z
 
--- the way from a coordinate along an axis is void
+-- the path from a coordinate along an axis is void
 abbrev pub IsVoidAlong : Matrix → Axis → Coord → ℕ → Type 0
 IsVoidAlong m axis c to = IsVoid m (between (point c) (point (put axis c to)))
 
--- the ways along x, then y, then z are void
+-- the paths along x, then y, then z are void
 pub record AreVoidTo (m : Matrix) (a b : Coord) : Type 0 where
   pub x : IsVoidAlong m X a b.x
   pub y : IsVoidAlong m Y (put X a b.x) b.y

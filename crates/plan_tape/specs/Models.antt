@@ -1,4 +1,4 @@
--- The models that a plan leads from and to.
+-- The source and the target of a plan.
 use Rattle.std.specs.Prelude.{◌≡◌}
 use Rattle.nano_spec.specs.Legal.{IsLegal}
 use Rattle.nano_spec.specs.Matrix.{Matrix}

@@ -1,4 +1,4 @@
--- Parts of a matrix: a voxel, rows and layers; and how many voxels are full.
+-- Parts of a matrix: a voxel, rows and layers; and the number of full voxels.
 use Rattle.std.specs.Prelude.{ℕ, Bool, ◌&&◌, ◌==◌, nat_le, nat_lt}
 use Rattle.vox_geom.specs.declared.coordinate.Coord.{Coord}
 

@@ -1,4 +1,4 @@
--- What a tape shows, and what its calls change (docs/FORMATS.md, "Commands" and "Rules").
+-- The visible parts of a tape, and the effect of its calls (docs/FORMATS.md, "Commands" and "Rules").
 use Rattle.std.specs.Prelude.{◌≡◌, ℕ, ◌+◌, ◌*◌, ◌≤◌, ℤ, pos, ◌+ℤ◌, ◌≤ℤ◌, neg_ℤ, unsigned_abs, false, List, [], ◌∷◌, ◌++◌, length, None, IsTrue, All, ◌-◌}
 use Rattle.vox_geom.specs.declared.coordinate.Coord.{Coord}
 use Rattle.vox_geom.specs.declared.difference.Diff.{Diff}
@@ -37,7 +37,7 @@ abbrev pub state_of : TapeState → State
 state_of p =
     record { matrix = p.matrix; harmonics = p.harmonics; bots = p.bots; energy = p.energy; profile = p.profile }
 
--- what is seen of the parts of a tape
+-- the visible part of a tape
 abbrev pub progress_of : Matrix → List Command → State → ℕ → TapeState
 progress_of source commands s steps = record {
   source = source;
@@ -54,7 +54,7 @@ progress_of source commands s steps = record {
 abbrev pub starting : Matrix → Profile → TapeState
 starting source profile = progress_of source [] (opening source profile) 0
 
--- how many bytes the spellings of the commands have together
+-- the number of bytes of all spellings of the commands
 unfoldable pub bytes : TapeState → ℕ
 bytes p = length (spellings p.commands)
 
@@ -78,7 +78,7 @@ pub record IsReached (p : TapeState) : Type 0 where
 
 -- ---- the only bot
 
--- where the first bot is
+-- the position of the first bot
 abbrev pub spot : List Bot → Coord
 spot [] = origin
 spot (bot ∷ bots) = bot.pos
@@ -100,12 +100,12 @@ IsReachable p d = IsTrue (in_space p.matrix.resolution (plus (point (spot p.bots
 abbrev pub IsAllowed : TapeState → Command → Type 0
 IsAllowed p command = IsTrue (is_allowed p.profile command)
 
--- what a step costs before its commands
+-- the cost of a step before its commands
 abbrev pub upkeep_of_step : TapeState → ℕ
 upkeep_of_step p = unsigned_abs (upkeep (state_of p))
 
--- one more command in one step, which costs this beside its upkeep, and what it leaves: the matrix, the harmonics and
--- the bots
+-- one more command in one step, with this cost beyond its upkeep, and its effect on the matrix, the harmonics and the
+-- bots
 pub record Writes (old new : TapeState) (command : Command) (m : Matrix) (h : Harmonics) (bots : List Bot) (cost : ℤ)
     : Type 0 where
   pub source : new.source ≡ old.source
@@ -126,11 +126,11 @@ tape_stepped p commands = progress_of p.source (p.commands ++ commands) (after (
 
 -- ---- the end
 
--- which voxels of two matrices are full is the same
+-- two matrices have the same full voxels
 abbrev pub AreAlike : Matrix → Matrix → Type 0
 AreAlike m n = (c : Coord) → is_full m c ≡ is_full n c
 
--- the definitions accept the commands from the one model to the other with this energy and in so many steps
+-- the definitions accept the commands from one model to the other with this energy and step count
 abbrev pub IsAccepted : Matrix → Matrix → List Command → Profile → ℤ → ℕ → Type 0
 IsAccepted source target commands profile energy steps =
     VerdictOf source target commands profile (Accepted energy steps)
@@ -139,6 +139,6 @@ IsAccepted source target commands profile energy steps =
 abbrev pub IsVoidFrom : Matrix → ℕ → Type 0
 IsVoidFrom m h = (c : Coord) → h ≤ c.y → is_full m c ≡ false
 
--- the top above the origin, where sweeps begin
+-- the top above the origin: the start of sweeps
 abbrev pub top : Matrix → Coord
 top m = coord 0 (m.resolution - 1) 0

@@ -1,4 +1,4 @@
--- The state that commands reach from the opening of a source, every step accepted (docs/FORMATS.md, "Rules").
+-- The state that commands reach from a source's opening state if every step is accepted (docs/FORMATS.md, "Rules").
 use Rattle.std.specs.Prelude.{◌≡◌, ◌⊎◌, ℕ, ◌+◌, ◌<◌, ◌≤◌, ℤ, List, [], ◌++◌, length, take, None}
 use Rattle.nano_spec.specs.declared.commands.Command.{Command}
 use Rattle.nano_spec.specs.declared.outcomes.Broken.{Broken}
@@ -10,7 +10,7 @@ use Rattle.nano_spec.specs.Next.{Next, Goes, Breaks}
 use Rattle.nano_spec.specs.State.{State, opening}
 use Rattle.nano_spec.specs.Verdict.{ending, first_difference}
 
--- the commands make so many steps from the opening of the source, each accepted, and the state is the one after them
+-- from the source's opening state the commands make this number of accepted steps, and lead to the state
 pub data Reaches (source : Matrix) (profile : Profile) : List Command → State → ℕ → Type 0 where
   starts : {commands : List Command} {s : State} {steps : ℕ} → commands ≡ [] → s ≡ opening source profile → steps ≡ 0
       → Reaches source profile commands s steps
@@ -19,13 +19,12 @@ pub data Reaches (source : Matrix) (profile : Profile) : List Command → State 
       → Next s step (done + 1) (Goes t) → commands ≡ before ++ step → steps ≡ done + 1
       → Reaches source profile commands t steps
 
--- every state that a first part of the commands reaches has at most so many bots
+-- every state that a prefix of the commands reaches has at most n bots
 abbrev pub HasAtMost : Matrix → Profile → List Command → ℕ → Type 0
 HasAtMost source profile commands n = (before rest : List Command) (s : State) (steps : ℕ) → commands ≡ before ++ rest
     → Reaches source profile before s steps → length s.bots ≤ n
 
--- the commands reach a state without bots, with this energy in so many steps, whose matrix differs nowhere from the
--- target
+-- the commands reach a state without bots, with this energy and step count and the target's voxels
 pub record ReachesTarget (source target : Matrix) (profile : Profile) (commands : List Command) (energy : ℤ) (steps : ℕ)
     : Type 0 where
   pub last : State
@@ -34,12 +33,12 @@ pub record ReachesTarget (source target : Matrix) (profile : Profile) (commands 
   pub energy_is : last.energy ≡ energy
   pub same : first_difference last.matrix target ≡ None
 
--- at a state, after so many steps, the verdict falls: no bot is left, or the next commands break a rule
+-- the state decides the verdict after this number of steps: no bot is left, or the next commands break a rule
 abbrev pub FallsAt : Matrix → State → List Command → ℕ → Verdict → Type 0
 FallsAt target s rest done verdict = ((s.bots ≡ []) × (verdict ≡ ending target s rest done))
     ⊎ ((b : Broken) × Next s (take (length s.bots) rest) (done + 1) (Breaks b) × (verdict ≡ Refused b))
 
--- a first part of the commands reaches the state at which the verdict falls
+-- a prefix of the commands reaches the state that decides the verdict
 pub record IsDecided (source target : Matrix) (profile : Profile) (commands : List Command) (verdict : Verdict)
     : Type 0 where
   pub before : List Command

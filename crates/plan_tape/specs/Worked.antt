@@ -11,13 +11,13 @@ use Rattle.plan_tape.specs.Reaches.{HasAtMost}
 abbrev pub divides : List Command
 divides = Fission (diff (pos 0) (pos 0) (pos 1)) 0 ∷ []
 
--- the two fuse again, and the one that is left halts
+-- the two fuse again, and the remaining one halts
 abbrev pub fuses_and_halts : List Command
 fuses_and_halts =
     FusionP (diff (pos 0) (pos 0) (pos 1)) ∷ FusionS (diff (pos 0) (pos 0) (below_zero 1)) ∷ Halt ∷ []
 
--- as many bots as there are at any step count, and not those at the end alone, where there is none
--- (the law `fissions_bound_the_bots` says how many there are at most)
+-- the bound holds at every step count, not just at the end, when no bot is left (the law `fissions_bound_the_bots` gives the
+-- bound)
 pub record WorkedCrews : Type 0 where
   pub not_one_at_most : HasAtMost (empty 3) full_profile (divides ++ fuses_and_halts) 1 → ⊥
   pub not_none_at_most : HasAtMost (empty 3) full_profile (Halt ∷ []) 0 → ⊥

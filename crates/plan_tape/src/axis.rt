@@ -15,7 +15,7 @@ pub enum Axis {
     Z,
 }
 
-/// The component of a coordinate on an axis.
+/// Returns the component of a coordinate on an axis.
 pub fn component(axis: Axis, c: Coord) -> u16
     ensures { result ≡ component_of axis c }
 {
@@ -26,7 +26,7 @@ pub fn component(axis: Axis, c: Coord) -> u16
     }
 }
 
-/// The coordinate with another component on an axis.
+/// Returns the coordinate with another component on an axis.
 pub fn with_component(axis: Axis, c: Coord, v: u16) -> Coord
     ensures { result ≡ put axis c v }
 {
@@ -37,24 +37,24 @@ pub fn with_component(axis: Axis, c: Coord, v: u16) -> Coord
     }
 }
 
-/// The most that one move goes.
+/// The longest distance of one move.
 const MOST_MOVE: u16 = 15;
 
-/// How far one component is from another.
+/// Returns the distance of two components.
 fn gap(a: u16, b: u16) -> u16
     ensures { result ≡ gap_of a b }
 {
     if a < b { b - a } else { a - b }
 }
 
-/// The least number of moves from one component to another.
+/// Returns the least number of moves from one component to another.
 fn moves(a: u16, b: u16) -> u32
     ensures { result ≡ moves_of a b }
 {
     (u32::from(gap(a, b)) + 14) / 15
 }
 
-/// The least number of moves along x, y and z from one coordinate to another.
+/// Returns the least number of moves along x, y and z from one coordinate to another.
 pub fn moves_to(a: Coord, b: Coord) -> u32
     requires from { IsInSpace MOST_R a }
     requires to { IsInSpace MOST_R b }
@@ -64,14 +64,14 @@ pub fn moves_to(a: Coord, b: Coord) -> u32
     moves(a.x, b.x) + moves(a.y, b.y) + moves(a.z, b.z)
 }
 
-/// How far one coordinate is from another along the axes.
+/// Returns the distance of two coordinates along the axes.
 fn distance(a: Coord, b: Coord) -> u32
     ensures { result ≡ distance_of a b }
 {
     u32::from(gap(a.x, b.x)) + u32::from(gap(a.y, b.y)) + u32::from(gap(a.z, b.z))
 }
 
-/// What moves along the axes from one coordinate to another cost beside their upkeep.
+/// Returns the cost of moves along the axes from one coordinate to another, without their upkeep.
 pub fn cost_of_way(a: Coord, b: Coord) -> i64
     ensures value { result ≡ pos (2 * distance_of a b) }
     ensures most { result ≤ℤ pos (30 * moves_to_of a b) }
@@ -79,7 +79,7 @@ pub fn cost_of_way(a: Coord, b: Coord) -> i64
     2 * i64::from(distance(a, b))
 }
 
-/// Where the next move on the way ends.
+/// Returns the end of the next move toward a component.
 pub fn next_stop(at: u16, to: u16) -> u16
     requires differ { at ≢ to }
     ensures onward { IsOnward at result to }
@@ -99,7 +99,7 @@ pub fn next_stop(at: u16, to: u16) -> u16
     }
 }
 
-/// What leads from one component to another.
+/// Returns the signed difference from one component to another.
 pub fn signed_gap(from: u16, to: u16) -> i16
     requires from { from ≤ MOST_R }
     requires to { to ≤ MOST_R }
@@ -108,7 +108,7 @@ pub fn signed_gap(from: u16, to: u16) -> i16
     to as i16 - from as i16
 }
 
-/// The difference along an axis.
+/// Returns the difference along an axis.
 fn difference(axis: Axis, by: i16) -> Diff
     ensures { result ≡ along axis by }
 {
@@ -124,7 +124,7 @@ fn difference(axis: Axis, by: i16) -> Diff
     }
 }
 
-/// The difference from one component to another along an axis.
+/// Returns the difference from one component to another along an axis.
 pub fn towards(axis: Axis, at: u16, next: u16) -> Long
     requires differ { at ≢ next }
     requires at { at ≤ MOST_R }
@@ -138,7 +138,7 @@ pub fn towards(axis: Axis, at: u16, next: u16) -> Long
     long
 }
 
-/// The difference along an axis to the next voxel.
+/// Returns the difference along an axis to the next voxel.
 pub fn ahead(axis: Axis) -> Near
     ensures { result ≡ along axis (pos 1) }
 {
@@ -148,7 +148,7 @@ pub fn ahead(axis: Axis) -> Near
     near
 }
 
-/// The difference along an axis to the voxel before.
+/// Returns the difference along an axis to the previous voxel.
 pub fn behind(axis: Axis) -> Near
     ensures { result ≡ along axis (neg_ℤ (pos 1)) }
 {
@@ -158,7 +158,7 @@ pub fn behind(axis: Axis) -> Near
     near
 }
 
-/// Adds the least moves along an axis from one component to another. There is room for them.
+/// Appends the least moves along an axis from one component to another. The capacity suffices.
 pub fn push_leg(commands: &mut Vec<Command>, axis: Axis, from: u16, to: u16)
     requires from { from ≤ MOST_R }
     requires to { to ≤ MOST_R }

@@ -1,4 +1,4 @@
-//! What steps of the only bot cost.
+//! The cost of steps of the only bot.
 ghost use Rattle.std.specs.Prelude.{◌≡◌, ◌+◌, ◌*◌, ◌≤◌, ℤ, pos, neg_ℤ, ◌+ℤ◌, ◌≤ℤ◌, unsigned_abs};
 ghost use Rattle.nano_spec.specs.Energy.{upkeep_of};
 ghost use Rattle.plan_tape.specs.Progress.{IsBounded};
@@ -7,7 +7,7 @@ use energy_sum::upkeep;
 use nano_spec::Harmonics;
 use vox_geom::MOST_R;
 
-/// The upkeep of a step of one bot.
+/// Returns the upkeep of a step of one bot.
 fn lone_upkeep(resolution: u16, harmonics: Harmonics) -> u64
     requires { resolution ≤ MOST_R }
     ensures value { result ≡ unsigned_abs (upkeep_of resolution harmonics 1) }
@@ -16,7 +16,7 @@ fn lone_upkeep(resolution: u16, harmonics: Harmonics) -> u64
     upkeep(resolution, harmonics, 1).unsigned_abs()
 }
 
-/// The upkeep of so many steps of one bot.
+/// Returns the upkeep of `count` steps of one bot.
 pub fn upkeep_of_steps(count: u32, resolution: u16, harmonics: Harmonics) -> i64
     requires resolution { resolution ≤ MOST_R }
     requires count { count ≤ 1073741824 }
@@ -28,7 +28,7 @@ pub fn upkeep_of_steps(count: u32, resolution: u16, harmonics: Harmonics) -> i64
     (u64::from(count) * each) as i64
 }
 
-/// The energy after so many more steps with this upkeep, which cost this together beside it.
+/// Returns the energy after `count` more steps with this upkeep and this total cost of their commands.
 pub fn charge(energy: i64, steps: u32, count: u32, upkeep: i64, cost: i64) -> i64
     requires steps { steps + count ≤ 1073741824 }
     requires bounded { IsBounded energy steps }

@@ -11,7 +11,7 @@ use std::sync::ledger::{Blank, Ledger};
 use vox_geom::{Coord, Steps};
 use vox_planes::Planes;
 
-/// The least coordinate of the layer of y at which two models differ, counted in a ledger of its own.
+/// Returns the least coordinate of layer y at which two models differ, counted in a ledger of its own.
 fn difference_in<L: Ledger>(source: &Planes, target: &Planes, y: u16, blank: Blank) -> Option<Coord>
     requires same { source.now.resolution ≡ target.now.resolution }
     requires within { y < source.now.resolution }
@@ -22,7 +22,7 @@ fn difference_in<L: Ledger>(source: &Planes, target: &Planes, y: u16, blank: Bla
     source.layer_difference(target, y, &mut steps)
 }
 
-/// The lowest layer in which two models of one resolution differ: `None` where they are the same. It takes no memory.
+/// Returns the lowest layer in which two models of one resolution differ, or `None` if they are equal. Does not allocate.
 pub fn lowest_difference(source: &Planes, target: &Planes) -> Option<u16>
     requires same { source.now.resolution ≡ target.now.resolution }
     ensures found { IfSome result (IsLowest source.now target.now) }

@@ -1,4 +1,4 @@
-//! The frame of a plan by one bot under High: how it rises, and how it goes home.
+//! The frame of a plan by one bot under High: its rise and its way home.
 ghost use Rattle.std.specs.Prelude.{◌≡◌, ◌+◌, ◌*◌, ◌≤◌, IfOk, count_by, length};
 ghost use Rattle.nano_spec.specs.Cutting.{AreCommands};
 ghost use Rattle.nano_spec.specs.Legal.{IsLegal};
@@ -16,7 +16,7 @@ use std::alloc::Global;
 use vox_geom::{Coord, Memory};
 use vox_planes::Planes;
 
-/// The tape of a legal model, by the full profile, with the bot at the top above the origin, under High.
+/// Returns the tape of a legal model, by the full profile, with the bot at the top above the origin, under High.
 pub fn rise(alloc: Global, source: Planes) -> Result<Tape, Memory>
     requires { IsLegal source }
     ensures source { IfOk result (λ tape. tape.source ≡ source) }
@@ -33,7 +33,7 @@ pub fn rise(alloc: Global, source: Planes) -> Result<Tape, Memory>
     Ok(tape)
 }
 
-/// The plan whose only bot, which is under High, goes home, flips and halts. The matrix is a legal model, and void from the
+/// Returns the plan whose only bot, which is under High, goes home, flips and halts. The matrix is a legal model, and void from the
 /// bot's height on.
 pub fn close(mut tape: Tape) -> Result<Plan, Memory>
     requires alone { length tape.bots ≡ 1 }

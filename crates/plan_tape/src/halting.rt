@@ -12,7 +12,7 @@ use std::alloc::Global;
 use vox_geom::Memory;
 use vox_planes::Planes;
 
-/// A Halt alone, where the source is grounded: the plan of every target with the source's voxels.
+/// Returns a Halt alone, if the source is grounded: the plan of every target with the source's voxels.
 pub fn halt_alone(alloc: Global, source: Planes, profile: Profile) -> Result<Plan, Memory>
     requires grounded { FirstUngrounded source None }
     requires seeds { profile.seeds ≤ 39 }

@@ -1,4 +1,4 @@
-//! What holds of the states that commands reach: how many bots there are at most, and how a run goes through them.
+//! Laws of the states that commands reach: a bound on the bots, and the run through them.
 ghost use Rattle.std.specs.Prelude.{ℕ, ◌+◌, ℤ, ◌++◌, ◌↔◌, List, count_by};
 ghost use Rattle.nano_spec.specs.declared.commands.Command.{Command};
 ghost use Rattle.nano_spec.specs.declared.outcomes.Verdict.{Verdict};
@@ -25,9 +25,9 @@ pub fn fissions_bound_the_bots()
         → HasAtMost source profile commands (1 + count_by is_fission commands) }
 {}
 
-/// A run of the definitions goes through the states that its commands reach. What comes of a trace is what comes of the rest of it from a state
-/// that a first part reaches (onward); each verdict falls at such a state (decided); and the definitions accept a trace exactly where all of it
-/// reaches a state without bots whose voxels are those of the target (accepted).
+/// A run of the definitions goes through the states that its commands reach. The verdict on a trace is that on the rest of it, from
+/// a state that a prefix reaches (onward); each verdict is decided at such a state (decided); and the definitions accept a trace
+/// exactly if all of it reaches a state without bots whose voxels are those of the target (accepted).
 pub fn runs_go_through_reached_states()
     ensures onward { (source target : Matrix) (profile : Profile) (before rest : List Command) (s : State) (done : ℕ)
         (verdict : Verdict)

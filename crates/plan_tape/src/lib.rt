@@ -1,4 +1,4 @@
-//! Plans that are written step by step, each accepted by the definitions (docs/FORMATS.md, "Rules").
+//! Plans written step by step, each step accepted by the definitions (docs/FORMATS.md, "Rules").
 //!
 //! A planner meets the conditions of a [`Tape`]'s calls and gets a trace that runs: no step is judged here a second time.
 #![tactic(auto)]

@@ -15,7 +15,7 @@ use std::sync::ledger::{Blank, Ledger};
 use system_state::{System, Turns, recall_all};
 use vox_geom::Steps;
 
-/// The groups take their turns, counted in a ledger of its own. Nothing is judged.
+/// Applies the groups of a step, counted in a ledger of its own. Judges nothing.
 fn advance_in<L: Ledger>(system: &mut System, turns: &mut Turns, commands: &[Command], blank: Blank)
     requires commands { length commands.now ≡ length system.old.bots }
     requires judged { (step : ℕ) × (broken_of system.old commands.now step ≡ None) }
@@ -28,7 +28,7 @@ fn advance_in<L: Ledger>(system: &mut System, turns: &mut Turns, commands: &[Com
     system.advance(commands, turns, &mut steps);
 }
 
-/// The state after the commands of a step that breaks no rule, where nobody counts the touches.
+/// Updates the state by the commands of a step that breaks no rule, without counting the touches for the caller.
 pub fn advance(system: &mut System, turns: &mut Turns, commands: &[Command])
     requires commands { length commands.now ≡ length system.old.bots }
     requires judged { (step : ℕ) × (broken_of system.old commands.now step ≡ None) }

@@ -45,8 +45,8 @@ pub struct Plan {
     pub steps: u32,
 }
 
-/// A plan in the making: the source, the commands so far, and the state that they reach, every step accepted. A call that
-/// is refused memory leaves the tape as it was.
+/// A plan in the making: the source, the commands so far, and the state that they reach, every step accepted. A call that runs out
+/// of memory leaves the tape as it was.
 #[derive(Drop)]
 pub struct Tape {
     source: Planes,
@@ -66,7 +66,7 @@ impl Model for Tape {
     ghost invariant = { λ t. IsReached (progress_of t.source t.commands.items t.system t.steps) };
 }
 
-/// Takes room for so many more commands.
+/// Reserves capacity for `count` more commands.
 fn take_room(commands: &mut Vec<Command>, count: u32) -> Result<(), Memory>
     ensures items { commands.new.items ≡ commands.old.items }
     ensures len { vec_len commands.new ≡ vec_len commands.old }
@@ -76,7 +76,7 @@ fn take_room(commands: &mut Vec<Command>, count: u32) -> Result<(), Memory>
     Ok(())
 }
 
-/// Adds a command. Where there is no memory, the commands stay as they were.
+/// Appends a command. If allocation fails, the commands stay as they were.
 fn write(commands: &mut Vec<Command>, command: Command) -> Result<(), Memory>
     ensures ok { OnOk result (commands.new.items ≡ commands.old.items ++ command ∷ []) }
     ensures err { OnErr result (commands.new.items ≡ commands.old.items) }
@@ -86,7 +86,7 @@ fn write(commands: &mut Vec<Command>, command: Command) -> Result<(), Memory>
     Ok(())
 }
 
-/// Adds commands. Where there is no memory, the commands stay as they were.
+/// Appends commands. If allocation fails, the commands stay as they were.
 fn write_all(commands: &mut Vec<Command>, more: &[Command]) -> Result<(), Memory>
     ensures ok { OnOk result (commands.new.items ≡ commands.old.items ++ more.now) }
     ensures err { OnErr result (commands.new.items ≡ commands.old.items) }
@@ -98,7 +98,7 @@ fn write_all(commands: &mut Vec<Command>, more: &[Command]) -> Result<(), Memory
 }
 
 impl Tape {
-    /// The tape before the first command, with the profile of the contest. The source is grounded.
+    /// Returns the tape before the first command, with the profile of the contest. The source is grounded.
     pub fn start(alloc: Global, source: Planes) -> Result<Tape, Memory>
         requires grounded { FirstUngrounded source None }
         ensures { IfOk result (λ t. t ≡ starting source full_profile) }
@@ -106,7 +106,7 @@ impl Tape {
         Tape::start_as(alloc, source, Profile::full())
     }
 
-    /// The tape before the first command, with this profile. The source is grounded.
+    /// Returns the tape before the first command, with this profile. The source is grounded.
     pub fn start_as(alloc: Global, source: Planes, profile: Profile) -> Result<Tape, Memory>
         requires grounded { FirstUngrounded source None }
         requires seeds { profile.seeds ≤ 39 }
@@ -123,7 +123,7 @@ impl Tape {
         })
     }
 
-    /// The matrix.
+    /// Returns the matrix.
     pub fn matrix(&self) -> &Planes
         ensures value { result.now ≡ self.now.matrix }
         ensures whole { IsWhole self.now.matrix }
@@ -131,7 +131,7 @@ impl Tape {
         self.system.matrix()
     }
 
-    /// The active bots.
+    /// Returns the active bots.
     pub fn crew(&self) -> &Crew
         ensures value { result.now ≡ self.now.bots }
         ensures crew { IsCrew self.now.bots }
@@ -140,7 +140,7 @@ impl Tape {
         self.system.crew()
     }
 
-    /// The harmonics.
+    /// Returns the harmonics.
     pub fn harmonics(&self) -> Harmonics
         ensures value { result ≡ self.now.harmonics }
         ensures held { IsHeld self.now.harmonics self.now.matrix }
@@ -148,14 +148,14 @@ impl Tape {
         self.system.harmonics()
     }
 
-    /// The energy so far.
+    /// Returns the energy so far.
     pub fn energy(&self) -> i64
         ensures { result ≡ self.now.energy }
     {
         self.system.energy()
     }
 
-    /// How many steps were made: at most 2^30.
+    /// Returns the number of steps made, at most 2^30.
     pub fn steps_done(&self) -> u32
         ensures value { result ≡ self.now.steps }
         ensures most { result ≤ 1073741824 }
@@ -163,7 +163,7 @@ impl Tape {
         self.steps
     }
 
-    /// Where the only bot is.
+    /// Returns the position of the only bot.
     fn spot(&self) -> Coord
         requires { length self.now.bots ≡ 1 }
         ensures value { result ≡ spot self.now.bots }
@@ -173,7 +173,7 @@ impl Tape {
         bot.pos
     }
 
-    /// The coordinate that the difference leads to from the only bot.
+    /// Returns the coordinate that the difference leads to from the only bot.
     fn beside(&self, d: Diff) -> Coord
         requires alone { length self.now.bots ≡ 1 }
         requires reachable { IsReachable self.now d }
@@ -187,7 +187,7 @@ impl Tape {
         beside
     }
 
-    /// The energy after so many more steps of the only bot, which cost this together beside their upkeep.
+    /// Returns the energy after `count` more steps of the only bot with this total cost beyond their upkeep.
     fn energy_after(&self, count: u32, cost: i64) -> i64
         requires alone { length self.now.bots ≡ 1 }
         requires limit { self.now.steps + count ≤ 1073741824 }
@@ -201,7 +201,7 @@ impl Tape {
         charge(self.system.energy(), self.steps, count, upkeep, cost)
     }
 
-    /// One step of all bots: the i-th command is for the i-th bot. Where harmonics are Low then, each full voxel is grounded.
+    /// Writes one step of all bots: the i-th command is for the i-th bot. If harmonics are Low then, each full voxel is grounded.
     pub fn step(&mut self, commands: &[Command]) -> Result<(), Memory>
         requires some { 1 ≤ length self.old.bots }
         requires commands { length commands.now ≡ length self.old.bots }
@@ -219,7 +219,7 @@ impl Tape {
         Ok(())
     }
 
-    /// The state is the one that the definitions reach from the source by the commands, every step accepted.
+    /// Proof aid: the definitions reach the state from the source by the commands, every step accepted. No effect.
     pub fn recall_reached(&self)
         ensures reached { Reaches self.now.source self.now.profile self.now.commands (state_of self.now)
             self.now.steps }
@@ -227,14 +227,14 @@ impl Tape {
         let _ = &self.source;
     }
 
-    /// The matrix has a voxel for each coordinate of a resolution of 1 to 400.
+    /// Proof aid: the matrix has a voxel for each coordinate of a resolution of 1 to 400. No effect.
     pub fn recall_whole(&self)
         ensures whole { IsWhole self.now.matrix }
     {
         self.system.recall();
     }
 
-    /// The state is ready for a step.
+    /// Proof aid: the state is ready for a step. No effect.
     pub fn recall_ready(&self)
         ensures ready { IsReady (state_of self.now) }
         ensures held { IsHeld self.now.harmonics self.now.matrix }
@@ -242,8 +242,8 @@ impl Tape {
         self.system.recall();
     }
 
-    /// No bot flips or acts in a group but to fuse: each has what it needs, and any two fuse or lie apart. Under Low, each full
-    /// voxel is grounded then.
+    /// Writes a step in which no bot flips or acts in a group but to fuse: each command is possible, and any two bots fuse or do
+    /// not interfere. Under Low, each full voxel is grounded then.
     pub fn act_all(&mut self, commands: &[Command]) -> Result<(), Memory>
         requires some { 1 ≤ length self.old.bots }
         requires commands { length commands.now ≡ length self.old.bots }
@@ -259,7 +259,7 @@ impl Tape {
         self.step(commands)
     }
 
-    /// Each bot waits or makes a move along an axis. The ways are free, and lie apart.
+    /// Writes a step in which each bot waits or makes a move along an axis. The paths are free and disjoint.
     pub fn move_all(&mut self, commands: &[Command]) -> Result<(), Memory>
         requires some { 1 ≤ length self.old.bots }
         requires commands { length commands.now ≡ length self.old.bots }
@@ -275,7 +275,7 @@ impl Tape {
         self.act_all(commands)
     }
 
-    /// All bots make one region full or void together, under High.
+    /// Writes a step in which all bots make one region full or void together, under High.
     pub fn paint_all(&mut self, commands: &[Command]) -> Result<(), Memory>
         requires some { 1 ≤ length self.old.bots }
         requires commands { length commands.now ≡ length self.old.bots }
@@ -295,7 +295,8 @@ impl Tape {
         self.step(commands)
     }
 
-    /// Each bot fills a voxel beside itself or waits; what they name lies apart. Under Low, each full voxel is grounded then.
+    /// Writes a step in which each bot fills a neighbor or waits; they do not interfere. Under Low, each full voxel is grounded
+    /// then.
     pub fn fill_all(&mut self, fills: &[Command]) -> Result<(), Memory>
         requires some { 1 ≤ length self.old.bots }
         requires commands { length fills.now ≡ length self.old.bots }
@@ -313,7 +314,7 @@ impl Tape {
         self.act_all(fills)
     }
 
-    /// Each bot splits or waits; what they name lies apart.
+    /// Writes a step in which each bot splits (fission) or waits; they do not interfere.
     pub fn split_all(&mut self, splits: &[Command]) -> Result<(), Memory>
         requires some { 1 ≤ length self.old.bots }
         requires commands { length splits.now ≡ length self.old.bots }
@@ -330,7 +331,7 @@ impl Tape {
         self.act_all(splits)
     }
 
-    /// Each bot fuses with another or waits; what those name that do not fuse with one another lies apart.
+    /// Writes a step in which each bot fuses with another or waits; bots that do not fuse with each other do not interfere.
     pub fn fuse_all(&mut self, fusions: &[Command]) -> Result<(), Memory>
         requires some { 1 ≤ length self.old.bots }
         requires commands { length fusions.now ≡ length self.old.bots }
@@ -350,7 +351,7 @@ impl Tape {
         self.act_all(fusions)
     }
 
-    /// The only bot changes the harmonics. Where they are Low then, each full voxel is grounded.
+    /// Writes a Flip of the only bot. If harmonics are Low then, each full voxel is grounded.
     pub fn flip(&mut self) -> Result<(), Memory>
         requires alone { length self.old.bots ≡ 1 }
         requires allowed { IsAllowed self.old Command.Flip }
@@ -368,7 +369,7 @@ impl Tape {
         Ok(())
     }
 
-    /// The only bot fills the voxel that the difference leads to. Under Low, each full voxel is grounded then.
+    /// Writes a Fill of the only bot at the difference. Under Low, each full voxel is grounded then.
     pub fn fill(&mut self, d: Near) -> Result<(), Memory>
         requires alone { length self.old.bots ≡ 1 }
         requires allowed { IsAllowed self.old (Command.Fill d) }
@@ -391,7 +392,7 @@ impl Tape {
         Ok(())
     }
 
-    /// The only bot voids the voxel that the difference leads to. Under Low, each full voxel is grounded then.
+    /// Writes a Void of the only bot at the difference. Under Low, each full voxel is grounded then.
     pub fn void(&mut self, d: Near) -> Result<(), Memory>
         requires alone { length self.old.bots ≡ 1 }
         requires allowed { IsAllowed self.old (Command.Void d) }
@@ -414,7 +415,7 @@ impl Tape {
         Ok(())
     }
 
-    /// The only bot goes to a coordinate by moves along x, then y, then z, as few along each as can be. The three ways are void.
+    /// Writes the fewest moves of the only bot to a coordinate along x, then y, then z. The three paths are void.
     pub fn go(&mut self, to: Coord) -> Result<(), Memory>
         requires alone { length self.old.bots ≡ 1 }
         requires allowed { MayMove self.old }
@@ -438,7 +439,7 @@ impl Tape {
         Ok(())
     }
 
-    /// The only bot halts at the origin, under Low.
+    /// Writes a Halt of the only bot at the origin, under Low.
     pub fn halt(&mut self) -> Result<(), Memory>
         requires alone { length self.old.bots ≡ 1 }
         requires allowed { IsAllowed self.old Command.Halt }
@@ -456,7 +457,7 @@ impl Tape {
         Ok(())
     }
 
-    /// The plan. The definitions accept it for every target that has the tape's voxels. It takes no memory.
+    /// Returns the plan. The definitions accept it for every target that has the tape's voxels. Does not allocate.
     pub fn finish(self) -> Plan
         requires { self.bots ≡ [] }
         ensures commands { result.commands ≡ self.commands }

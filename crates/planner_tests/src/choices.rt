@@ -1,5 +1,5 @@
-//! Plans that their proposals make cheaper. Energies and steps were worked out by hand from the rules: at resolution 3 a step of
-//! one bot costs 101 under Low and 729 more under High; a proposal has no Flips where nothing floats.
+//! Plans that proposals make cheaper. Energies and steps were worked out by hand from the rules: at resolution 3 a step of one bot
+//! costs 101 under Low and 729 more under High; a proposal has no Flips if nothing floats.
 ghost use Rattle.std.specs.Prelude.{IfOk};
 ghost use Rattle.nano_spec.specs.Legal.{IsLegal};
 
@@ -17,7 +17,7 @@ use std::test::Fail;
 use vox_geom::Memory;
 use vox_planes::Planes;
 
-/// The model, if it is legal.
+/// Returns the model, if it is legal.
 pub(crate) fn checked(alloc: Global, model: Planes) -> Result<Planes, Memory>
     ensures { IfOk result IsLegal }
 {
@@ -32,7 +32,7 @@ pub(crate) fn costs(rt: &impl Abort, plan: &Plan, energy: i64, steps: u32) {
     assert_eq!(rt; plan.steps, steps);
 }
 
-/// The plans of one and of two bots between two models.
+/// Asserts the costs of the plans of one and of two bots between two models.
 fn one_and_two(
     rt: &impl Abort,
     alloc: Global,
@@ -60,7 +60,7 @@ fn one_and_two(
     Ok(())
 }
 
-/// A model that the swarm builds and that four bots take down.
+/// Asserts the costs of plans that build a model by the swarm and take it down by four bots.
 fn up_and_down(
     rt: &impl Abort,
     alloc: Global,
@@ -75,7 +75,7 @@ fn up_and_down(
     Ok(())
 }
 
-/// The plan of one bot under Low all the time, or the number of the refusal in place of the steps.
+/// Asserts the cost of the plan of one bot under Low all the time, or the number of the refusal in place of the steps.
 fn low(
     rt: &impl Abort,
     alloc: Global,
@@ -116,7 +116,7 @@ fn a_post_is_taken_down_backwards(rt: HostRuntime) -> Result<(), Fail> {
     Ok(())
 }
 
-/// A post of two voxels at resolution 5, and beside its head a voxel that is filled after it.
+/// A post of two voxels at resolution 5, and next to its head a voxel that is filled after it.
 #[test]
 fn an_arm_is_filled_once_it_is_attached(rt: HostRuntime) -> Result<(), Fail> {
     let alloc = rt.alloc();
@@ -131,7 +131,7 @@ fn an_arm_is_filled_once_it_is_attached(rt: HostRuntime) -> Result<(), Fail> {
     Ok(())
 }
 
-/// A post at resolution 5 of whose head an arm leads to a voxel that hangs from it.
+/// Returns a post at resolution 5, from whose head an arm leads to an overhanging voxel.
 fn hanging(alloc: Global) -> Result<Planes, Memory>
     ensures { IfOk result IsLegal }
 {
@@ -143,7 +143,7 @@ fn hanging(alloc: Global) -> Result<Planes, Memory>
     checked(alloc, planes)
 }
 
-/// One bot stays under Low all the time: it fills a pole of one voxel below the one that hangs, and voids it at the end.
+/// One bot stays under Low all the time: it fills a pole of one voxel below the overhanging one, and voids it at the end.
 #[test]
 fn a_pole_holds_what_hangs(rt: HostRuntime) -> Result<(), Fail> {
     let alloc = rt.alloc();
@@ -156,7 +156,7 @@ fn a_pole_holds_what_hangs(rt: HostRuntime) -> Result<(), Fail> {
     Ok(())
 }
 
-/// Four bots take it down under Low all the time, once the first one has put a pole of one voxel below the one that hangs.
+/// Four bots take it down under Low all the time, after the first one has put a pole of one voxel below the overhanging one.
 #[test]
 fn four_bots_take_down_what_a_pole_holds(rt: HostRuntime) -> Result<(), Fail> {
     let alloc = rt.alloc();
@@ -179,7 +179,7 @@ fn squads_wait_for_what_hangs(rt: HostRuntime) -> Result<(), Fail> {
     Ok(())
 }
 
-/// What hangs is not attached, so there is no proposal without Flips.
+/// The overhanging part is not attached, so there is no proposal without Flips.
 #[test]
 fn what_hangs_takes_a_flip(rt: HostRuntime) -> Result<(), Fail> {
     let alloc = rt.alloc();

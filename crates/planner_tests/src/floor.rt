@@ -8,7 +8,7 @@ use std::process::Abort;
 use std::test::Fail;
 use vox_geom::{Coord, MOST_R, Memory};
 
-/// The plan of the model of this resolution with these voxels.
+/// Returns the plan of the model of this resolution with these voxels.
 fn planned(rt: &impl Abort, alloc: Global, r: u16, full: &[Coord]) -> Result<Plan, Memory> {
     assert!(rt; r >= 1);
     assert!(rt; r <= MOST_R);
@@ -37,7 +37,7 @@ fn plans_pay_by_their_steps(rt: HostRuntime) -> Result<(), Fail> {
     Ok(())
 }
 
-/// Whether the model of resolution 4 with this voxel alone lies on the floor.
+/// Returns whether the model of resolution 4 with this voxel alone lies on the floor.
 fn is_flat_with(alloc: Global, c: Coord) -> Result<bool, Memory> {
     Ok(is_flat(&model(alloc, 4, &[c])?))
 }

@@ -1,4 +1,4 @@
-//! Rows and runs of models by `group_planner`, which were counted by hand.
+//! Rows and runs of models by `group_planner`, counted by hand.
 use crate::models::{at, put};
 use group_planner::{rows, runs};
 use std::alloc::Global;
@@ -25,7 +25,7 @@ fn long_pieces_are_cut(rt: HostRuntime) -> Result<(), Fail> {
     Ok(())
 }
 
-/// The voxels of a house in one line: walls at x and z of 5 and 14, and a roof at y of 8.
+/// Fills the voxels of a house in one line: walls at x and z of 5 and 14, and a roof at y of 8.
 fn put_line(planes: &mut Planes, x: u16, y: u16) {
     for z in 5..15 {
         if y == 8 || x == 5 || x == 14 || z == 5 || z == 14 {
@@ -34,14 +34,14 @@ fn put_line(planes: &mut Planes, x: u16, y: u16) {
     }
 }
 
-/// The voxels of the house at one x.
+/// Fills the voxels of the house at one x.
 fn put_wall(planes: &mut Planes, x: u16) {
     for y in 0..9 {
         put_line(planes, x, y);
     }
 }
 
-/// The rows and the runs of the house.
+/// Returns the rows and the runs of the house.
 fn counted_house(alloc: Global) -> Result<(u32, u32), Memory> {
     let mut house = Planes::empty(alloc, 20)?;
     for x in 5..15 {

@@ -1,5 +1,5 @@
-//! Tests of the crates that plan: `plan_tape`, `floor_planner`, `group_planner`, `low_planner` and `plan_choice`. There is no code here but
-//! tests: what the calls answer is proved, and that they succeed, and the worked examples, are shown here.
+//! Tests of the planning crates: `plan_tape`, `floor_planner`, `group_planner`, `low_planner` and `plan_choice`. They contain only
+//! tests: the results of the calls are proved; the tests check that they succeed, and worked examples.
 #![tactic(auto)]
 
 #[cfg(test)]

@@ -17,7 +17,7 @@ const HANGING: [u8; 17] = [
     5, 0, 0, 0, 0x84, 0x10, 0, 0, 0x20, 0, 0, 0x42, 0, 0, 0, 0, 0,
 ];
 
-/// The plan of a file's model, if it is legal.
+/// Returns the plan of a file's model, if it is legal.
 fn planned(alloc: Global, bytes: &[u8]) -> Result<Plan, LowFault> {
     let Ok(target) = read_model(alloc, bytes) else {
         return Err(LowFault::Memory);

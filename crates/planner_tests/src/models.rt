@@ -5,7 +5,7 @@ use std::alloc::Global;
 use vox_geom::{Coord, Memory};
 use vox_planes::Planes;
 
-/// The coordinate with these components.
+/// Returns the coordinate with these components.
 pub(crate) fn at(x: u16, y: u16, z: u16) -> Coord {
     Coord { x, y, z }
 }
@@ -18,7 +18,7 @@ pub(crate) fn put(planes: &mut Planes, c: Coord) {
     }
 }
 
-/// The model of a resolution in which these voxels are full.
+/// Returns the model of a resolution in which these voxels are full.
 pub(crate) fn model(alloc: Global, r: u16, full: &[Coord]) -> Result<Planes, Memory>
     requires some { 1 ≤ r }
     requires most { r ≤ 400 }

@@ -1,5 +1,5 @@
-//! A plan of two bots on a tape of `plan_tape`, whose energies were worked out by hand from the rules, and the lowest
-//! difference of two matrices.
+//! A plan of two bots on a tape of `plan_tape`, with energies worked out by hand from the rules, and the lowest difference of two
+//! matrices.
 ghost use Rattle.std.specs.Prelude.{◌≡◌, IfOk, IsTrue, None, OnOk};
 ghost use Rattle.vox_geom.specs.Counting.{IsBlankOf};
 ghost use Rattle.nano_spec.specs.Grounded.{FirstUngrounded};
@@ -27,14 +27,14 @@ fn long(rt: &impl Abort, dx: i16, dy: i16, dz: i16) -> Long {
     Long::of(Diff { dx, dy, dz }).expect(rt, "long")
 }
 
-/// Whether each full voxel is held up.
+/// Returns whether each full voxel is grounded.
 fn is_grounded(alloc: Global, planes: &Planes) -> Result<bool, Memory>
     ensures { IfOk result (λ held. IsTrue held → FirstUngrounded planes.now None) }
 {
     Ok(first_ungrounded(alloc, planes)?.is_none())
 }
 
-/// A step of all bots whose conditions the test looks after: the system makes it first.
+/// Makes a step of all bots after the test has checked its conditions: the system makes it first.
 fn step<L: Ledger>(
     rt: &impl Abort,
     alloc: Global,
@@ -62,23 +62,23 @@ fn step<L: Ledger>(
     tape.step(commands)
 }
 
-/// The plan of a tape that all bots have left.
+/// Returns the plan of a tape that all bots have left.
 fn finished(rt: &impl Abort, tape: Tape) -> Plan {
     assert!(rt; tape.crew().count() == 0);
     tape.finish()
 }
 
-/// The energy of the steps so far.
+/// Asserts the energy of the steps so far.
 fn assert_energy(rt: &impl Abort, tape: &Tape, energy: i64) {
     assert!(rt; tape.energy() == energy);
 }
 
-/// The bot with this bid is at a coordinate.
+/// Asserts that the bot with this bid is at a coordinate.
 fn assert_stands(rt: &impl Abort, tape: &Tape, c: Coord, bid: u8) {
     assert_eq!(rt; tape.crew().at(c), Some(bid));
 }
 
-/// A bot splits, and both go out.
+/// Splits a bot, and moves both out.
 fn go_out<L: Ledger>(
     rt: &impl Abort,
     alloc: Global,
@@ -103,7 +103,7 @@ fn go_out<L: Ledger>(
     Ok(())
 }
 
-/// Both come back, and fuse, and the one that is left halts.
+/// Moves both back, fuses them, and halts the remaining one.
 fn come_home<L: Ledger>(
     rt: &impl Abort,
     alloc: Global,
@@ -127,7 +127,7 @@ fn come_home<L: Ledger>(
     step(rt, alloc, tape, system, turns, &[Command::Halt], steps)
 }
 
-/// A bot splits over a source, both go out and come back, and they fuse again.
+/// Plans over a source: splits a bot, moves both out and back, and fuses them again.
 fn planned<L: Ledger>(
     rt: &impl Abort,
     alloc: Global,
@@ -143,7 +143,7 @@ fn planned<L: Ledger>(
     Ok(finished(rt, tape))
 }
 
-/// That plan at resolution 3.
+/// Returns that plan at resolution 3.
 fn of_two<L: Ledger>(rt: &impl Abort, alloc: Global, blank: Blank) -> Result<Plan, Memory>
     requires blank { IsBlankOf blank L.name L.parts }
 {
@@ -160,7 +160,7 @@ fn two_bots_go_out_and_come_home(rt: HostRuntime) -> Result<(), Fail> {
     Ok(())
 }
 
-/// The lowest layer in which two matrices of resolution 3 differ.
+/// Asserts the lowest layer in which two matrices of resolution 3 differ.
 fn assert_lowest(
     rt: &impl Abort,
     alloc: Global,

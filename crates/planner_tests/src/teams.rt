@@ -1,4 +1,4 @@
-//! Plans of teams: what the judge accepts of them, and what it refuses.
+//! Plans of teams that the judge accepts, and commands that it refuses.
 ghost use Rattle.std.specs.Prelude.{IfOk};
 ghost use Rattle.nano_spec.specs.Legal.{IsLegal};
 
@@ -12,22 +12,22 @@ use std::test::Fail;
 use vox_geom::{Diff, Far, Long, Memory, Near, Short};
 use vox_planes::Planes;
 
-/// A difference.
+/// Returns a difference.
 fn by(dx: i16, dy: i16, dz: i16) -> Diff {
     Diff { dx, dy, dz }
 }
 
-/// A move along one axis.
+/// Returns a move along one axis.
 fn straight(d: Diff) -> Option<Command> {
     Some(Command::SMove(Long::of(d)?))
 }
 
-/// A move along two axes.
+/// Returns a move along two axes.
 fn bend(d: Diff, e: Diff) -> Option<Command> {
     Some(Command::LMove(Short::of(d)?, Short::of(e)?))
 }
 
-/// A new bot with this many seeds.
+/// Returns the command that makes a new bot with this many seeds.
 fn fission(d: Diff, seeds: u8) -> Option<Command> {
     Some(Command::Fission(Near::of(d)?, seeds))
 }
@@ -47,7 +47,7 @@ fn group_fill(far: Diff) -> Option<Command> {
     Some(Command::GFill(Near::of(by(0, -1, 0))?, Far::of(far)?))
 }
 
-/// The list of some commands. One that cannot be is a Flip in it.
+/// Returns the list of some commands. One that cannot be is a Flip in it.
 fn list_of(alloc: Global, commands: &[Option<Command>]) -> Result<CommandList, Memory> {
     let mut list = CommandList::new(alloc);
     for command in commands {
@@ -140,7 +140,7 @@ fn fill(d: Diff) -> Option<Command> {
     Some(Command::Fill(Near::of(d)?))
 }
 
-/// Two bots may not go through one voxel in one step.
+/// Two bots may not move through the same voxel in one step.
 #[test]
 fn two_bots_go_through_one_voxel(rt: HostRuntime) -> Result<(), Fail> {
     let alloc = rt.alloc();
@@ -151,7 +151,7 @@ fn two_bots_go_through_one_voxel(rt: HostRuntime) -> Result<(), Fail> {
     Ok(())
 }
 
-/// A block of six voxels along each axis.
+/// Returns a block of six voxels along each axis.
 fn block(alloc: Global) -> Result<Planes, Memory>
     ensures { IfOk result IsLegal }
 {
@@ -166,7 +166,7 @@ fn block(alloc: Global) -> Result<Planes, Memory>
     checked(alloc, planes)
 }
 
-/// How many commands of a plan fill or void a region.
+/// Returns the number of commands of a plan that fill or void a region.
 fn count_regions(plan: &Plan) -> usize {
     let mut count = 0usize;
     for command in plan.commands.as_slice() {

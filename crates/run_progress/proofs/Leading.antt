@@ -1,4 +1,4 @@
--- What comes of the commands that are left, by the progress so far.
+-- The outcome of the commands that are left, by the progress so far.
 use Rattle.std.proofs.Common.{◌≡◌, ℕ, ◌+◌, ◌<◌, refl, sym, ◌∙◌, ap, subst, arith, List, [], ◌∷◌, ◌++◌, Bool, true, false, ◌==◌, length, take, drop, append_assoc, append-nil, length-append, Some}
 use Rattle.std.specs.Prelude.{MatchBool}
 use Rattle.std.proofs.lemmas.List.{take_all}
@@ -21,7 +21,7 @@ use Rattle.nano_spec.specs.State.{State, origin}
 use Rattle.nano_spec.specs.Verdict.{Run, ends, breaks, goes, VerdictOf, broken_end, ending}
 use Rattle.run_progress.specs.Progress.{Mark, Running, Refused, Halted, Followed, Progress, mark_of, stepped, with_command, Joins, MakesStep, PushesAt, Pushes, Comes, first, later, FinishesAt, Finishes}
 
--- ---- what is kept: while the run goes on the next step lacks a command, and after the Halt no bot is left
+-- ---- the invariant: while the run goes on the next step lacks a command, and after the Halt no bot is left
 
 abbrev pub KeepsAt : Mark → Progress → Type 0
 KeepsAt Running p = length p.pending < length p.state.bots
@@ -32,7 +32,7 @@ KeepsAt Followed p = Unit {0}
 abbrev pub Keeps : Progress → Type 0
 Keeps p = KeepsAt p.mark p
 
--- ---- what the rest of the commands comes to
+-- ---- the outcome of the rest of the commands
 
 abbrev pub LeadsAt : Mark → Matrix → Progress → List Command → Verdict → Type 0
 LeadsAt Running target p rest v = Run target p.state (p.pending ++ rest) p.steps v
@@ -70,7 +70,7 @@ module _ (target : Matrix) (p : Progress) (rest : List Command) (v : Verdict) (w
   after_goes t [] e next leads = gone t next (ends e leads)
   after_goes t (bot ∷ bots) e next leads = gone t next leads
 
-  -- what a step comes to
+  -- the progress after the outcome of a step
   made : (outcome : Outcome) → Next p.state p.pending (p.steps + 1) outcome → Leads target (stepped p outcome) rest v
       → Run target p.state (p.pending ++ rest) p.steps v
   made (Goes t) next leads = after_goes t t.bots refl next leads
@@ -108,7 +108,7 @@ one_more target p q command rest v keeps pushes leads = by p.mark refl keeps pus
     by Halted e keeps followed = subst (λ (x : Progress). Leads target x rest v) followed leads
     by Followed e keeps same = subst (λ (m : Mark). LeadsAt m target p rest v) e (subst (λ (x : Progress). Leads target x rest v) same leads)
 
--- ---- what is kept is kept by one more command
+-- ---- one more command keeps the invariant
 
 keeps_goes : (p : Progress) (t : State) (bots : List Bot) → t.bots ≡ bots → KeepsAt (mark_of bots) (stepped p (Goes t))
 keeps_goes p t [] e = e
@@ -154,7 +154,7 @@ leads_from_the_opening {source} {profile} {commands} {p} target rest v (later be
 
 -- ---- the end
 
--- where the trace ends within a step, the step breaks that rule
+-- if the trace ends within a step, the step breaks that rule
 ends_within : (s : State) (commands : List Command) (step : ℕ) (b : Broken) → judge_trace s commands step ≡ Some b
     → Next s commands step (Breaks b)
 ends_within s commands step b e =

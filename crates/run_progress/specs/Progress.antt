@@ -1,5 +1,4 @@
--- How a run stands after the commands that have come so far, and what one more command changes (docs/FORMATS.md,
--- "Rules").
+-- The progress of a run after the commands so far, and the change by one more command (docs/FORMATS.md, "Rules").
 use Rattle.std.specs.Prelude.{◌≡◌, ℕ, ◌+◌, ◌==◌, List, [], ◌∷◌, ◌++◌, length, Some, MatchBool}
 use Rattle.nano_spec.specs.declared.commands.Command.{Command}
 use Rattle.nano_spec.specs.declared.outcomes.Broken.{Broken}
@@ -37,7 +36,7 @@ abbrev pub mark_of : List Bot → Mark
 mark_of [] = Halted
 mark_of (bot ∷ bots) = Running
 
--- the progress whose commands of the next step are all there, by what comes of them
+-- the progress once all commands of the next step are there, by their outcome
 abbrev pub stepped : Progress → Outcome → Progress
 stepped p (Goes t) = record { state = t; steps = p.steps + 1; pending = []; mark = mark_of t.bots }
 stepped p (Breaks b) = record p { mark = Refused b }
@@ -46,7 +45,7 @@ stepped p (Breaks b) = record p { mark = Refused b }
 abbrev pub with_command : Progress → Command → Progress
 with_command p command = record p { pending = p.pending ++ command ∷ [] }
 
--- as many commands have come for the next step as bots are active: q is what comes of the step
+-- as many commands have come for the next step as bots are active: q is the progress after that step
 abbrev pub MakesStep : Progress → Progress → Type 0
 MakesStep p q = (outcome : Outcome) × Next p.state p.pending (p.steps + 1) outcome × (q ≡ stepped p outcome)
 
@@ -72,7 +71,7 @@ pub data Comes (source : Matrix) (profile : Profile) : List Command → Progress
       → Comes source profile before q → Pushes q command p → commands ≡ before ++ command ∷ []
       → Comes source profile commands p
 
--- the verdict where no further command comes: a step that was begun lacks commands
+-- the verdict if no further command comes: a step that was begun lacks commands
 abbrev pub FinishesAt : Mark → Matrix → Progress → Verdict → Type 0
 FinishesAt Running target p v =
     (b : Broken) × (judge_trace p.state p.pending (p.steps + 1) ≡ Some b) × (v ≡ verdict.Refused b)

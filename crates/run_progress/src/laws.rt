@@ -1,4 +1,4 @@
-//! What comes of a trace, command by command.
+//! The verdict on a trace, command by command.
 ghost use Rattle.std.specs.Prelude.{List};
 ghost use Rattle.nano_spec.specs.declared.commands.Command.{Command};
 ghost use Rattle.nano_spec.specs.declared.outcomes.Verdict.{Verdict};
@@ -7,7 +7,7 @@ ghost use Rattle.nano_spec.specs.Matrix.{Matrix};
 ghost use Rattle.nano_spec.specs.Verdict.{VerdictOf};
 ghost use Rattle.run_progress.specs.Progress.{Comes, Finishes, Progress};
 
-/// The progress that commands make one after another from the opening is finished by the verdict of the whole trace.
+/// The progress after all commands, one after another from the opening, finishes with the verdict on the whole trace.
 pub fn the_progress_is_the_verdict()
     ensures { (source target : Matrix) (profile : Profile) (commands : List Command) (progress : Progress)
         (verdict : Verdict)

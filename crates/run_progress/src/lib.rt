@@ -1,4 +1,4 @@
-//! How a run stands while its commands come one after another.
+//! The progress of a run while its commands come one after another.
 #![tactic(auto)]
 
 mod laws;

@@ -1,10 +1,10 @@
-//! What is void and open to the outside, and ways of one bot through it.
+//! The void voxels open to the outside, and paths of one bot through them.
 use crate::site::Site;
 use crate::spots::Spot;
 use std::alloc::Global;
 use vox_geom::{Diff, Memory};
 
-/// The six ways along an axis.
+/// The six directions along an axis.
 const AXES: [(i16, i16, i16); 6] = [
     (1, 0, 0),
     (-1, 0, 0),
@@ -14,10 +14,10 @@ const AXES: [(i16, i16, i16); 6] = [
     (0, 0, -1),
 ];
 
-/// The most that a move along one axis goes.
+/// The longest move along one axis.
 const LONG: i16 = 15;
 
-/// The void voxels that a bot can get to from a place, with the one from which each is got to in one move.
+/// The void voxels that a bot can reach, each with its predecessor by one move.
 #[derive(Drop)]
 pub(crate) struct Air {
     from: Vec<u32>,
@@ -25,7 +25,7 @@ pub(crate) struct Air {
 }
 
 impl Air {
-    /// No voxel.
+    /// Returns the empty set of voxels.
     fn none(alloc: Global, site: &Site) -> Result<Air, Memory> {
         Ok(Air {
             from: vec![in alloc; u32::MAX; site.count()]?,
@@ -33,7 +33,7 @@ impl Air {
         })
     }
 
-    /// The number of the voxel from which one is got to, if there is one.
+    /// Returns the index of the predecessor of a voxel, if the voxel was reached.
     fn source(&self, site: &Site, c: Spot) -> Option<u32> {
         let number = site.number(c)?;
         match self.from.get(number as usize) {
@@ -42,12 +42,12 @@ impl Air {
         }
     }
 
-    /// Whether a voxel is got to.
+    /// Returns whether a voxel was reached.
     pub(crate) fn has(&self, site: &Site, c: Spot) -> bool {
         self.source(site, c).is_some()
     }
 
-    /// Adds a voxel that is got to from another one, if it was not got to before.
+    /// Adds a voxel with its predecessor, if it was not reached before.
     fn add(&mut self, site: &Site, c: Spot, from: u32) -> Result<(), Memory> {
         let Some(number) = site.number(c) else {
             return Ok(());
@@ -61,7 +61,7 @@ impl Air {
         Ok(())
     }
 
-    /// Adds all that is got to from a voxel by one move along an axis, through voxels that are not blocked.
+    /// Adds all voxels that are one move along an axis away, through voxels that are not blocked.
     fn add_line(
         &mut self,
         site: &Site,
@@ -84,7 +84,7 @@ impl Air {
         Ok(())
     }
 
-    /// Whether the place to get to is got to, if there is one.
+    /// Returns whether the goal was reached, if there is one.
     fn has_goal(&self, site: &Site, to: Option<Spot>) -> bool {
         match to {
             Some(to) => self.has(site, to),
@@ -92,7 +92,7 @@ impl Air {
         }
     }
 
-    /// Adds all that is got to from the voxels so far by moves of that length.
+    /// Adds all voxels that moves of up to this length reach from the voxels so far.
     fn spread(&mut self, site: &Site, most: i16, to: Option<Spot>) -> Result<(), Memory> {
         for i in 0..site.count() {
             let at = match self.queue.get(i) {
@@ -109,7 +109,7 @@ impl Air {
         Ok(())
     }
 
-    /// What is open to the outside.
+    /// Returns the voxels open to the outside.
     pub(crate) fn around(alloc: Global, site: &Site) -> Result<Air, Memory> {
         let mut air = Air::none(alloc, site)?;
         air.add(site, Spot::home(), 0)?;
@@ -117,7 +117,7 @@ impl Air {
         Ok(air)
     }
 
-    /// The moves that lead from one place to another, the last one first. None where there is no way.
+    /// Returns the moves of a path between two voxels, the last one first, or `None` if there is none.
     pub(crate) fn way(
         alloc: Global,
         site: &Site,

@@ -1,4 +1,4 @@
-//! One bot takes poles away, each from its top down.
+//! Removes poles with one bot, each from its top down.
 use crate::air::Air;
 use crate::poles::{Pole, SIDES};
 use crate::routes::direct;
@@ -7,20 +7,20 @@ use crate::yard::Yard;
 use std::alloc::Global;
 use vox_geom::{Diff, Memory};
 
-/// The sides of a pole, its own first.
+/// Returns the sides of a pole, its own first.
 fn sides(pole: Pole) -> [(i16, i16); 5] {
     let [a, b, c, d] = SIDES;
     [pole.side, a, b, c, d]
 }
 
-/// How far a pole is from a bot.
+/// Returns the distance of a pole from a bot.
 fn distance(pole: Pole, at: Spot) -> i16 {
     apart(pole.foot.x, at.x)
         .wrapping_add(apart(pole.foot.z, at.z))
         .wrapping_add(apart(pole.high, at.y))
 }
 
-/// Whether a column is free from one height to another.
+/// Returns whether a column is free from one height to another.
 fn is_free(yard: &Yard, low: Spot, high: i16) -> bool {
     for y in low.y..=high {
         let c = Spot { y, ..low };
@@ -31,8 +31,8 @@ fn is_free(yard: &Yard, low: Spot, high: i16) -> bool {
     true
 }
 
-/// The moves from one place to another: along the axes or, where something is in the way, by a search, as long as searches do not take
-/// too long.
+/// Returns the moves between two voxels: along the axes, or by a search if something is in the way, within the limit of
+/// searches.
 fn way_around(
     alloc: Global,
     yard: &mut Yard,
@@ -49,7 +49,7 @@ fn way_around(
     Air::way(alloc, yard.site(), from, to)
 }
 
-/// The bot goes there, if there is a way. Whether it does.
+/// Moves the bot to a voxel, if there is a path, and returns whether it did.
 pub(crate) fn go_around(alloc: Global, yard: &mut Yard, to: Spot) -> Result<bool, Memory> {
     let from = yard.spot(0);
     let Some(mut moves) = way_around(alloc, yard, from, to)? else {
@@ -64,7 +64,7 @@ pub(crate) fn go_around(alloc: Global, yard: &mut Yard, to: Spot) -> Result<bool
     Ok(true)
 }
 
-/// The bot voids up to three voxels of a pole from beside it: above, at its height and below.
+/// Voids up to three voxels of a pole from its side: above, at the bot's height and below.
 fn void_three(yard: &mut Yard, pole: Pole) -> Result<(), Memory> {
     let at = yard.spot(0);
     for dy in [1, 0, -1] {
@@ -80,7 +80,7 @@ fn void_three(yard: &mut Yard, pole: Pole) -> Result<(), Memory> {
     Ok(())
 }
 
-/// The bot voids a pole from beside it, from its top down.
+/// Voids a pole from its side, from the top down.
 fn void_pole(yard: &mut Yard, pole: Pole) -> Result<(), Memory> {
     for _ in 0..=pole.high.max(0) {
         void_three(yard, pole)?;
@@ -96,7 +96,7 @@ fn void_pole(yard: &mut Yard, pole: Pole) -> Result<(), Memory> {
     Ok(())
 }
 
-/// The bot goes beside a pole, if there is a way, and takes it away. Whether it does.
+/// Moves the bot to the side of a pole, if there is a path, and removes the pole. Returns whether it did.
 fn clear(alloc: Global, yard: &mut Yard, pole: Pole) -> Result<bool, Memory> {
     for (dx, dz) in sides(pole) {
         let beside = pole.foot.beside(dx, dz);
@@ -112,7 +112,7 @@ fn clear(alloc: Global, yard: &mut Yard, pole: Pole) -> Result<bool, Memory> {
     Ok(false)
 }
 
-/// The number of the nearest pole of which it is not known that it cannot be got to.
+/// Returns the index of the nearest pole not known to be out of reach.
 fn nearest(poles: &[Pole], open: &[bool], at: Spot) -> Option<usize> {
     let mut best = None;
     let mut least = i16::MAX;
@@ -128,7 +128,7 @@ fn nearest(poles: &[Pole], open: &[bool], at: Spot) -> Option<usize> {
     best
 }
 
-/// The only bot takes all poles away, the nearest first. Whether it can, before so many steps were made.
+/// Removes all poles with the single bot, the nearest first. Returns whether that is possible within the limit of steps.
 pub(crate) fn clear_all(
     alloc: Global,
     yard: &mut Yard,

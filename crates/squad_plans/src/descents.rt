@@ -1,21 +1,21 @@
-//! What squads of four do that take a strip of columns down: tile by tile, slab by slab of several layers.
+//! The actions of squads of four that void a strip of columns: tile by tile, slab by slab of several layers.
 use crate::site::Site;
 use crate::spots::{Spot, nowhere, share, stride};
 use crate::strips::Strip;
 use std::alloc::Global;
 use vox_geom::{Diff, Memory};
 
-/// The most voxels along a tile.
+/// The longest side of a tile in voxels.
 const SIDE: i16 = 31;
 
-/// More moves than any way has.
+/// More moves than any path has.
 const MOST_MOVES: u32 = 100;
 
-/// More moves than any way within a layer has, however short they are.
+/// More moves than any path within a layer has, however short they are.
 const MOST_SHORT_MOVES: u32 = 1000;
 
-/// Tiles along z: where the first one begins, how many voxels all have, how many there are, and how many voxels each has: the same, where the
-/// last one may overlap the one before, or up to one less, where none may.
+/// Tiles along z: the first one's begin, the voxels of all, the number of tiles, and the voxels of each. All have the same length
+/// if the last one may overlap the one before; some are one shorter if none may overlap.
 #[derive(Clone, Copy)]
 pub(crate) struct Rows {
     pub(crate) first: i16,
@@ -26,7 +26,7 @@ pub(crate) struct Rows {
 }
 
 impl Rows {
-    /// Tiles from low to high, all about equally long, which overlap or do not.
+    /// Returns tiles from low to high, all about equally long, overlapping or not.
     pub(crate) fn over(low: i16, high: i16, apart: bool) -> Rows {
         let far = high.wrapping_sub(low).max(1).min(1000);
         let count = far / SIDE + 1;
@@ -39,7 +39,7 @@ impl Rows {
         }
     }
 
-    /// Where a tile begins.
+    /// Returns the begin of a tile.
     fn begin(self, k: i16) -> i16 {
         let own = if self.apart {
             share(self.length.wrapping_mul(k), self.count)
@@ -50,7 +50,7 @@ impl Rows {
         self.first.wrapping_add(own)
     }
 
-    /// How far the ends of a tile are apart.
+    /// Returns the distance of the ends of a tile.
     pub(crate) fn far(self, k: i16) -> i16 {
         if self.apart {
             let next = self.begin(k.wrapping_add(1));
@@ -61,8 +61,8 @@ impl Rows {
     }
 }
 
-/// What the four bots of a squad do in a step: all move alike, the two behind move, or all void the tile right below them, which is so
-/// long.
+/// An action of a squad's four bots in a step: all move alike, the two behind move, or all void the tile of this length right
+/// below them.
 #[derive(Clone, Copy)]
 pub(crate) enum Stroke {
     Move(Diff),
@@ -70,7 +70,7 @@ pub(crate) enum Stroke {
     Void(i16),
 }
 
-/// Whether a tile of a strip has a full voxel in a layer.
+/// Returns whether a tile of a strip has a full voxel in a layer.
 fn has_full(site: &Site, strip: Strip, y: i16, z: i16, end: i16) -> bool {
     for x in strip.low..=strip.high {
         for k in z..=end {
@@ -82,7 +82,7 @@ fn has_full(site: &Site, strip: Strip, y: i16, z: i16, end: i16) -> bool {
     false
 }
 
-/// Whether a tile of a strip has a void voxel in a layer.
+/// Returns whether a tile of a strip has a void voxel in a layer.
 fn has_void(site: &Site, strip: Strip, y: i16, z: i16, end: i16) -> bool {
     for x in strip.low..=strip.high {
         for k in z..=end {
@@ -94,8 +94,8 @@ fn has_void(site: &Site, strip: Strip, y: i16, z: i16, end: i16) -> bool {
     false
 }
 
-/// What a squad does, one stroke after another, where its first bot is then, how far the bots behind are apart from it, and whether a tile
-/// that it takes down is not all full.
+/// The strokes of a squad one after another, its first bot's position after them, the distance of the bots behind from it, and
+/// whether a tile that it voids is not all full.
 #[derive(Drop)]
 pub(crate) struct Descent {
     strokes: Vec<Stroke>,
@@ -107,7 +107,7 @@ pub(crate) struct Descent {
 }
 
 impl Descent {
-    /// Goes up or down.
+    /// Moves up or down.
     fn climb(&mut self, to: i16) -> Result<(), Memory> {
         for _ in 0..MOST_MOVES {
             let dy = stride(to.wrapping_sub(self.height));
@@ -121,7 +121,7 @@ impl Descent {
         Ok(())
     }
 
-    /// Goes along z, never as far at once as its bots stand apart.
+    /// Moves along z, by less than the distance of its bots each time.
     fn follow(&mut self, to: i16) -> Result<(), Memory> {
         let most = self.far.wrapping_sub(1).max(1);
         for _ in 0..MOST_SHORT_MOVES {
@@ -138,7 +138,7 @@ impl Descent {
         Ok(())
     }
 
-    /// The bots behind go on or back, so that all stand at the corners of a tile that is so long.
+    /// Moves the bots behind, so that all are at the corners of a tile of this length.
     fn stretch(&mut self, far: i16) -> Result<(), Memory> {
         let dz = far.wrapping_sub(self.far);
         if dz != 0 {
@@ -149,7 +149,7 @@ impl Descent {
         Ok(())
     }
 
-    /// Goes to a row, from no lower than this height.
+    /// Moves to a row, from no lower than this height.
     fn go(&mut self, to: i16, far: i16, height: i16) -> Result<(), Memory> {
         if self.row != to {
             self.climb(self.height.max(height))?;
@@ -182,7 +182,7 @@ impl Descent {
         Ok(())
     }
 
-    /// Voids a slab, the other way along z than the one before.
+    /// Voids a slab, in the direction along z opposite to the one before.
     fn slab(
         &mut self,
         site: &Site,
@@ -223,7 +223,7 @@ impl Descent {
     }
 }
 
-/// What the squad of a strip does.
+/// Returns the descent of a strip's squad.
 pub(crate) fn descent_of(
     alloc: Global,
     site: &Site,
@@ -244,7 +244,7 @@ pub(crate) fn descent_of(
     Ok(descent)
 }
 
-/// What a squad does in a turn, if it has one of that number.
+/// Returns the stroke of a squad in a turn, if it has one.
 pub(crate) fn stroke_of(descents: &[Descent], squad: usize, number: usize) -> Option<Stroke> {
     match descents.get(squad)?.strokes.get(number) {
         Some(stroke) => Some(*stroke),
@@ -252,7 +252,7 @@ pub(crate) fn stroke_of(descents: &[Descent], squad: usize, number: usize) -> Op
     }
 }
 
-/// How many turns the longest of some descents has.
+/// Returns the number of turns of the longest descent.
 pub(crate) fn longest(descents: &[Descent]) -> u64 {
     let mut most = 0;
     for descent in descents {
@@ -261,7 +261,7 @@ pub(crate) fn longest(descents: &[Descent]) -> u64 {
     most
 }
 
-/// Whether one of some descents takes a tile down that is not all full.
+/// Returns whether one of the descents voids a tile that is not all full.
 pub(crate) fn some_are_ragged(descents: &[Descent]) -> bool {
     for descent in descents {
         if descent.ragged {

@@ -1,5 +1,5 @@
-//! Proposals for plans by squads: bots, or pairs of bots, that each build a strip of columns of a model by themselves. What is
-//! proposed here promises nothing; it is judged where it is used.
+//! Proposes plans by squads: bots, or pairs of bots, that each build a strip of columns of a model alone. A proposal guarantees
+//! nothing; the caller judges it.
 #![tactic(auto)]
 
 mod air;

@@ -1,17 +1,17 @@
-//! Which voxels hang together, and how many parts float.
+//! The connected parts of the voxels, and the number of parts that float.
 use crate::site::Site;
 use crate::spots::Spot;
 use std::alloc::Global;
 use vox_geom::{Diff, Memory};
 
-/// More links than any way to the head of a part has.
+/// More links than any path to the root of a part has.
 const MOST_LINKS: u32 = 1_000_000;
 
 /// More voxels than any model has.
 const MOST_CELLS: usize = 1_000_000_000;
 
-/// Parts of voxels, as trees whose head is the voxel that links to itself, or the floor; and how many of them do not hold to the
-/// floor. The floor has the number past all voxels.
+/// A union-find forest of parts of voxels, and the number of parts that are not grounded. The root of a part links to itself.
+/// The floor has the index past all voxels.
 #[derive(Drop)]
 pub(crate) struct Links {
     links: Vec<u32>,
@@ -20,7 +20,7 @@ pub(crate) struct Links {
 }
 
 impl Links {
-    /// What was filled holds to the floor; each other voxel is by itself, and none of them counts yet.
+    /// Starts with the filled voxels grounded; each other voxel is a part of its own, which does not count yet.
     pub(crate) fn begin(alloc: Global, site: &Site) -> Result<Links, Memory> {
         let floor = site.count().min(MOST_CELLS) as u32;
         let mut links = Vec::with_capacity(alloc, floor as usize)?;
@@ -39,12 +39,12 @@ impl Links {
         })
     }
 
-    /// Whether some part floats.
+    /// Returns whether some part floats.
     pub(crate) fn some_float(&self) -> bool {
         self.floating > 0
     }
 
-    /// What a voxel links to.
+    /// Returns the link of a voxel.
     fn link(&self, number: u32) -> u32 {
         match self.links.get(number as usize) {
             Some(link) => *link,
@@ -59,7 +59,7 @@ impl Links {
         }
     }
 
-    /// The head of a voxel's part. The way there gets shorter.
+    /// Returns the root of a voxel's part, and shortens the path to it.
     fn head(&mut self, number: u32) -> u32 {
         let mut at = number;
         for _ in 0..MOST_LINKS {
@@ -74,7 +74,7 @@ impl Links {
         at
     }
 
-    /// Makes one part of two.
+    /// Merges two parts.
     fn join(&mut self, a: u32, b: u32) {
         let (a, b) = (self.head(a), self.head(b));
         if a != b {
@@ -83,7 +83,7 @@ impl Links {
         }
     }
 
-    /// Takes up a voxel that was just filled.
+    /// Adds a voxel that was just filled.
     pub(crate) fn add(&mut self, site: &Site, c: Spot) {
         let Some(number) = site.number(c) else {
             return;

@@ -6,13 +6,13 @@ use crate::tasks::Task;
 use crate::yard::Yard;
 use vox_geom::{Diff, Memory};
 
-/// The most that one part of a double move goes.
+/// The longest leg of a double move.
 const SHORT: i16 = 5;
 
-/// More than how often a list can be halved.
+/// More halvings than any list allows.
 const MOST_HALVINGS: u32 = 64;
 
-/// A job and what it takes to get there, in quarters of a move.
+/// A job and the cost of the moves to it, in quarters of a move.
 #[derive(Clone, Copy)]
 struct Offer {
     cost: i16,
@@ -20,7 +20,7 @@ struct Offer {
     piece: usize,
 }
 
-/// Where two bots are, and whether voxels may float.
+/// The positions of two bots, and whether voxels may float.
 #[derive(Clone, Copy)]
 struct Sight {
     rear: Spot,
@@ -28,7 +28,7 @@ struct Sight {
     float: bool,
 }
 
-/// What an offer takes: more than any, where there is none.
+/// Returns the cost of an offer, or more than any if there is none.
 fn cost_of(offer: Option<Offer>) -> i16 {
     match offer {
         Some(it) => it.cost,
@@ -36,7 +36,7 @@ fn cost_of(offer: Option<Offer>) -> i16 {
     }
 }
 
-/// The piece with a number.
+/// Returns the piece with an index.
 fn piece_at(pieces: &[Piece], number: usize) -> Option<Piece> {
     match pieces.get(number) {
         Some(piece) => Some(*piece),
@@ -44,12 +44,12 @@ fn piece_at(pieces: &[Piece], number: usize) -> Option<Piece> {
     }
 }
 
-/// A way along z.
+/// Returns a difference along z.
 fn along(dz: i16) -> Diff {
     Diff { dz, ..nowhere() }
 }
 
-/// What leads to a voxel right below the bot, or below beside it along x.
+/// Returns the difference to the voxel right below the bot, or to its neighbor along x.
 fn down_to(column: i16, x: i16) -> Diff {
     Diff {
         dx: column.wrapping_sub(x),
@@ -59,7 +59,7 @@ fn down_to(column: i16, x: i16) -> Diff {
 }
 
 impl Squad {
-    /// The job of a piece, for bots at these rows: with how many moves along z.
+    /// Returns the job of a piece for bots at these rows, with the number of moves along z.
     fn job_of(&self, piece: Piece, rear: i16, front: i16) -> (Job, i16) {
         let lane = self.strip.lane(self.strip.lane_of(piece.x));
         let mut job = Job {
@@ -89,7 +89,7 @@ impl Squad {
         }
     }
 
-    /// What the job of a piece takes.
+    /// Returns the offer of a piece.
     fn offer(&self, number: usize, piece: Piece, rear: Spot, front: Spot) -> Offer {
         let (job, ways) = self.job_of(piece, rear.z, front.z);
         let all = ways.wrapping_add(moves(job.x.wrapping_sub(rear.x)));
@@ -101,7 +101,7 @@ impl Squad {
         }
     }
 
-    /// The number of the first piece that is no farther left than a column. Pieces are in rising order of columns.
+    /// Returns the index of the first piece no farther left than a column. Pieces are in ascending order of columns.
     fn first_from(&self, x: i16) -> usize {
         let (mut low, mut high) = (0, self.pieces.len());
         for _ in 0..MOST_HALVINGS {
@@ -117,7 +117,7 @@ impl Squad {
         low
     }
 
-    /// The better of an offer and that of a piece, if it may be filled.
+    /// Returns the better of an offer and that of a piece, if it may be filled.
     fn better(
         &self,
         yard: &Yard,
@@ -137,20 +137,20 @@ impl Squad {
         best
     }
 
-    /// Whether each piece of a piece's column, or of one farther away, takes no less than an offer.
+    /// Returns whether each piece of a piece's column, or of a farther one, costs no less than an offer.
     fn is_too_far(&self, best: Option<Offer>, piece: Piece, x: i16) -> bool {
         let away = apart(piece.x, x);
         let least = moves(away.wrapping_sub(1).max(0)).wrapping_mul(4);
         least.wrapping_add(away.min(3)) >= cost_of(best)
     }
 
-    /// Whether a voxel of a piece's row may be filled.
+    /// Returns whether a voxel of a piece's row may be filled.
     fn has_some_at(&self, yard: &Yard, piece: Piece, sight: Sight) -> bool {
         let y = sight.rear.y.wrapping_sub(1);
         yard.site().may_fill_in_row(piece.x, y, sight.float)
     }
 
-    /// The nearest job: of the pieces from the bots' column on.
+    /// Returns the nearest job of the pieces from the bots' column on.
     fn nearest_on(&mut self, yard: &Yard, from: usize, sight: Sight) -> Option<Offer> {
         let mut best = None;
         let mut number = from;
@@ -172,7 +172,7 @@ impl Squad {
         best
     }
 
-    /// The nearest job, and of the pieces before a number only what takes less than an offer.
+    /// Returns the nearest job; a piece before an index only if it costs less than an offer.
     fn nearest_back(
         &mut self,
         yard: &Yard,
@@ -201,7 +201,7 @@ impl Squad {
         best
     }
 
-    /// The nearest job.
+    /// Returns the nearest job.
     fn nearest(&mut self, yard: &Yard, mate: u8, float: bool) -> Option<Offer> {
         let sight = Sight {
             rear: yard.spot(self.lead),
@@ -213,7 +213,7 @@ impl Squad {
         self.nearest_back(yard, from, sight, best)
     }
 
-    /// The piece of one voxel in the job's lane that the other bot can fill at the same time, with the shortest way.
+    /// Returns the single-voxel piece in the job's lane that the other bot can fill at the same time, with the shortest path.
     fn second(&mut self, yard: &Yard, mate: u8, job: Job, float: bool) -> Option<usize> {
         let (rear, front) = (yard.spot(self.lead).z, yard.spot(mate).z);
         let lane = self.strip.lane(self.strip.lane_of(job.x));
@@ -242,14 +242,14 @@ impl Squad {
         best
     }
 
-    /// Takes a piece off the list.
+    /// Removes a piece from the list.
     fn take(&mut self, number: usize) {
         if number < self.pieces.len() {
             let _ = self.pieces.remove(number);
         }
     }
 
-    /// The job with a voxel for the other bot, where one serves.
+    /// Returns the job with a voxel for the other bot, if there is one.
     fn with_second(&mut self, yard: &Yard, mate: u8, job: Job, float: bool) -> Job {
         let mut job = job;
         if job.run {
@@ -271,7 +271,7 @@ impl Squad {
         job
     }
 
-    /// Lists the pieces of its layer, if they are not.
+    /// Lists the pieces of the squad's layer, unless they are listed.
     fn list(&mut self, yard: &Yard) -> Result<(), Memory> {
         let y = self.layer();
         if self.listed != y {
@@ -285,7 +285,7 @@ impl Squad {
         Ok(())
     }
 
-    /// The job at hand, or the nearest one.
+    /// Returns the current job, or the nearest one.
     fn choose_job(&mut self, yard: &Yard, mate: u8, float: bool) -> Option<Job> {
         if let Some(job) = self.job {
             return Some(job);
@@ -297,7 +297,7 @@ impl Squad {
         Some(job)
     }
 
-    /// Fills a run by both bots.
+    /// Fills a run with both bots.
     fn fill_run(&mut self, yard: &mut Yard, mate: u8, job: Job) {
         let column = match job.rear_column {
             Some(column) => column,
@@ -314,7 +314,7 @@ impl Squad {
         }
     }
 
-    /// Fills a voxel by one bot, if it has one.
+    /// Fills a voxel with one bot, if the bot has one.
     fn fill_one(&mut self, yard: &mut Yard, number: u8, column: Option<i16>) {
         if let Some(x) = column {
             let below = yard.spot(number).below();
@@ -323,7 +323,7 @@ impl Squad {
         }
     }
 
-    /// Does the job, where both bots stand.
+    /// Does the job from the positions of both bots.
     fn fill_job(&mut self, yard: &mut Yard, mate: u8, job: Job) {
         self.job = None;
         if job.run {
@@ -334,7 +334,7 @@ impl Squad {
         }
     }
 
-    /// Moves both bots towards where the job wants them.
+    /// Moves both bots towards their positions for the job.
     fn approach(&mut self, yard: &mut Yard, mate: u8, job: Job) {
         let (rear, front) = (yard.spot(self.lead), yard.spot(mate));
         let dx = job.x.wrapping_sub(rear.x);
@@ -365,7 +365,7 @@ impl Squad {
         }
     }
 
-    /// Moves both bots along z, or the one that makes room for the other first.
+    /// Moves both bots along z, or first the one that makes room for the other.
     fn part(&mut self, yard: &mut Yard, mate: u8, back: i16, on: i16) {
         let (rear, front) = (yard.spot(self.lead).z, yard.spot(mate).z);
         let (to_rear, to_front) = (rear.wrapping_add(back), front.wrapping_add(on));
@@ -379,7 +379,7 @@ impl Squad {
         }
     }
 
-    /// Goes home: both to the first rows, where the lead takes up its mate.
+    /// Moves both bots home, to the first rows, and fuses them there.
     pub(crate) fn gather_two(&mut self, yard: &mut Yard, mate: u8) {
         let (rear, front) = (yard.spot(self.lead).z, yard.spot(mate).z);
         if rear == 0 && front == 1 {
@@ -393,13 +393,13 @@ impl Squad {
         self.part(yard, mate, back, on);
     }
 
-    /// Lists the pieces anew in its next turn, with no job at hand.
+    /// Forgets the current job, and has the pieces listed again in the next turn.
     pub(crate) fn reconsider(&mut self) {
         self.listed = -1;
         self.job = None;
     }
 
-    /// Fills what is at hand, or goes to where something may be filled. Whether a bot acts.
+    /// Fills voxels of the current job, or moves towards some that may be filled. Returns whether a bot acts.
     pub(crate) fn build_by_two(
         &mut self,
         yard: &mut Yard,

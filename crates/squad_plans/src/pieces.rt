@@ -4,10 +4,10 @@ use crate::spots::Spot;
 use crate::strips::Strip;
 use vox_geom::Memory;
 
-/// The most voxels of a run that two bots fill.
+/// The longest run that two bots fill, in voxels.
 const MOST_RUN: i16 = 31;
 
-/// Voxels of a column in a layer, one after the other along z.
+/// Consecutive voxels along z of a column in a layer.
 #[derive(Clone, Copy, Debug)]
 pub(crate) struct Piece {
     pub(crate) x: i16,
@@ -16,17 +16,17 @@ pub(crate) struct Piece {
 }
 
 impl Piece {
-    /// How many voxels it has.
+    /// Returns the number of voxels.
     pub(crate) fn length(self) -> i16 {
         self.last.wrapping_sub(self.first).wrapping_add(1)
     }
 
-    /// Whether it has one voxel alone.
+    /// Returns whether it has only one voxel.
     pub(crate) fn is_single(self) -> bool {
         self.first == self.last
     }
 
-    /// Whether it may be filled: where some voxel of it is attached, or any where voxels may float.
+    /// Returns whether it may be filled: if some voxel of it is attached, or always if voxels may float.
     pub(crate) fn may_fill(self, site: &Site, y: i16, float: bool) -> bool {
         for z in self.first..=self.last {
             if site.may_fill(Spot { x: self.x, y, z }, float) {
@@ -37,8 +37,8 @@ impl Piece {
     }
 }
 
-/// What two bots are about to fill: where they have to stand, the columns of their voxels, if they fill one, and whether both fill
-/// one run together.
+/// The next fill of two bots: their positions, the columns of their voxels, if they fill one each, and whether both fill one run
+/// together.
 #[derive(Clone, Copy, Debug)]
 pub(crate) struct Job {
     pub(crate) x: i16,

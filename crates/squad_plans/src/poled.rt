@@ -1,4 +1,4 @@
-//! Poles that one bot puts up under all parts of a model that hang, before it is taken down.
+//! Poles that one bot puts up under all overhanging parts of a model, before it is taken down.
 use crate::clearing::clear_all;
 use crate::poles::Pole;
 use crate::yard::Yard;
@@ -7,14 +7,14 @@ use std::alloc::Global;
 use vox_geom::{Coord, Memory};
 use vox_planes::Planes;
 
-/// A model with poles, and the commands of one bot that puts them up, and halts at home.
+/// A model with poles, and the commands of one bot that puts them up and halts at home.
 #[derive(Drop)]
 pub struct Poled {
     pub commands: CommandList,
     pub planes: Planes,
 }
 
-/// Makes the voxel of a model full, if it has one there.
+/// Makes a voxel of a model full, if it is within the model.
 fn fill(planes: &mut Planes, x: i16, y: i16, z: i16) {
     let r = planes.resolution();
     if x < 0 || y < 0 || z < 0 {
@@ -37,7 +37,7 @@ fn fill_pole(planes: &mut Planes, pole: Pole) {
     }
 }
 
-/// The model with the voxels of all poles.
+/// Returns the model with the voxels of all poles.
 fn fill_poles(alloc: Global, source: &Planes, poles: &[Pole]) -> Result<Planes, Memory> {
     let mut planes = source.copy(alloc)?;
     for pole in poles {
@@ -46,8 +46,8 @@ fn fill_poles(alloc: Global, source: &Planes, poles: &[Pole]) -> Result<Planes, 
     Ok(planes)
 }
 
-/// A model with a pole under each part that hangs. None where nothing hangs, where a part can get no pole, where the bot does not come
-/// to one, or where it takes more steps than that.
+/// Returns a model with a pole under each overhanging part. Returns `None` if there is no such part, if a part can get no pole, if
+/// the bot does not reach one, or if that takes more steps than the limit.
 pub fn with_poles(alloc: Global, source: &Planes, most: u64) -> Result<Option<Poled>, Memory> {
     let mut yard = Yard::begin(alloc, source, 1, false, true)?;
     let Some(poles) = yard.plant(alloc)? else {

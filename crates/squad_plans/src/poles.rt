@@ -1,4 +1,4 @@
-//! Poles under parts that hang, so that all is built under Low: where they stand, before anything is built.
+//! Poles under overhanging parts, so that all is built under Low: their positions, before anything is built.
 use crate::air::Air;
 use crate::site::Site;
 use crate::spots::Spot;
@@ -8,7 +8,7 @@ use vox_geom::{Diff, Memory};
 /// The four sides of a voxel in its layer.
 pub(crate) const SIDES: [(i16, i16); 4] = [(1, 0), (-1, 0), (0, 1), (0, -1)];
 
-/// Voxels one above the other that are filled besides the target's, and a side at which nothing of the target is.
+/// A column of voxels to fill that are not the target's, and a side on which the target has nothing.
 #[derive(Clone, Copy, Debug)]
 pub(crate) struct Pole {
     pub(crate) foot: Spot,
@@ -17,13 +17,13 @@ pub(crate) struct Pole {
 }
 
 impl Pole {
-    /// How many voxels it has.
+    /// Returns the number of voxels.
     fn length(self) -> i16 {
         self.high.wrapping_sub(self.foot.y).wrapping_add(1)
     }
 }
 
-/// The voxels that were seen, and those of the part at hand.
+/// The visited voxels, and those of the current part.
 #[derive(Drop)]
 struct HangingParts {
     seen: Vec<bool>,
@@ -31,7 +31,7 @@ struct HangingParts {
 }
 
 impl HangingParts {
-    /// None seen.
+    /// Starts with no voxel visited.
     fn begin(alloc: Global, site: &Site) -> Result<HangingParts, Memory> {
         Ok(HangingParts {
             seen: vec![in alloc; false; site.count()]?,
@@ -39,7 +39,7 @@ impl HangingParts {
         })
     }
 
-    /// Keeps that a voxel was seen. Whether it was not before.
+    /// Marks a voxel as visited, and returns whether it was not before.
     fn see(&mut self, site: &Site, c: Spot) -> bool {
         let Some(number) = site.number(c) else {
             return false;
@@ -54,7 +54,7 @@ impl HangingParts {
         }
     }
 
-    /// Adds a voxel to the part, if it is one of the target's that was not seen.
+    /// Adds a voxel to the part, if it is one of the target's that was not visited.
     fn add(&mut self, site: &Site, c: Spot) -> Result<(), Memory> {
         if site.is_target(c) && self.see(site, c) {
             self.part.push(c).map_err(|_| Memory)?;
@@ -62,7 +62,7 @@ impl HangingParts {
         Ok(())
     }
 
-    /// Gathers the part of a layer that has a voxel, if it was not seen.
+    /// Gathers the part of a layer that has a voxel, if it was not visited.
     fn gather(&mut self, site: &Site, c: Spot) -> Result<(), Memory> {
         self.part.clear();
         self.add(site, c)?;
@@ -78,7 +78,7 @@ impl HangingParts {
         Ok(())
     }
 
-    /// Whether the part has a voxel above a full one.
+    /// Returns whether the part has a voxel above a full one.
     fn is_supported(&self, site: &Site) -> bool {
         for c in self.part.as_slice() {
             if site.is_target(c.below()) {
@@ -88,7 +88,7 @@ impl HangingParts {
         self.part.as_slice().is_empty()
     }
 
-    /// The shortest pole under the part, beside which all is air.
+    /// Returns the shortest pole under the part with air along one side.
     fn pole(&self, site: &Site, air: &Air) -> Option<Pole> {
         let mut best: Option<Pole> = None;
         for c in self.part.as_slice() {
@@ -107,7 +107,7 @@ impl HangingParts {
     }
 }
 
-/// The lowest voxel of a column of void ones right below a voxel.
+/// Returns the lowest voxel of the column of void voxels right below a voxel.
 fn foot_of(site: &Site, c: Spot) -> Spot {
     let mut foot = c;
     for _ in 0..site.side() {
@@ -119,7 +119,7 @@ fn foot_of(site: &Site, c: Spot) -> Spot {
     foot
 }
 
-/// Whether a column is air from one height to another.
+/// Returns whether a column is air from one height to another.
 fn is_air(air: &Air, site: &Site, low: Spot, high: i16) -> bool {
     for y in low.y..=high {
         if !air.has(site, Spot { y, ..low }) {
@@ -129,7 +129,7 @@ fn is_air(air: &Air, site: &Site, low: Spot, high: i16) -> bool {
     true
 }
 
-/// The pole from a foot up, if one of its sides is air.
+/// Returns the pole from a foot up, if one of its sides is air.
 fn pole_below(site: &Site, air: &Air, foot: Spot, high: i16) -> Option<Pole> {
     for side in SIDES {
         let beside = foot.beside(side.0, side.1);
@@ -147,12 +147,12 @@ fn plant(site: &mut Site, pole: Pole) {
     }
 }
 
-/// Whether a voxel is one of the target's, and the one below is not: each voxel of a part that hangs is such.
+/// Returns whether a voxel is the target's and the one below is not, as for each voxel of an overhanging part.
 fn is_bare(site: &Site, c: Spot) -> bool {
     site.is_target(c) && !site.is_target(c.below())
 }
 
-/// Whether a part of a layer hangs.
+/// Returns whether a layer has an overhanging part.
 fn hangs_in_layer(site: &Site, parts: &mut HangingParts, y: i16) -> Result<bool, Memory> {
     let side = site.side();
     for x in 0..side {
@@ -169,7 +169,7 @@ fn hangs_in_layer(site: &Site, parts: &mut HangingParts, y: i16) -> Result<bool,
     Ok(false)
 }
 
-/// Whether a part hangs.
+/// Returns whether there is an overhanging part.
 fn some_hang(alloc: Global, site: &Site) -> Result<bool, Memory> {
     let mut parts = HangingParts::begin(alloc, site)?;
     for y in 1..site.side() {
@@ -180,7 +180,7 @@ fn some_hang(alloc: Global, site: &Site) -> Result<bool, Memory> {
     Ok(false)
 }
 
-/// Plants poles under the parts of a layer that hang. Whether all of them get one.
+/// Plants poles under the overhanging parts of a layer, and returns whether all of them get one.
 fn plant_layer(
     site: &mut Site,
     air: &Air,
@@ -208,7 +208,7 @@ fn plant_layer(
     Ok(true)
 }
 
-/// Plants poles under all parts that hang. None where a part can get none.
+/// Plants poles under all overhanging parts. Returns `None` if a part can get none.
 pub(crate) fn plant_all(alloc: Global, site: &mut Site) -> Result<Option<Vec<Pole>>, Memory> {
     let mut poles = Vec::new(alloc);
     if !some_hang(alloc, site)? {

@@ -18,11 +18,11 @@ const MOST_SQUADS: i16 = 10;
 /// The most bots.
 const MOST_BOTS: u8 = 40;
 
-/// More turns than any squad takes that is worth it.
+/// More turns than a useful plan takes.
 const MOST_TURNS: usize = 1_073_741_824;
 
-/// How squads of four are to take a model down, or to build it by the same backwards: how many layers a slab has, whether x and z are
-/// exchanged, whether it is built, and how many steps they may take.
+/// The manner in which squads of four take a model down, or build it by the same backwards: the layers of a slab, whether x and z
+/// are exchanged, whether the model is built, and the limit of steps.
 #[derive(Clone, Copy, Debug)]
 pub struct Slabs {
     pub thick: u16,
@@ -31,14 +31,14 @@ pub struct Slabs {
     pub most: u64,
 }
 
-/// Between which places full voxels lie, at least two wide and two long.
+/// The extent of the full voxels, at least two wide and two long.
 #[derive(Clone, Copy)]
 struct Area {
     low: Spot,
     high: Spot,
 }
 
-/// The four bots of a squad: at the least corner, beside it along x, beside it along z, and opposite.
+/// The four bots of a squad: at the least corner, next to it along x, next to it along z, and opposite.
 #[derive(Clone, Copy)]
 struct Quad {
     strip: Strip,
@@ -48,7 +48,7 @@ struct Quad {
     opposite: u8,
 }
 
-/// Where a bot is to go along one axis.
+/// The goal of a bot along one axis.
 #[derive(Clone, Copy)]
 enum Heading {
     Column(i16),
@@ -57,7 +57,7 @@ enum Heading {
 }
 
 impl Area {
-    /// The area with the full voxels of a row along z.
+    /// Returns the area extended by the full voxels of a row along z.
     fn with_row(self, site: &Site, x: i16, y: i16) -> Area {
         let Area { mut low, mut high } = self;
         for z in 0..site.side() {
@@ -77,7 +77,7 @@ impl Area {
         Area { low, high }
     }
 
-    /// The area with the full voxels of the columns of one x.
+    /// Returns the area extended by the full voxels of the columns of one x.
     fn with_columns(self, site: &Site, x: i16) -> Area {
         let mut area = self;
         for y in 0..site.side() {
@@ -87,7 +87,7 @@ impl Area {
     }
 }
 
-/// Between which places full voxels lie.
+/// Returns the extent of the full voxels.
 fn area_of(site: &Site) -> Area {
     let side = site.side();
     let low = Spot {
@@ -105,7 +105,7 @@ fn area_of(site: &Site) -> Area {
     area
 }
 
-/// Strips of columns, all about equally wide, two or more and no more than a tile.
+/// Returns strips of columns, all about equally wide, at least two and at most a tile wide.
 fn strips_of(alloc: Global, area: Area) -> Result<Vec<Strip>, Memory> {
     let columns = area.high.x.wrapping_sub(area.low.x).wrapping_add(1);
     let count = (columns / 2).min(MOST_SQUADS).max(1);
@@ -123,17 +123,17 @@ fn strips_of(alloc: Global, area: Area) -> Result<Vec<Strip>, Memory> {
     Ok(strips)
 }
 
-/// A way along x.
+/// Returns a difference along x.
 fn along_x(dx: i16) -> Diff {
     Diff { dx, ..nowhere() }
 }
 
-/// A way along z.
+/// Returns a difference along z.
 fn along_z(dz: i16) -> Diff {
     Diff { dz, ..nowhere() }
 }
 
-/// What voids the tile below by a bot at the corner from which it goes so far along x and z.
+/// Returns the task that voids the tile below, for a bot at the corner from which the tile extends this far along x and z.
 fn void_below(dx: i16, dz: i16) -> Task {
     Task::VoidPlane(
         Diff {
@@ -146,7 +146,7 @@ fn void_below(dx: i16, dz: i16) -> Task {
 }
 
 impl Quad {
-    /// All four move alike, the two behind move, or all void the tile below, which is so long.
+    /// Performs a stroke: all four move alike, the two behind move, or all void the tile of this length below.
     fn act(self, yard: &mut Yard, stroke: Stroke) {
         match stroke {
             Stroke::Move(d) => {
@@ -171,7 +171,7 @@ impl Quad {
     }
 }
 
-/// Where all squads go: up from the floor, apart along x, apart along z, to their first tile, and back.
+/// A leg of all squads: up from the floor, apart along x, apart along z, to their first tile, and back.
 #[derive(Clone, Copy)]
 enum Leg {
     Rise,
@@ -184,7 +184,7 @@ enum Leg {
     Descend,
 }
 
-/// The place that an aim leads to from another one.
+/// Returns the goal from a position.
 fn aim_at(at: Spot, aim: Heading) -> Spot {
     match aim {
         Heading::Column(x) => Spot { x, ..at },
@@ -193,7 +193,7 @@ fn aim_at(at: Spot, aim: Heading) -> Spot {
     }
 }
 
-/// The squads of four, with what they have in common.
+/// The squads of four, with their common data.
 #[derive(Drop)]
 struct Quads {
     team: Team,
@@ -203,7 +203,7 @@ struct Quads {
 }
 
 impl Quads {
-    /// The squads on the floor under High, each of one bot.
+    /// Starts with squads of one bot each, on the floor under High.
     fn begin(alloc: Global, source: &Planes, manner: Slabs) -> Result<Quads, Memory> {
         let yard = Yard::begin(alloc, source, MOST_BOTS, manner.turned, manner.up)?;
         let area = area_of(yard.site());
@@ -231,7 +231,7 @@ impl Quads {
         })
     }
 
-    /// Which bots of a squad go, twice the same where one does, and where.
+    /// Returns the bots of a squad that move, twice the same if only one does, and their goal.
     fn aim_of(&self, quad: Quad, leg: Leg) -> (u8, u8, Heading) {
         let end = self.rows.first.wrapping_add(self.rows.far(0));
         let beside = quad.strip.low.wrapping_add(1);
@@ -251,7 +251,7 @@ impl Quads {
         }
     }
 
-    /// Where the bots of all squads are to go.
+    /// Returns the goals of the bots of all squads.
     fn goals(&self, alloc: Global, leg: Leg) -> Result<Vec<Goal>, Memory> {
         let mut goals = Vec::new(alloc);
         for quad in self.quads.as_slice() {
@@ -266,13 +266,13 @@ impl Quads {
         Ok(goals)
     }
 
-    /// All squads go a leg.
+    /// Moves all squads along a leg.
     fn go(&mut self, alloc: Global, leg: Leg) -> Result<(), Memory> {
         let goals = self.goals(alloc, leg)?;
         self.team.yard.go_all(goals.as_slice())
     }
 
-    /// The squad with a number.
+    /// Returns the squad with an index.
     fn quad(&self, number: usize) -> Option<Quad> {
         match self.quads.get(number) {
             Some(quad) => Some(*quad),
@@ -280,7 +280,7 @@ impl Quads {
         }
     }
 
-    /// The bot of each squad makes the one beside it, and then both make one behind them.
+    /// Splits the bot of each squad to the neighbor along x, and then both of them to one behind each.
     fn split(&mut self) -> Result<(), Memory> {
         for i in 0..self.quads.len() {
             if let Some(quad) = self.quad(i) {
@@ -304,7 +304,7 @@ impl Quads {
         Ok(())
     }
 
-    /// The bots behind the first ones are there.
+    /// Marks the bots behind the first ones as present.
     fn arrive(&mut self) {
         for i in 0..self.quads.len() {
             if let Some(quad) = self.quad(i) {
@@ -316,7 +316,7 @@ impl Quads {
         }
     }
 
-    /// The two bots behind are taken up by those before them.
+    /// Fuses the two bots behind into those before them.
     fn close(&mut self) -> Result<(), Memory> {
         for i in 0..self.quads.len() {
             if let Some(quad) = self.quad(i) {
@@ -330,7 +330,7 @@ impl Quads {
         self.team.yard.step()
     }
 
-    /// The bot beside the first one of each squad is taken up by it.
+    /// Fuses the bot next to the first one of each squad into it.
     fn unite(&mut self) -> Result<(), Memory> {
         for i in 0..self.quads.len() {
             if let Some(quad) = self.quad(i) {
@@ -342,7 +342,7 @@ impl Quads {
         self.team.yard.step()
     }
 
-    /// What all squads do.
+    /// Returns the descents of all squads.
     fn descents(&self, alloc: Global, thick: i16) -> Result<Vec<Descent>, Memory> {
         let mut descents = Vec::new(alloc);
         for quad in self.quads.as_slice() {
@@ -353,7 +353,7 @@ impl Quads {
         Ok(descents)
     }
 
-    /// All squads take a turn of their descents. Whether one had any.
+    /// Performs a turn of all squads' descents, and returns whether one had any.
     fn take_turn(&mut self, descents: &[Descent], number: usize) -> bool {
         let mut acts = false;
         for i in 0..self.quads.len() {
@@ -366,7 +366,7 @@ impl Quads {
         acts
     }
 
-    /// All squads take their strips down.
+    /// Takes down the strips of all squads.
     fn work(&mut self, descents: &[Descent]) -> Result<(), Memory> {
         for number in 0..MOST_TURNS {
             if !self.take_turn(descents, number) {
@@ -379,7 +379,7 @@ impl Quads {
 }
 
 impl Quads {
-    /// The commands, once all bots are one again, which is home.
+    /// Returns the commands, once all bots have fused into one at home.
     fn finish(self) -> Result<CommandList, Memory> {
         let mut team = self.team;
         team.gather()?;
@@ -388,9 +388,9 @@ impl Quads {
     }
 }
 
-/// The commands of squads of four under High that take all of a model down, each in a strip of columns, by slabs, or that build it by the
-/// same backwards. There are none where they take more steps than the manner allows, or where it is to be built and has a tile that is
-/// neither void nor all full.
+/// Returns the commands of squads of four under High that void all of a model, each in a strip of columns, by slabs, or that build
+/// it by the same backwards. Returns `None` if they take more steps than the manner allows, or if the model is to be built and
+/// has a tile that is neither void nor all full.
 pub fn slabs_by_squads(
     alloc: Global,
     source: &Planes,

@@ -1,4 +1,4 @@
-//! Ways of one bot along the axes, one after the other: of all ways they take the fewest moves.
+//! Paths of one bot along the axes, one after another, with the fewest moves of all paths.
 use crate::site::Site;
 use crate::spots::{Spot, apart, nowhere, stride};
 use std::alloc::Global;
@@ -11,7 +11,7 @@ const Y: (i16, i16, i16) = (0, 1, 0);
 
 const Z: (i16, i16, i16) = (0, 0, 1);
 
-/// In which orders a bot may go along the axes.
+/// The orders of the axes on a path.
 const ORDERS: [[(i16, i16, i16); 3]; 6] = [
     [X, Y, Z],
     [X, Z, Y],
@@ -21,10 +21,10 @@ const ORDERS: [[(i16, i16, i16); 3]; 6] = [
     [Z, Y, X],
 ];
 
-/// More moves than any way along an axis has.
+/// More moves than any path along an axis has.
 const MOST_MOVES: u32 = 100;
 
-/// The part of a way along an axis.
+/// Returns the part of a difference along an axis.
 fn part(way: Diff, axis: (i16, i16, i16)) -> Diff {
     let (x, y, z) = axis;
     Diff {
@@ -34,12 +34,12 @@ fn part(way: Diff, axis: (i16, i16, i16)) -> Diff {
     }
 }
 
-/// Which way a part of a way along one axis leads.
+/// Returns the sign of a difference along one axis.
 fn sign(way: i16) -> i16 {
     way.max(-1).min(1)
 }
 
-/// Whether nothing is in the way from a place along one axis.
+/// Returns whether nothing is in the way from a voxel along one axis.
 fn is_open(site: &Site, from: Spot, d: Diff) -> bool {
     let one = Diff {
         dx: sign(d.dx),
@@ -56,7 +56,7 @@ fn is_open(site: &Site, from: Spot, d: Diff) -> bool {
     true
 }
 
-/// Whether nothing is in the way along the axes in an order.
+/// Returns whether nothing is in the way along the axes in an order.
 fn is_open_by(site: &Site, from: Spot, way: Diff, order: [(i16, i16, i16); 3]) -> bool {
     let mut at = from;
     for axis in order {
@@ -69,7 +69,7 @@ fn is_open_by(site: &Site, from: Spot, way: Diff, order: [(i16, i16, i16); 3]) -
     true
 }
 
-/// Adds the moves of a part of a way along one axis.
+/// Adds the moves of a difference along one axis.
 fn add_moves(moves: &mut Vec<Diff>, d: Diff) -> Result<(), Memory> {
     let mut left = Spot::home().plus(d);
     for _ in 0..MOST_MOVES {
@@ -88,7 +88,8 @@ fn add_moves(moves: &mut Vec<Diff>, d: Diff) -> Result<(), Memory> {
     Ok(())
 }
 
-/// The moves from one place to another along the axes in some order, the last one first. None where something is in each way.
+/// Returns the moves between two voxels along the axes in some order, the last one first, or `None` if something is in the way
+/// in each order.
 pub(crate) fn direct(
     alloc: Global,
     site: &Site,

@@ -3,7 +3,7 @@ use crate::spots::{Spot, across};
 use crate::squad::Squad;
 use crate::yard::Yard;
 
-/// Where a bot is to go on: in which lane, at which row, and which way from there.
+/// The next goal of a bot: its lane, its row, and the direction from there.
 #[derive(Clone, Copy)]
 struct Aim {
     lane: i16,
@@ -12,7 +12,7 @@ struct Aim {
 }
 
 impl Squad {
-    /// Whether something may be filled in a lane at a row.
+    /// Returns whether something may be filled in a lane at a row.
     fn has(&self, yard: &Yard, lane: i16, z: i16, float: bool) -> bool {
         let columns = self.strip.lane(lane);
         let y = self.layer();
@@ -24,7 +24,7 @@ impl Squad {
         false
     }
 
-    /// Whether nothing is left in a lane at a row but in its middle column.
+    /// Returns whether nothing is left in a lane at a row but in its middle column.
     fn has_middle_only(&self, yard: &Yard, lane: i16, z: i16) -> bool {
         let columns = self.strip.lane(lane);
         let y = self.layer();
@@ -36,7 +36,7 @@ impl Squad {
         true
     }
 
-    /// The first row from this one on at which something may be filled in a lane.
+    /// Returns the first row from this one on at which something may be filled in a lane.
     fn next_row(&mut self, yard: &Yard, lane: i16, from: i16, by: i16, float: bool) -> Option<i16> {
         if !self.may_fill_in(yard, self.strip.lane(lane), float) {
             return None;
@@ -56,7 +56,7 @@ impl Squad {
         None
     }
 
-    /// The nearer end of what may be filled in a lane.
+    /// Returns the nearer end of the rows of a lane at which something may be filled.
     fn nearer_end(&mut self, yard: &Yard, lane: i16, at: i16, float: bool) -> Option<Aim> {
         let end = yard.site().side().wrapping_sub(1);
         let low = self.next_row(yard, lane, 0, 1, float)?;
@@ -78,7 +78,7 @@ impl Squad {
         }
     }
 
-    /// The first lane from this one on that has something to fill.
+    /// Returns the first lane from this one on that has something to fill.
     fn next_lane(&mut self, yard: &Yard, from: i16, by: i16, float: bool) -> Option<Aim> {
         let at = yard.spot(self.lead).z;
         let lanes = self.strip.lanes();
@@ -95,7 +95,7 @@ impl Squad {
         None
     }
 
-    /// Where to go on within a lane: first the way that the bot goes, then back.
+    /// Returns the next goal within a lane: first in the bot's direction, then back.
     fn aim_within(&mut self, yard: &Yard, lane: i16, float: bool) -> Option<Aim> {
         let z = yard.spot(self.lead).z;
         for along in [self.along, self.along.wrapping_neg()] {
@@ -106,7 +106,7 @@ impl Squad {
         None
     }
 
-    /// Where to go on: in this lane, in the lanes ahead, or in those behind.
+    /// Returns the next goal: in this lane, in the lanes ahead, or in those behind.
     fn aim(&mut self, yard: &Yard, float: bool) -> Option<Aim> {
         let x = yard.spot(self.lead).x;
         let lane = self.strip.lane_of(x);
@@ -128,7 +128,7 @@ impl Squad {
         self.next_lane(yard, behind, self.over.wrapping_neg(), float)
     }
 
-    /// Fills a voxel below, if one may be filled from where the bot is.
+    /// Fills a voxel below, if one may be filled from the bot's position, and returns whether it did.
     fn fill_below(&mut self, yard: &mut Yard, float: bool) -> bool {
         let below = yard.spot(self.lead).below();
         let on = self.along;
@@ -146,7 +146,8 @@ impl Squad {
         false
     }
 
-    /// The row at which the bot stops for an aim: one on where the middle column alone is left, so that the stop serves more.
+    /// Returns the row at which the bot stops for a goal: one further if only the middle column is left, so that the stop serves
+    /// more.
     fn stop_for(&self, yard: &Yard, aim: Aim, column: i16) -> i16 {
         let on = aim.z.wrapping_add(aim.along);
         let at = yard.spot(self.lead);
@@ -159,7 +160,7 @@ impl Squad {
         }
     }
 
-    /// Fills a voxel below, or goes to where one may be filled. Whether the bot acts.
+    /// Fills a voxel below, or moves towards one that may be filled. Returns whether the bot acts.
     pub(crate) fn build_alone(&mut self, yard: &mut Yard, float: bool) -> bool {
         if self.fill_below(yard, float) {
             return true;

@@ -8,27 +8,27 @@ use voxel_reads::is_full;
 /// More than any resolution.
 const MOST_SIDE: u16 = 1000;
 
-/// What is to become of a voxel.
+/// The state of a voxel.
 #[derive(Clone, Copy, PartialEq, Eq, Debug)]
 pub(crate) enum Cell {
     /// It stays void.
     Blank,
-    /// It is to be filled, and hangs still.
+    /// It is to be filled, and is not attached yet.
     Wanted,
-    /// It is to be filled, and is attached: on the floor, or above or beside one that was filled.
+    /// It is to be filled, and is attached: on the floor, or above or next to one that was filled.
     Ready,
     /// It was filled.
     Made,
 }
 
 impl Cell {
-    /// Whether the voxel is to be filled, and is not yet: only where it is attached, unless voxels may float.
+    /// Returns whether the voxel is to be filled now: only if it is attached, unless voxels may float.
     fn may_fill(self, float: bool) -> bool {
         self == Cell::Ready || (float && self == Cell::Wanted)
     }
 }
 
-/// How many voxels of a row along z may be filled: attached ones, or any, if voxels may float.
+/// The number of voxels of a row along z that may be filled: attached ones, or any if voxels may float.
 #[derive(Clone, Copy, PartialEq, Eq, Debug)]
 struct Row {
     ready: u16,
@@ -36,7 +36,7 @@ struct Row {
 }
 
 impl Row {
-    /// The row once a voxel of it became another cell.
+    /// Returns the row after the state of a voxel changed.
     fn with(self, was: Cell, now: Cell) -> Row {
         let ready = u16::from(now.may_fill(false)).wrapping_sub(u16::from(was.may_fill(false)));
         let wanted = u16::from(now.may_fill(true)).wrapping_sub(u16::from(was.may_fill(true)));
@@ -47,13 +47,13 @@ impl Row {
     }
 }
 
-/// Whether the voxel of a model is full; beyond it none is.
+/// Returns whether the voxel of a model is full; false outside it.
 fn is_full_at(planes: &Planes, c: Coord) -> bool {
     let r = planes.resolution();
     c.x < r && c.y < r && c.z < r && is_full(planes, c)
 }
 
-/// A cube of voxels with its rows along z, and how many voxels were to be filled.
+/// A cube of voxels with its rows along z, and the number of voxels to fill.
 #[derive(Drop)]
 pub(crate) struct Site {
     side: i16,
@@ -64,7 +64,7 @@ pub(crate) struct Site {
 }
 
 impl Site {
-    /// The voxels of a target, with x and z exchanged, if they are to be.
+    /// Returns the voxels of a target, with x and z exchanged if `turned`.
     pub(crate) fn of(alloc: Global, target: &Planes, turned: bool) -> Result<Site, Memory> {
         let side = target.resolution().min(MOST_SIDE);
         let n = usize::from(side);
@@ -81,7 +81,7 @@ impl Site {
         Ok(site)
     }
 
-    /// Adds the voxels of a target in the columns of one x, row after row.
+    /// Adds the voxels of a target in the columns of one x, row by row.
     fn add_columns(&mut self, target: &Planes, x: u16, turned: bool) -> Result<(), Memory> {
         for y in 0..self.width {
             self.add_row(target, x, y, turned)?;
@@ -111,17 +111,17 @@ impl Site {
         self.rows.push(row).map_err(|_| Memory)
     }
 
-    /// How many voxels the target had.
+    /// Returns the number of voxels of the target.
     pub(crate) fn wanted_voxels(&self) -> u64 {
         self.wanted
     }
 
-    /// How many voxels it has along each axis.
+    /// Returns the number of voxels along each axis.
     pub(crate) fn side(&self) -> i16 {
         self.side
     }
 
-    /// The number of a voxel: x first, then y, then z. There is none out of space.
+    /// Returns the index of a voxel, x first, then y, then z, or `None` outside the space.
     pub(crate) fn number(&self, c: Spot) -> Option<u32> {
         let n = self.side;
         if c.x < 0 || c.y < 0 || c.z < 0 || c.x >= n || c.y >= n || c.z >= n {
@@ -132,7 +132,7 @@ impl Site {
         Some(row.wrapping_mul(side).wrapping_add(c.z as u32))
     }
 
-    /// What is to become of a voxel.
+    /// Returns the state of a voxel.
     fn cell(&self, c: Spot) -> Cell {
         let Some(number) = self.number(c) else {
             return Cell::Blank;
@@ -143,17 +143,17 @@ impl Site {
         }
     }
 
-    /// The same as a size of lists.
+    /// Returns the number of voxels along each axis, as a length.
     pub(crate) fn width(&self) -> usize {
         usize::from(self.width)
     }
 
-    /// How many voxels there are.
+    /// Returns the number of voxels.
     pub(crate) fn count(&self) -> usize {
         self.cells.len()
     }
 
-    /// The voxel with a number.
+    /// Returns the voxel with an index.
     pub(crate) fn spot(&self, number: u32) -> Spot {
         let side = (self.side.max(1) as u32).max(1);
         let row = number / side;
@@ -164,12 +164,12 @@ impl Site {
         }
     }
 
-    /// Whether a voxel is to be filled, and is not yet.
+    /// Returns whether a voxel is to be filled, and is not yet.
     pub(crate) fn is_wanted(&self, c: Spot) -> bool {
         self.may_fill(c, true)
     }
 
-    /// Whether the voxel with a number was filled.
+    /// Returns whether the voxel with an index was filled.
     pub(crate) fn is_number_made(&self, number: u32) -> bool {
         match self.cells.get(number as usize) {
             Some(cell) => *cell == Cell::Made,
@@ -177,22 +177,22 @@ impl Site {
         }
     }
 
-    /// Whether a voxel was filled.
+    /// Returns whether a voxel was filled.
     pub(crate) fn is_made(&self, c: Spot) -> bool {
         self.cell(c) == Cell::Made
     }
 
-    /// Whether a voxel is full in the target.
+    /// Returns whether a voxel is full in the target.
     pub(crate) fn is_target(&self, c: Spot) -> bool {
         self.cell(c) != Cell::Blank
     }
 
-    /// Whether a voxel may be filled now: attached or, where voxels may float, any.
+    /// Returns whether a voxel may be filled now: if it is attached, or if voxels may float.
     pub(crate) fn may_fill(&self, c: Spot, float: bool) -> bool {
         self.cell(c).may_fill(float)
     }
 
-    /// Whether some voxel of a row along z may be filled now.
+    /// Returns whether some voxel of a row along z may be filled now.
     pub(crate) fn may_fill_in_row(&self, x: i16, y: i16, float: bool) -> bool {
         let Some(number) = self.number(Spot { x, y, z: 0 }) else {
             return false;
@@ -203,7 +203,7 @@ impl Site {
         }
     }
 
-    /// Sets what is to become of a voxel.
+    /// Sets the state of a voxel.
     fn set(&mut self, c: Spot, to: Cell) {
         let Some(number) = self.number(c) else {
             return;
@@ -219,20 +219,20 @@ impl Site {
         }
     }
 
-    /// Keeps that a voxel is to be filled, before any is.
+    /// Marks a voxel as to be filled, before any is.
     pub(crate) fn want(&mut self, c: Spot) {
         let to = if c.y == 0 { Cell::Ready } else { Cell::Wanted };
         self.set(c, to);
     }
 
-    /// Keeps that a voxel is attached, if it is to be filled.
+    /// Marks a voxel as attached, if it is to be filled.
     fn attach(&mut self, c: Spot) {
         if self.cell(c) == Cell::Wanted {
             self.set(c, Cell::Ready);
         }
     }
 
-    /// Keeps that a voxel was filled.
+    /// Marks a voxel as filled.
     pub(crate) fn make(&mut self, c: Spot) {
         self.set(c, Cell::Made);
         self.attach(c.above());
@@ -241,7 +241,7 @@ impl Site {
         }
     }
 
-    /// Keeps that all that was to be filled was.
+    /// Marks all voxels to be filled as filled.
     pub(crate) fn make_all(&mut self) {
         for i in 0..self.cells.len() {
             if let Some(cell) = self.cells.get_mut(i) {
@@ -258,7 +258,7 @@ impl Site {
         }
     }
 
-    /// Keeps that a voxel is void again, to stay so.
+    /// Marks a voxel as void for good.
     pub(crate) fn clear(&mut self, c: Spot) {
         self.set(c, Cell::Blank);
     }

@@ -1,13 +1,13 @@
-//! Places of bots and voxels, and the moves between them.
+//! Positions of bots and voxels, and the moves between them.
 use vox_geom::Diff;
 
-/// The most that a move along one axis goes.
+/// The longest move along one axis.
 const LONG: i16 = 15;
 
-/// The most that one part of a double move goes.
+/// The longest leg of a double move.
 const SHORT: i16 = 5;
 
-/// A place, in space or not.
+/// A position, in space or not.
 #[derive(Clone, Copy, PartialEq, Eq, Debug)]
 pub(crate) struct Spot {
     pub(crate) x: i16,
@@ -16,12 +16,12 @@ pub(crate) struct Spot {
 }
 
 impl Spot {
-    /// Where every run begins.
+    /// Returns the position of the first bot.
     pub(crate) fn home() -> Spot {
         Spot { x: 0, y: 0, z: 0 }
     }
 
-    /// The place that a difference leads to.
+    /// Returns the position at a difference.
     pub(crate) fn plus(self, d: Diff) -> Spot {
         Spot {
             x: self.x.wrapping_add(d.dx),
@@ -30,7 +30,7 @@ impl Spot {
         }
     }
 
-    /// What leads to another place.
+    /// Returns the difference to another position.
     pub(crate) fn to(self, other: Spot) -> Diff {
         Diff {
             dx: other.x.wrapping_sub(self.x),
@@ -39,12 +39,12 @@ impl Spot {
         }
     }
 
-    /// The place so far beside this one.
+    /// Returns the position shifted along x and z.
     pub(crate) fn beside(self, dx: i16, dz: i16) -> Spot {
         self.plus(Diff { dx, dy: 0, dz })
     }
 
-    /// The place right above.
+    /// Returns the position right above.
     pub(crate) fn above(self) -> Spot {
         Spot {
             y: self.y.wrapping_add(1),
@@ -52,7 +52,7 @@ impl Spot {
         }
     }
 
-    /// The place right below.
+    /// Returns the position right below.
     pub(crate) fn below(self) -> Spot {
         Spot {
             y: self.y.wrapping_sub(1),
@@ -61,7 +61,7 @@ impl Spot {
     }
 }
 
-/// No difference.
+/// Returns the difference zero.
 pub(crate) fn nowhere() -> Diff {
     Diff {
         dx: 0,
@@ -70,33 +70,33 @@ pub(crate) fn nowhere() -> Diff {
     }
 }
 
-/// A part of a whole, of so many that are about equal.
+/// Returns one of about equal parts of a whole.
 pub(crate) fn share(whole: i16, parts: i16) -> i16 {
     whole / parts.max(1)
 }
 
-/// How far two components lie apart.
+/// Returns the distance of two components.
 pub(crate) fn apart(a: i16, b: i16) -> i16 {
     let d = a.wrapping_sub(b);
     if d < 0 { d.wrapping_neg() } else { d }
 }
 
-/// What one move along an axis goes of a way.
+/// Returns the first move of a path along an axis.
 pub(crate) fn stride(way: i16) -> i16 {
     way.max(-LONG).min(LONG)
 }
 
-/// What one part of a double move goes of a way.
+/// Returns the first leg of a double move along an axis.
 fn short_stride(way: i16) -> i16 {
     way.max(-SHORT).min(SHORT)
 }
 
-/// How many moves a way along an axis takes.
+/// Returns the number of moves of a path along an axis.
 pub(crate) fn moves(way: i16) -> i16 {
     apart(way, 0).wrapping_add(LONG - 1) / LONG
 }
 
-/// The first move of a way within a layer: a double move where that saves one.
+/// Returns the first move of a path within a layer: a double move if that saves one.
 pub(crate) fn across(dx: i16, dz: i16) -> Diff {
     let (x, z) = (short_stride(dx), short_stride(dz));
     let both = moves(dx.wrapping_sub(x)).wrapping_add(moves(dz.wrapping_sub(z)));

@@ -1,4 +1,4 @@
-//! A squad: one bot, or two that stand in a row along z, which builds a strip of columns from right above each layer.
+//! A squad: one bot, or two in a row along z, which builds a strip of columns from right above each layer.
 use crate::pieces::{Job, Piece};
 use crate::spots::{Spot, nowhere, stride};
 use crate::strips::Strip;
@@ -6,22 +6,22 @@ use crate::yard::Yard;
 use std::alloc::Global;
 use vox_geom::{Diff, Memory};
 
-/// What a bot's step counts, where a row or a piece that is looked at counts 1.
+/// The work of a bot's step; a row or a piece that is visited counts 1.
 const STEP: u64 = 4;
 
-/// What became of a squad's turn.
+/// The outcome of a squad's turn.
 #[derive(Clone, Copy, PartialEq, Eq, Debug)]
 pub(crate) enum Stance {
     /// It acts in this step.
     Acts,
     /// It can do nothing before others fill something.
     Waits,
-    /// It is where it began, and has nothing left to do.
+    /// It is at its first position, and has nothing left to do.
     IsHome,
 }
 
-/// A squad: its strip, its bots, where it began, how high it is to be, what is left of each layer, which way it goes along its
-/// lane and to the next one, and its work so far.
+/// A squad: its strip, its bots, its first position, its next height, the voxels left of each layer, its directions along its lane
+/// and to the next one, and its work so far.
 #[derive(Drop)]
 pub(crate) struct Squad {
     pub(crate) strip: Strip,
@@ -40,7 +40,7 @@ pub(crate) struct Squad {
 }
 
 impl Squad {
-    /// A squad on the floor that has yet to be given bots.
+    /// Starts with a squad on the floor that has no bots yet.
     pub(crate) fn begin(alloc: Global, yard: &Yard, strip: Strip) -> Result<Squad, Memory> {
         let site = yard.site();
         let mut left = Vec::with_capacity(alloc, site.width())?;
@@ -68,12 +68,12 @@ impl Squad {
         })
     }
 
-    /// The layer that it fills.
+    /// Returns the layer to fill.
     pub(crate) fn layer(&self) -> i16 {
         self.height.wrapping_sub(1)
     }
 
-    /// How many voxels are left of a layer.
+    /// Returns the number of voxels left of a layer.
     fn left_of(&self, y: i16) -> u32 {
         if y < 0 {
             return 0;
@@ -84,7 +84,7 @@ impl Squad {
         }
     }
 
-    /// Keeps that so many voxels of its layer were filled.
+    /// Subtracts voxels of its layer that were filled.
     pub(crate) fn took(&mut self, count: u32) {
         let y = self.layer();
         if y < 0 {
@@ -106,7 +106,7 @@ impl Squad {
         self.done = true;
     }
 
-    /// Goes up to its next layer, if the one below has nothing left. Whether it moves or is done.
+    /// Moves up to its next layer, if the one below has nothing left. Returns whether it moves or is done.
     pub(crate) fn rise(&mut self, yard: &mut Yard) -> bool {
         let y = yard.spot(self.lead).y;
         if self.left_of(self.layer()) == 0 {
@@ -126,7 +126,7 @@ impl Squad {
         up != nowhere()
     }
 
-    /// Goes home, if it is not there.
+    /// Moves home, if it is not there.
     fn come_home(&mut self, yard: &mut Yard) -> Stance {
         if let Some(mate) = self.mate {
             self.gather_two(yard, mate);
@@ -139,7 +139,7 @@ impl Squad {
         }
     }
 
-    /// Whether something may be filled in its layer in some columns.
+    /// Returns whether something may be filled in its layer in some columns.
     pub(crate) fn may_fill_in(&self, yard: &Yard, columns: Strip, float: bool) -> bool {
         let y = self.layer();
         for x in columns.low..=columns.high {
@@ -150,12 +150,12 @@ impl Squad {
         false
     }
 
-    /// Counts rows or pieces that were looked at.
+    /// Counts rows or pieces that were visited.
     pub(crate) fn count(&mut self, looked: usize) {
         self.work = self.work.saturating_add(looked as u64);
     }
 
-    /// Has its turn in this step.
+    /// Performs its turn in this step.
     pub(crate) fn turn(&mut self, yard: &mut Yard, float: bool) -> Result<Stance, Memory> {
         let bots = if self.mate.is_some() { 2 } else { 1 };
         self.work = self.work.saturating_add(STEP * bots);
@@ -176,7 +176,7 @@ impl Squad {
     }
 }
 
-/// How many voxels of a layer a strip has.
+/// Returns the number of voxels of a strip in a layer.
 fn left_of_layer(yard: &Yard, strip: Strip, y: i16) -> u32 {
     let mut left = 0u32;
     for x in strip.low..=strip.high {
@@ -185,7 +185,7 @@ fn left_of_layer(yard: &Yard, strip: Strip, y: i16) -> u32 {
     left
 }
 
-/// How many voxels a column has in a layer.
+/// Returns the number of voxels of a column in a layer.
 fn left_of_row(yard: &Yard, x: i16, y: i16) -> u32 {
     let site = yard.site();
     let mut left = 0u32;

@@ -4,10 +4,10 @@ use crate::spots::Spot;
 use std::alloc::Global;
 use vox_geom::Memory;
 
-/// How often the bound on work is halved at most.
+/// The most halvings of the bound on work.
 const MOST_HALVINGS: u32 = 64;
 
-/// Columns next to each other, in lanes so wide.
+/// Neighboring columns, in lanes of a width.
 #[derive(Clone, Copy, Debug)]
 pub(crate) struct Strip {
     pub(crate) low: i16,
@@ -16,12 +16,12 @@ pub(crate) struct Strip {
 }
 
 impl Strip {
-    /// How many lanes it has.
+    /// Returns the number of lanes.
     pub(crate) fn lanes(self) -> i16 {
         (self.high.wrapping_sub(self.low) / self.wide.max(1)).wrapping_add(1)
     }
 
-    /// The columns of a lane.
+    /// Returns the columns of a lane.
     pub(crate) fn lane(self, number: i16) -> Strip {
         let low = self.low.wrapping_add(number.wrapping_mul(self.wide));
         Strip {
@@ -31,21 +31,20 @@ impl Strip {
         }
     }
 
-    /// The lane that has a column.
+    /// Returns the lane of a column.
     pub(crate) fn lane_of(self, x: i16) -> i16 {
         (x.wrapping_sub(self.low) / self.wide.max(1))
             .min(self.lanes().wrapping_sub(1))
             .max(0)
     }
 
-    /// The column in the middle.
+    /// Returns the middle column.
     pub(crate) fn middle(self) -> i16 {
         self.low.wrapping_add(self.high.wrapping_sub(self.low) / 2)
     }
 }
 
-/// What a column is worth: what it takes to fill its voxels, and for how many rows a lane stops whose last column it is, by how many
-/// columns the lane has.
+/// The work of a column: filling its voxels, and the stops of a lane whose last column it is, by the number of columns of the lane.
 #[derive(Clone, Copy)]
 struct Load {
     fills: u64,
@@ -53,7 +52,7 @@ struct Load {
 }
 
 impl Load {
-    /// No work.
+    /// Returns no work.
     fn none() -> Load {
         Load {
             fills: 0,
@@ -70,7 +69,7 @@ pub(crate) struct Columns {
 }
 
 impl Columns {
-    /// The work of the columns of a model, in lanes so wide, from one column to three.
+    /// Returns the work of the columns of a model, in lanes of one to three columns.
     pub(crate) fn of(alloc: Global, site: &Site, wide: i16) -> Result<Columns, Memory> {
         let mut works = Vec::with_capacity(alloc, site.width())?;
         for x in 0..site.side() {
@@ -79,7 +78,7 @@ impl Columns {
         Ok(Columns { works, wide })
     }
 
-    /// The work of a column.
+    /// Returns the work of a column.
     fn work(&self, x: i16) -> Load {
         if x < 0 {
             return Load::none();
@@ -90,7 +89,7 @@ impl Columns {
         }
     }
 
-    /// What a strip gets dearer by with its next column, which is the k-th of its lane.
+    /// Returns the work that the next column, the k-th of its lane, adds to a strip.
     fn more(&self, x: i16, k: i16) -> u64 {
         let work = self.work(x);
         let stops = match k {
@@ -101,7 +100,7 @@ impl Columns {
         work.fills.saturating_add(stops)
     }
 
-    /// The first and last column with work.
+    /// Returns the first and the last column with work.
     fn extent(&self) -> Strip {
         let mut extent = Strip {
             low: i16::MAX,
@@ -118,12 +117,12 @@ impl Columns {
         extent
     }
 
-    /// Which column of its lane a column is, counted from 0, in a strip that begins there.
+    /// Returns the index of a column within its lane, in a strip that begins at `low`.
     fn number_in_lane(&self, x: i16, low: i16) -> i16 {
         x.wrapping_sub(low) % self.wide.max(1)
     }
 
-    /// Strips of at most so much work each, from the left on; a column that has more is one by itself.
+    /// Returns strips of at most this much work each, from the left on; a column with more is a strip of its own.
     fn cut(&self, alloc: Global, extent: Strip, most: u64) -> Result<Vec<Strip>, Memory> {
         let mut strips = Vec::new(alloc);
         let mut low = extent.low;
@@ -159,7 +158,7 @@ impl Columns {
         Ok(strips)
     }
 
-    /// At most so many strips, whose greatest work is as small as it can be.
+    /// Returns at most `count` strips, whose greatest work is minimal.
     pub(crate) fn strips(&self, alloc: Global, count: u8) -> Result<Vec<Strip>, Memory> {
         let extent = self.extent();
         let mut low = 0u64;
@@ -182,7 +181,7 @@ impl Columns {
     }
 }
 
-/// The work of a column.
+/// Returns the work of a column.
 fn work_of(site: &Site, x: i16) -> Load {
     let mut work = Load::none();
     for y in 0..site.side() {
@@ -195,7 +194,7 @@ fn work_of(site: &Site, x: i16) -> Load {
     work
 }
 
-/// The work of a column in a layer.
+/// Returns the work of a column in a layer.
 fn work_of_row(site: &Site, x: i16, y: i16) -> Load {
     let mut work = Load::none();
     for z in 0..site.side() {

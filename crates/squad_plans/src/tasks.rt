@@ -1,38 +1,39 @@
-//! What a bot does in a step, and the command for it.
+//! The action of a bot in a step, and the command for it.
 use crate::spots::nowhere;
 use nano_spec::Command;
 use vox_geom::{Diff, Far, Long, Near, Short};
 
-/// What a bot does in a step. Differences lead from the bot.
+/// The action of a bot in a step. Differences are relative to the bot.
 #[derive(Clone, Copy, Debug)]
 pub(crate) enum Task {
-    /// Nothing.
+    /// Does nothing.
     Wait,
     /// Changes the harmonics.
     Flip,
-    /// A move along one axis, or along x and z.
+    /// Moves along one axis, or along x and z.
     Move(Diff),
     /// Fills a voxel.
     Fill(Diff),
     /// Voids a voxel.
     Void(Diff),
-    /// Fills a run along z together with another bot: from the voxel near this bot, so far.
+    /// Fills a run along z together with another bot: from the voxel near this bot, by this difference.
     Run(Diff, i16),
     /// Voids a run in the same way.
     VoidRun(Diff, i16),
-    /// Voids a rectangle of a layer together with three other bots: from the voxel near this bot, so far along x and along z.
+    /// Voids a rectangle of a layer together with three other bots: from the voxel near this bot, by these differences along x and
+    /// along z.
     VoidPlane(Diff, i16, i16),
     /// Fills a rectangle in the same way.
     FillPlane(Diff, i16, i16),
-    /// Makes a bot there, which has that number, with so many seeds.
+    /// Makes the bot with this index at a difference, with this number of seeds.
     Split(Diff, u8, u8),
-    /// Takes up the bot that is there, which has that number and so many seeds.
+    /// Fuses with the bot at a difference, as the primary; the other has this index and this number of seeds.
     Lead(Diff, u8, u8),
-    /// Is taken up by the bot that is there.
+    /// Fuses with the bot at a difference, as the secondary.
     Join(Diff),
 }
 
-/// The difference with x and z exchanged, if they are to be.
+/// Returns the difference, with x and z exchanged if `turned`.
 fn turn(d: Diff, turned: bool) -> Diff {
     if turned {
         Diff {
@@ -45,12 +46,12 @@ fn turn(d: Diff, turned: bool) -> Diff {
     }
 }
 
-/// A way along z.
+/// Returns a difference along z.
 fn along_z(dz: i16) -> Diff {
     Diff { dz, ..nowhere() }
 }
 
-/// The difference that leads back.
+/// Returns the opposite difference.
 pub fn opposite(d: Diff) -> Diff {
     Diff {
         dx: d.dx.wrapping_neg(),
@@ -59,7 +60,7 @@ pub fn opposite(d: Diff) -> Diff {
     }
 }
 
-/// What undoes what a bot does. A bot that is taken up is made anew by the one that takes it up, so it does nothing.
+/// Returns the task that undoes another one. A bot that fuses is made again by the primary, so it does nothing.
 pub(crate) fn undoing(task: Task) -> Task {
     match task {
         Task::Wait => Task::Wait,
@@ -77,7 +78,7 @@ pub(crate) fn undoing(task: Task) -> Task {
     }
 }
 
-/// The move by a difference: none where it is neither along one axis nor along x and z.
+/// Returns the move by a difference, or `None` if it is neither along one axis nor along x and z.
 pub fn move_by(d: Diff) -> Option<Command> {
     if d.dx == 0 || d.dz == 0 {
         return Some(Command::SMove(Long::of(d)?));
@@ -87,7 +88,7 @@ pub fn move_by(d: Diff) -> Option<Command> {
     Some(Command::LMove(along_x, along_z))
 }
 
-/// The command for what a bot does, with x and z exchanged, if they are to be. There is none where it leads too far.
+/// Returns the command for a task, with x and z exchanged if `turned`, or `None` if a difference is too long.
 fn command_if_near(task: Task, turned: bool) -> Option<Command> {
     match task {
         Task::Wait => Some(Command::Wait),
@@ -117,7 +118,7 @@ fn command_if_near(task: Task, turned: bool) -> Option<Command> {
     }
 }
 
-/// The command for what a bot does, with x and z exchanged, if they are to be: a Wait where it leads too far.
+/// Returns the command for a task, with x and z exchanged if `turned`, or a Wait if a difference is too long.
 pub(crate) fn command_of(task: Task, turned: bool) -> Command {
     match command_if_near(task, turned) {
         Some(command) => command,

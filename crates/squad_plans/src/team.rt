@@ -1,4 +1,4 @@
-//! All squads: they spread from the first bot by halves, build each by itself, and gather the way they spread.
+//! All squads: they spread from the first bot by halves, build each alone, and gather in the reverse order.
 use crate::clearing::clear_all;
 use crate::poles::Pole;
 use crate::spots::{Spot, nowhere, stride};
@@ -11,10 +11,10 @@ use std::alloc::Global;
 use vox_geom::{Diff, Memory};
 use vox_planes::Planes;
 
-/// More steps than any plan takes that is worth it.
+/// More steps than any useful plan takes.
 const MOST_STEPS: u32 = 1_073_741_824;
 
-/// More moves than any way along x has.
+/// More moves than any path along x has.
 const MOST_MOVES: u32 = 100;
 
 /// The most voxels that a squad of two fills in a step.
@@ -26,12 +26,11 @@ const MOST_SQUADS: u8 = 40;
 /// The most work for each voxel of a model's space.
 const WORK_EACH: u64 = 8;
 
-/// The most work besides.
+/// The most work on top of that.
 const MOST_WORK: u64 = 8_000_000;
 
-/// How squads are to build: how many there are at most, whether each has two bots, how many columns wide their lanes are, from 1 to
-/// 3, whether x and z are exchanged, whether parts that hang get poles, whether all is taken down in place of built, and how many steps
-/// they may take.
+/// The manner of building: the most squads, whether each has two bots, the width of their lanes from 1 to 3 columns, whether x and
+/// z are exchanged, whether overhanging parts get poles, whether all is voided instead of built, and the limit of steps.
 #[derive(Clone, Copy, Debug)]
 pub struct Manner {
     pub squads: u8,
@@ -43,7 +42,7 @@ pub struct Manner {
     pub most: u64,
 }
 
-/// A squad that came from another one, in which round, and with how many seeds.
+/// The origin of a squad from another one: the round, and the number of seeds.
 #[derive(Clone, Copy)]
 struct Birth {
     parent: usize,
@@ -52,7 +51,7 @@ struct Birth {
     seeds: u8,
 }
 
-/// Squads next to each other, before they spread, with the seeds of the first one's bot: from which one on.
+/// Neighboring squads before they spread: the index of the first one, and the seeds of its bot.
 #[derive(Clone, Copy)]
 pub(crate) struct Troop {
     pub(crate) low: usize,
@@ -60,7 +59,7 @@ pub(crate) struct Troop {
     pub(crate) seed: u8,
 }
 
-/// All squads, in rising order of columns, with how they came to be.
+/// All squads, in ascending order of columns, with their origins.
 #[derive(Drop)]
 pub(crate) struct Team {
     pub(crate) yard: Yard,
@@ -72,21 +71,21 @@ pub(crate) struct Team {
     work: u64,
 }
 
-/// The most voxels that squads fill in the steps that they may take.
+/// Returns the most voxels that squads fill within the limit of steps.
 fn most_filled(manner: Manner) -> u64 {
     let each = if manner.pairs { MOST_RUN } else { 1 };
     let squads = u64::from(manner.squads.min(MOST_SQUADS));
     manner.most.saturating_mul(squads).saturating_mul(each)
 }
 
-/// A way along x.
+/// Returns a difference along x.
 fn along_x(dx: i16) -> Diff {
     Diff { dx, ..nowhere() }
 }
 
 impl Team {
-    /// Before the first step. None where there are more voxels than can be filled in time, or where poles are wanted, and none are to be
-    /// had or are of use.
+    /// Starts before the first step. Returns `None` if there are more voxels than can be filled in time, or if poles are required
+    /// but impossible or of no use.
     fn begin(alloc: Global, target: &Planes, manner: Manner) -> Result<Option<Team>, Memory> {
         let each = if manner.pairs { 2 } else { 1 };
         let count = manner.squads.min(MOST_SQUADS);
@@ -113,7 +112,7 @@ impl Team {
         }))
     }
 
-    /// One squad for each of some strips, of so many bots each.
+    /// Returns one squad for each of some strips, of `each` bots.
     pub(crate) fn over(
         alloc: Global,
         yard: Yard,
@@ -131,7 +130,7 @@ impl Team {
         })
     }
 
-    /// The bot that leads a squad.
+    /// Returns the leading bot of a squad.
     pub(crate) fn lead(&self, number: usize) -> u8 {
         match self.squads.get(number) {
             Some(squad) => squad.lead,
@@ -139,7 +138,7 @@ impl Team {
         }
     }
 
-    /// The column at which a squad begins.
+    /// Returns the first column of a squad.
     fn stand(&self, number: usize) -> i16 {
         match self.squads.get(number) {
             Some(squad) => squad.stand.x,
@@ -147,7 +146,7 @@ impl Team {
         }
     }
 
-    /// All bots of squads go along x to where their squads begin, at the same time.
+    /// Moves all bots along x to the first columns of their squads, at the same time.
     fn line_up(&mut self) -> Result<(), Memory> {
         for _ in 0..MOST_MOVES {
             let mut moves = false;
@@ -167,12 +166,12 @@ impl Team {
         Ok(())
     }
 
-    /// Whether a squad has its bot: the first one has, and those with a bot of their own.
+    /// Returns whether a squad has its bot: the first one has, and those with a bot of their own.
     fn is_there(&self, number: usize) -> bool {
         number == 0 || self.lead(number) > 0
     }
 
-    /// Each troop of two squads or more is split: the bot of its first one makes that of the middle one.
+    /// Splits each troop of two squads or more: the bot of its first squad makes that of the middle one.
     fn split(&mut self, troops: &mut Vec<Troop>) -> Result<(), Memory> {
         let each = usize::from(self.each);
         for i in 0..troops.len() {
@@ -201,7 +200,7 @@ impl Team {
         Ok(())
     }
 
-    /// The bot of a squad makes that of another one, which is so far in the list of bots.
+    /// Splits the bot of a squad into that of another one, at this index in the list of bots.
     fn bear(&mut self, parent: usize, child: usize, number: u8, bots: u8) -> Result<(), Memory> {
         let seeds = bots.saturating_sub(1);
         let lead = self.lead(parent);
@@ -219,7 +218,7 @@ impl Team {
         self.births.push(birth).map_err(|_| Memory)
     }
 
-    /// The bots that were made in this round are there.
+    /// Marks the bots made in this round as present.
     fn arrive(&mut self) {
         for i in 0..self.births.len() {
             if let Some(birth) = self.births.get(i) {
@@ -238,8 +237,8 @@ impl Team {
         }
     }
 
-    /// The first bot goes to its column, and each troop is split until all squads have a bot of their own: the troops are of one squad each
-    /// then.
+    /// Moves the first bot to its column, and splits each troop until all squads have a bot of their own. Returns troops of one
+    /// squad each.
     pub(crate) fn spread(&mut self, alloc: Global) -> Result<Vec<Troop>, Memory> {
         self.line_up()?;
         let mut troops = Vec::new(alloc);
@@ -263,7 +262,7 @@ impl Team {
         Ok(troops)
     }
 
-    /// The bot of each squad makes its mate.
+    /// Splits the bot of each squad to make the second one.
     fn pair_off(&mut self, troops: &[Troop]) -> Result<(), Memory> {
         let on = Diff { dz: 1, ..nowhere() };
         for troop in troops {
@@ -281,7 +280,7 @@ impl Team {
         Ok(())
     }
 
-    /// Each squad has its turn in a step: whether one acts, and whether all are home.
+    /// Gives each squad its turn in a step. Returns whether one acts, and whether all are home.
     fn turns(&mut self) -> Result<(bool, bool), Memory> {
         let float = self.yard.is_high();
         let (mut acts, mut home) = (false, true);
@@ -301,7 +300,7 @@ impl Team {
         Ok((acts, home))
     }
 
-    /// All squads consider anew what they do.
+    /// Has all squads choose their jobs again.
     fn reconsider(&mut self) {
         for i in 0..self.squads.len() {
             if let Some(squad) = self.squads.get_mut(i) {
@@ -310,7 +309,7 @@ impl Team {
         }
     }
 
-    /// Goes under Low once nothing floats.
+    /// Switches to Low once nothing floats.
     fn calm(&mut self) -> Result<(), Memory> {
         if self.yard.is_high() && !self.yard.some_float() {
             self.yard.flip()?;
@@ -319,14 +318,14 @@ impl Team {
         Ok(())
     }
 
-    /// Whether the squads took more steps than that, or worked more than is worth it: models with long ways take them more than they gain.
+    /// Returns whether the squads exceed the limit of steps or of work: models with long paths cost them more than they gain.
     fn is_over(&self, most: u64) -> bool {
         let voxels = self.yard.site().count() as u64;
         let allowed = voxels.saturating_mul(WORK_EACH).saturating_add(MOST_WORK);
         self.yard.steps() > most || self.work > allowed
     }
 
-    /// All squads build and come home. Whether they do, in at most so many steps.
+    /// Has all squads build and come home. Returns whether they do, within the limit of steps.
     fn work(&mut self, alloc: Global, most: u64) -> Result<bool, Memory> {
         for _ in 0..MOST_STEPS {
             let (acts, home) = self.turns()?;
@@ -349,7 +348,7 @@ impl Team {
         Ok(false)
     }
 
-    /// The bots that were made in a round go beside those that made them.
+    /// Moves the bots made in a round next to those that made them.
     fn approach(&mut self, round: u8) -> Result<(), Memory> {
         for i in 0..self.births.len() {
             if let Some(birth) = self.births.get(i) {
@@ -373,7 +372,7 @@ impl Team {
         self.line_up()
     }
 
-    /// The bots that were made in a round are taken up by those that made them.
+    /// Fuses the bots made in a round into those that made them.
     fn unite(&mut self, round: u8) -> Result<(), Memory> {
         for i in 0..self.births.len() {
             if let Some(birth) = self.births.get(i) {
@@ -396,7 +395,7 @@ impl Team {
         self.yard.step()
     }
 
-    /// All bots become one again, which goes home.
+    /// Fuses all bots into one, and moves it home.
     pub(crate) fn gather(&mut self) -> Result<(), Memory> {
         for k in 0..self.rounds {
             let round = self.rounds.saturating_sub(1).saturating_sub(k);
@@ -413,14 +412,14 @@ impl Team {
     }
 }
 
-/// At most so many squads over the columns of what is to be built, in lanes so wide.
+/// Returns at most `count` squads over the columns to build, in lanes of this width.
 fn squads_of(alloc: Global, yard: &Yard, count: u8, lane: u8) -> Result<Vec<Squad>, Memory> {
     let columns = Columns::of(alloc, yard.site(), i16::from(lane.max(1).min(3)))?;
     let strips = columns.strips(alloc, count)?;
     squads_over(alloc, yard, strips.as_slice())
 }
 
-/// A squad for each of some strips.
+/// Returns a squad for each of some strips.
 fn squads_over(alloc: Global, yard: &Yard, strips: &[Strip]) -> Result<Vec<Squad>, Memory> {
     let mut squads = Vec::with_capacity(alloc, strips.len())?;
     for strip in strips {
@@ -430,8 +429,9 @@ fn squads_over(alloc: Global, yard: &Yard, strips: &[Strip]) -> Result<Vec<Squad
     Ok(squads)
 }
 
-/// The commands of squads that build a target from nothing, or, undone, take it down: under Low but where nothing more can be filled that is attached. There
-/// are none where they take more steps than the manner allows, or where it wants poles and none are to be had or are of use.
+/// Returns the commands of squads that build a target from nothing, or, undone, take it down: under Low except when no more
+/// attached voxel can be filled. Returns `None` if they take more steps than the manner allows, or if it requires poles that are
+/// impossible or of no use.
 pub fn squads(
     alloc: Global,
     target: &Planes,

@@ -1,4 +1,4 @@
-//! Bots at work: what they filled, where they are, and the commands of the steps so far.
+//! Bots at work: the voxels they filled, their positions, and the commands of the steps so far.
 use crate::links::Links;
 use crate::poles::{Pole, plant_all};
 use crate::site::Site;
@@ -9,7 +9,7 @@ use std::alloc::Global;
 use vox_geom::{Diff, Memory};
 use vox_planes::Planes;
 
-/// A bot: where it is after what it does in this step, and whether it is there.
+/// A bot: its position after its action in this step, and whether it is present.
 #[derive(Clone, Copy, Debug)]
 struct Worker {
     at: Spot,
@@ -17,28 +17,28 @@ struct Worker {
     active: bool,
 }
 
-/// A bot and where it is to go, along one axis.
+/// A bot and its goal along one axis.
 #[derive(Clone, Copy, Debug)]
 pub(crate) struct Goal {
     pub(crate) bot: u8,
     pub(crate) to: Spot,
 }
 
-/// More moves than any way has.
+/// More moves than any path has.
 const MOST_MOVES: u32 = 100;
 
-/// The most voxels that are searched for ways.
+/// The most voxels visited in searches for paths.
 const MOST_SEARCHED: u64 = 40_000_000;
 
-/// What a bot did in a step.
+/// The action of a bot in a step.
 #[derive(Clone, Copy, Debug)]
 struct Doing {
     number: u8,
     task: Task,
 }
 
-/// The bots, in rising order of bids, with what they make. What takes it down is written at the end: until then doings are kept, with
-/// how many there are after each step.
+/// The bots, in ascending order of bids, and their model. The commands of a descent are written at the end: until then actions are
+/// kept, with their number after each step.
 #[derive(Drop)]
 pub(crate) struct Yard {
     site: Site,
@@ -55,7 +55,7 @@ pub(crate) struct Yard {
 }
 
 impl Yard {
-    /// Before the first step, with places for so many bots, to build or to take down.
+    /// Starts before the first step, with room for this many bots, to build or to take down.
     pub(crate) fn begin(
         alloc: Global,
         target: &Planes,
@@ -86,17 +86,17 @@ impl Yard {
         Ok(yard)
     }
 
-    /// The voxels.
+    /// Returns the voxels.
     pub(crate) fn site(&self) -> &Site {
         &self.site
     }
 
-    /// Whether harmonics are High.
+    /// Returns whether harmonics are High.
     pub(crate) fn is_high(&self) -> bool {
         self.high
     }
 
-    /// From now on it is known whether something floats. Until then nothing does.
+    /// Starts to track whether something floats. Until then nothing does.
     pub(crate) fn watch(&mut self, alloc: Global) -> Result<(), Memory> {
         if self.links.is_none() {
             self.links = Some(Links::begin(alloc, &self.site)?);
@@ -104,7 +104,7 @@ impl Yard {
         Ok(())
     }
 
-    /// Whether some full voxel is not grounded.
+    /// Returns whether some full voxel is not grounded.
     pub(crate) fn some_float(&self) -> bool {
         match &self.links {
             Some(links) => links.some_float(),
@@ -112,12 +112,12 @@ impl Yard {
         }
     }
 
-    /// How many steps were made.
+    /// Returns the number of steps.
     pub(crate) fn steps(&self) -> u64 {
         self.steps
     }
 
-    /// Where a bot is.
+    /// Returns the position of a bot.
     pub(crate) fn spot(&self, number: u8) -> Spot {
         match self.workers.get(usize::from(number)) {
             Some(worker) => worker.at,
@@ -125,7 +125,7 @@ impl Yard {
         }
     }
 
-    /// From the next step on a bot is there.
+    /// Adds a bot at a position from the next step on.
     pub(crate) fn arrive(&mut self, number: u8, at: Spot) {
         if let Some(worker) = self.workers.get_mut(usize::from(number)) {
             worker.at = at;
@@ -133,7 +133,7 @@ impl Yard {
         }
     }
 
-    /// What a bot does in this step.
+    /// Sets the action of a bot in this step.
     pub(crate) fn order(&mut self, number: u8, task: Task) {
         if let Some(worker) = self.workers.get_mut(usize::from(number)) {
             worker.task = task;
@@ -143,14 +143,14 @@ impl Yard {
         }
     }
 
-    /// A bot moves in this step.
+    /// Moves a bot in this step.
     pub(crate) fn go(&mut self, number: u8, d: Diff) {
         if d != nowhere() {
             self.order(number, Task::Move(d));
         }
     }
 
-    /// A bot goes on its way along z, then y, then x, if it is not there.
+    /// Moves a bot towards a position along z, then y, then x. Returns whether it was not there.
     pub(crate) fn return_to(&mut self, number: u8, to: Spot) -> bool {
         let way = self.spot(number).to(to);
         let none = nowhere();
@@ -174,7 +174,7 @@ impl Yard {
         d != none
     }
 
-    /// Bots move toward their goals in this step. Whether one does.
+    /// Moves bots towards their goals in this step, and returns whether one moves.
     fn approach(&mut self, goals: &[Goal]) -> bool {
         let mut moves = false;
         for goal in goals {
@@ -190,7 +190,7 @@ impl Yard {
         moves
     }
 
-    /// Bots go to their goals at the same time.
+    /// Moves bots to their goals at the same time.
     pub(crate) fn go_all(&mut self, goals: &[Goal]) -> Result<(), Memory> {
         for _ in 0..MOST_MOVES {
             if !self.approach(goals) {
@@ -201,7 +201,7 @@ impl Yard {
         Ok(())
     }
 
-    /// Keeps that a voxel is filled in this step.
+    /// Marks a voxel as filled in this step.
     pub(crate) fn make(&mut self, c: Spot) {
         self.site.make(c);
         if let Some(links) = &mut self.links {
@@ -209,38 +209,38 @@ impl Yard {
         }
     }
 
-    /// Whether all voxels may be searched for a way once more.
+    /// Returns whether the limit allows another search of all voxels for a path.
     pub(crate) fn may_search(&mut self) -> bool {
         let count = self.site.count() as u64;
         self.searched = self.searched.saturating_add(count);
         self.searched <= MOST_SEARCHED
     }
 
-    /// All voxels of the target were filled.
+    /// Marks all voxels of the target as filled.
     pub(crate) fn make_all(&mut self) {
         self.site.make_all();
     }
 
-    /// A bot fills a voxel in this step.
+    /// Fills a voxel with a bot in this step.
     pub(crate) fn fill(&mut self, number: u8, c: Spot) {
         let d = self.spot(number).to(c);
         self.order(number, Task::Fill(d));
         self.make(c);
     }
 
-    /// A bot voids a voxel in this step, to stay so.
+    /// Voids a voxel with a bot in this step, for good.
     pub(crate) fn void(&mut self, number: u8, c: Spot) {
         let d = self.spot(number).to(c);
         self.order(number, Task::Void(d));
         self.site.clear(c);
     }
 
-    /// Plants poles under all parts that hang. None where a part can get none.
+    /// Plants poles under all overhanging parts. Returns `None` if a part can get none.
     pub(crate) fn plant(&mut self, alloc: Global) -> Result<Option<Vec<Pole>>, Memory> {
         plant_all(alloc, &mut self.site)
     }
 
-    /// The command of a bot is written, or what it did is kept; then it is free again, or gone, if it was taken up.
+    /// Writes the command of a bot, or keeps its action; then frees it, or removes it if it fused.
     fn finish(&mut self, number: u8) -> Result<(), Memory> {
         let Some(worker) = self.workers.get_mut(usize::from(number)) else {
             return Ok(());
@@ -263,7 +263,7 @@ impl Yard {
         self.doings.push(Doing { number, task }).map_err(|_| Memory)
     }
 
-    /// The step is done: its commands are written, or what was done is kept.
+    /// Ends the step: writes its commands, or keeps its actions.
     pub(crate) fn step(&mut self) -> Result<(), Memory> {
         for number in 0..self.workers.len().min(100) {
             self.finish(number as u8)?;
@@ -276,14 +276,14 @@ impl Yard {
         Ok(())
     }
 
-    /// A step in which the first bot changes the harmonics.
+    /// Adds a step in which the first bot changes the harmonics.
     pub(crate) fn flip(&mut self) -> Result<(), Memory> {
         self.order(0, Task::Flip);
         self.high = !self.high;
         self.step()
     }
 
-    /// A doing, if there is one of that number.
+    /// Returns the action with an index, if there is one.
     fn doing(&self, number: usize) -> Option<Doing> {
         match self.doings.get(number) {
             Some(doing) => Some(*doing),
@@ -291,7 +291,7 @@ impl Yard {
         }
     }
 
-    /// Orders what undoes some doings. A bot that was made then is taken up.
+    /// Sets the actions that undo some actions. A bot that was made by them fuses.
     fn order_undoing(&mut self, from: usize, to: usize) {
         for i in from..to {
             let Some(doing) = self.doing(i) else {
@@ -308,7 +308,7 @@ impl Yard {
         }
     }
 
-    /// The bots are there that were taken up by some doings.
+    /// Adds the bots that fused in some actions.
     fn bring_back(&mut self, from: usize, to: usize) {
         for i in from..to {
             let Some(doing) = self.doing(i) else {
@@ -320,7 +320,7 @@ impl Yard {
         }
     }
 
-    /// How many doings there are before a step's.
+    /// Returns the number of actions before a step's.
     fn end_before(&self, step: usize) -> usize {
         match self.ends.get(step.wrapping_sub(1)) {
             Some(end) => *end,
@@ -328,7 +328,7 @@ impl Yard {
         }
     }
 
-    /// Writes what undoes all steps, from the last on.
+    /// Writes the actions that undo all steps, from the last on.
     fn undo(&mut self) -> Result<(), Memory> {
         self.keeps = false;
         let steps = self.ends.len();
@@ -345,7 +345,7 @@ impl Yard {
         Ok(())
     }
 
-    /// The commands: those that build, or those that take down.
+    /// Returns the commands that build, or those that take down.
     pub(crate) fn into_commands(mut self) -> Result<CommandList, Memory> {
         if self.keeps {
             self.undo()?;

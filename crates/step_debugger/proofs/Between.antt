@@ -47,7 +47,7 @@ use Rattle.step_debugger.proofs.Trying.{begun_are}
 abbrev pub leads_in : List ℕ → Act → Bool
 leads_in begun a = list_any (λ k. k == a.bot.bid) begun
 
--- the act neither fills nor voids the coordinate, unless its group is not begun
+-- the act neither fills nor voids the coordinate, if its group is begun
 abbrev pub IsKeptBy : List ℕ → Coord → Act → Type 0
 IsKeptBy begun c a = leads_in begun a ≡ true → (full : Bool) → is_edited full a c ≡ false
 
@@ -69,7 +69,7 @@ module _ (s : State) (all : List Act) (good : IsGood s all) (begun : List ℕ) (
       let witness = any_in (λ k. k == l.bot.bid) begun h in
       in_flat (λ k. filter (λ (a : Act). a.bot.bid == k) all) witness.0 l begun witness.1 (in_filter (λ (a : Act). a.bot.bid == witness.0) l all i (same_test l.bot.bid witness.0 (sym (test_is witness.0 l.bot.bid witness.2))))
 
-  -- a leader that edits what some act of the begun groups edits
+  -- a leader that edits the coordinate, if some act of the begun groups does
   leader_of_edit : (full : Bool) → is_changed full (taken_acts all (acts_of all begun)) c ≡ true
       → (l : Act) × In l all × (leads_in begun l ≡ true) × (is_edited full l c ≡ true)
   leader_of_edit full h =
@@ -128,7 +128,7 @@ module _ (s : State) (all : List Act) (good : IsGood s all) (begun : List ℕ) (
       gone true = refl
       gone false = refl
 
--- ---- what one command makes of a voxel
+-- ---- the effect of one command on a voxel
 
 module _ (r : ℕ) (b : Bot) (k : Command) (w : EditedRegion) (h : IsEditedRegion r b k w) (c : Coord) where
   pub edit_within : is_within (span w.region) (point c) ≡ true → is_edited (not w.full) (act b k) c ≡ true
@@ -148,9 +148,9 @@ module _ (r : ℕ) (b : Bot) (k : Command) (w : EditedRegion) (h : IsEditedRegio
   pub edit_outside : is_within (span w.region) (point c) ≡ false → IsEditOf (act b k) c None
   edit_outside e = (outside e true, outside e false)
 
--- ---- the acts, place by place
+-- ---- the acts, by index
 
--- the first i acts neither fill nor void the coordinate, but those whose groups are not begun
+-- the first i acts neither fill nor void the coordinate, except those whose groups are not begun
 abbrev pub AreKeptBy : List ℕ → Coord → List Act → ℕ → Type 0
 AreKeptBy begun c all i = (k : ℕ) (a : Act) → k < i → k < length all → IsKeptBy begun c (get_or all k a)
 
@@ -222,7 +222,7 @@ module _ (s : State) (next : List Command) (step : ℕ) (ready : IsReady s) (kee
       let place = in_place a a (acts s.bots next) j in
       subst (λ (x : Act). IsKeptBy begun c x) place.2 (h place.0 a (let l = place.1 in let acts_bound = acts_few s.bots next in omega (arith, l, acts_bound, past)) place.1))
 
--- ---- which bids stand in a list
+-- ---- the bids in a list
 
 pub unfound : (bids : List ℕ) (bid : ℕ) (place : Option ℕ) (none : Bool) → is_some place ≡ not none → none ≡ true
     → IfNone place (list_any (λ k. k == bid) bids ≡ false) → list_any (λ k. k == bid) bids ≡ false

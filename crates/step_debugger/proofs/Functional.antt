@@ -1,4 +1,4 @@
--- A line of a session has one answer at most.
+-- A line of a session has at most one answer.
 use Rattle.std.proofs.Common.{◌≡◌, ℕ, ◌+◌, sym, ◌∙◌, ap, subst, List, [], ◌∷◌, ◌++◌, Bool, true, false, cond}
 use Rattle.std.specs.Prelude.{Option, Some, None, MatchBool, MatchOption}
 use Rattle.std.proofs.lemmas.List.{same_from_push}

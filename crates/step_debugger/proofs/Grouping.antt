@@ -1,4 +1,4 @@
--- A group of the next step is begun.
+-- A group of the next step begins.
 use Rattle.std.proofs.Common.{◌≡◌, ℕ, zero, suc, ◌+◌, ◌≤◌, ◌<◌, ◌==◌, refl, sym, ◌∙◌, ap, subst, inl, inr, arith, List, [], ◌∷◌, ◌++◌, Bool, true, false, cond, ◌&&◌, ◌||◌, map, length, length-append, append_assoc, get_or}
 use Rattle.std.specs.Prelude.{Option, Some, None, Ok, Err, IfNone, IfSome, IsSomeAnd, IsPermutation, MatchBool, MatchOption, All, ◌+ℤ◌, not, count_by}
 use Rattle.std.specs.List.{list_any, remove}
@@ -80,7 +80,7 @@ pub differ_seen : (s : State) (d : Debugging) → s ≡ d.session.point.state �
 differ_seen s d e ready all bid =
     leaders_differ d.session.point.state.bots (next_commands d.commands d.session.point) (subst (λ (t : State). Rising t.bots) e (rising_is s.bots ready.rising)) all bid
 
--- ---- which leaders may begin
+-- ---- the leaders that may begin
 
 counted : (xs : List ℕ) (bid : ℕ) → list_any (λ k. k == bid) xs ≡ true → 1 ≤ count_by (λ k. k == bid) xs
 counted [] bid h = cc
@@ -114,7 +114,7 @@ any_here (x ∷ xs) (suc i) bid l e = or_true (x == bid) (list_any (λ k. k == b
     or_true true b f = refl
     or_true false b f = f
 
--- a bid that stands at no place
+-- a bid at no index
 pub not_found : (xs : List ℕ) (bid i : ℕ) → length xs ≤ i → ((k : ℕ) → k < i → get_or xs k 0 ≡ bid → ⊥)
     → list_any (λ k. k == bid) xs ≡ false
 not_found xs bid i past none = none_any (λ k. k == bid) xs (λ x m t. let place = in_place x 0 xs m in none place.0 (let l = place.1 in omega (arith, l, past)) (place.2 ∙ same x t))
@@ -171,7 +171,7 @@ module _ (commands : List Command) (s : Session) (left : List ℕ) (perm : IsPer
       other : (a b : ℕ) → a < b → (a == b) ≡ false
       other a b f = grind (arith, nat_tests)
 
--- ---- what a group's line answers
+-- ---- the answer to a group's line
 
 module _ (commands : List Command) (s : Session) (bid : ℕ) (some : 1 ≤ length s.point.state.bots) where
   judged : (t : Session) (report : DebugReport)
@@ -201,7 +201,7 @@ module _ (commands : List Command) (s : Session) (bid : ℕ) (some : 1 ≤ lengt
         (subst (λ (b : Bool). MatchBool b (MatchBool (is_last commands s) (TriesStep commands s t report) ((t ≡ record s { begun = s.begun ++ bid ∷ [] }) × (report ≡ Begun bid (s.point.steps + 1)))) ((t ≡ s) × (report ≡ NoLeader bid))) (sym f)
         (subst (λ (b : Bool). MatchBool b (TriesStep commands s t report) ((t ≡ record s { begun = s.begun ++ bid ∷ [] }) × (report ≡ Begun bid (s.point.steps + 1)))) (sym g) made))
 
-    -- the last group, by what the step answered
+    -- the last group, by the answer of the step
     pub last_ok : (t : Session) (ok : StepOk) → IfSome (step_report t.point.steps (Ok ok)) (TriesStep commands s t)
         → may_begin commands s bid ≡ true → is_last commands s ≡ true
         → IfSome (group_report bid t.point.steps (Ok (Some ok))) (AnswersLine commands (Group bid) s t)
@@ -217,7 +217,7 @@ module _ (commands : List Command) (s : Session) (bid : ℕ) (some : 1 ≤ lengt
     last_err t (fault.NotLeader leader) made f g = group_last t (NoLeader leader) made f g
     last_err t fault.Memory made f g = tt
 
--- ---- what is kept
+-- ---- the invariant
 
 abbrev pub FirstLaw : Type 0
 FirstLaw = (s : State) (commands : List Command) (step : ℕ) → IsReady s → broken s commands step ≡ None → record s { energy = s.energy +ℤ upkeep s } ≡ after_some s (acts s.bots commands) []
@@ -261,7 +261,7 @@ module _ (v : Situation) (notes : Buffer Undo) (commands : List Command) (taken 
     more = IsPermutation-more (next_leaders commands (point_of v taken)) begun left place leader below (sym is ∙ same left place leader 0 below)
         (subst (λ (x : Debugging). IsPermutation (next_leaders x.commands x.session.point) (x.session.begun ++ left)) (sym e) perm)
 
-    -- the group of the leader takes its turn after the begun ones
+    -- the group of the leader is applied after the begun ones
     pub follows_on : FirstLaw → IsReady v.state → (next : List Command)
         → next ≡ next_commands commands (point_of v taken)
         → FollowsOn v.state next begun leader (remove left place) bots

@@ -1,4 +1,4 @@
--- The next step is tried.
+-- An attempt at the next step.
 use Rattle.std.proofs.Common.{◌≡◌, ℕ, ◌+◌, ◌-◌, ◌*◌, ◌≤◌, refl, sym, ◌∙◌, ap, subst, arith, List, [], ◌∷◌, ◌++◌, Bool, true, false, length, take, drop, length-drop, length-take}
 use Rattle.std.specs.Prelude.{◌↔◌, All, Ok, Err}
 use Rattle.circular_buffer.specs.Buffer.{Buffer, keep_last}
@@ -150,14 +150,14 @@ module _ (v : Situation) (notes : Buffer Undo) (commands : List Command) (taken 
         breaks : Next v.state (next_commands commands (point_of v taken)) (v.steps + 1) (Breaks b)
         breaks = subst (λ (xs : List Command). Next v.state xs (v.steps + 1) (Breaks b)) next_here stepped.breaks.1
 
-        -- the touches of a step that is refused
+        -- the touches of a refused step
         touched : IsWithinWorkOf 100 commands (point_of v taken) (began + searched_for b.rule v.state.matrix) ended
         touched = subst (λ (xs : List Command). IsWithinWork v.state xs (v.steps + 1) (began + searched_for b.rule v.state.matrix) ended) next_here stepped.touches_broken
 
         pub refused_within : IsRefusedWithin 100 d.commands d.session.point b began ended
         refused_within = let paid = touched.2 in subst (λ (x : Debugging). IsRefusedWithin 100 x.commands x.session.point b began ended) e (touched.0, touched.1, omega (arith, paid))
 
-        -- and after it of a machine that is made anew
+        -- and of the new machine after it
         pub anew_within : w.spent ≡ true → (last : ℕ) → last ≤ ended + 91 * volume w.state.matrix.resolution
             → IsRefusedWithin 100 d.commands d.session.point b began last
         anew_within spent last anew =
@@ -185,7 +185,7 @@ module _ (v : Situation) (notes : Buffer Undo) (commands : List Command) (taken 
                 absurd_of : false ≡ true → ⊥
                 absurd_of h = cc
 
-        -- by the rule of grounding, after which the machine is made anew
+        -- by the rule of grounding, after which a new machine is made
         module _ (spent : w.spent ≡ true) (u : Situation) (anew : u ≡ record { state = w.state; steps = w.steps; spent = false }) (now : List ℕ) (none : now ≡ []) where
           point_anew : point_of u taken ≡ point_of v taken
           point_anew = ap (λ (x : Situation). point_of x taken) anew ∙ point_stays

@@ -1,4 +1,4 @@
--- Notes one after another, and the points that they tell.
+-- Notes one after another, and their points.
 use Rattle.std.proofs.Common.{◌≡◌, ℕ, zero, suc, ◌-◌, refl, sym, ◌∙◌, ap, subst, arith, List, [], ◌∷◌, ◌++◌, length, take, drop}
 use Rattle.std.specs.Prelude.{Some, slice_get}
 use Rattle.step_machine.specs.declared.undo.Undo.{Undo}
@@ -10,7 +10,7 @@ pub points_many : (p : SessionPoint) (notes : List Undo) → length (points_of p
 points_many p [] = refl
 points_many p (u ∷ notes) = ap suc (points_many p notes)
 
--- ---- one note more
+-- ---- one more note
 
 pub earliest_more : (p : SessionPoint) (notes : List Undo) (u : Undo)
     → earliest p (notes ++ u ∷ []) ≡ earliest (point_before p u) notes

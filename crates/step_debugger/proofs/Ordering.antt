@@ -33,10 +33,10 @@ next_rule s commands step b keeps (breaks_at_start w f e) = cc
 next_rule s commands step b keeps (leaves_floating c f low u e) = let same : b ≡ ungrounded_at step c = cc in ap (λ (x : Broken). x.rule) same
 next_rule s commands step b keeps (accepts f u e) = cc
 
--- ---- where nothing is begun
+-- ---- if nothing is begun
 
 module _ (commands : List Command) (s : Session) (none : s.begun ≡ []) (keeps : broken s.point.state (next_commands commands s.point) (s.point.steps + 1) ≡ None) where
-  -- what is begun does not matter for the step
+  -- the begun groups do not matter for the step
   follows_so : (begun : List ℕ) (t : Session) (r : DebugReport) (outcome : Outcome)
       → Next s.point.state (next_commands commands s.point) (s.point.steps + 1) outcome
       → FollowsStep (record s { begun = begun }) t r outcome → FollowsStep s t r outcome
@@ -95,7 +95,7 @@ module _ (commands : List Command) (s : Session) (none : s.begun ≡ []) (keeps 
         by true true e f x = cc
         by false last e f x = cc
 
-    -- the groups that are left, one after another
+    -- the remaining groups, one after another
     rest_of : (begun : List ℕ) (bid : ℕ) (more : List ℕ) (t : Session)
         → IsPermutation (next_leaders commands s.point) (begun ++ bid ∷ more)
         → BeginEach commands (bid ∷ more) (record s { begun = begun }) t → (r : DebugReport) × TriesStep commands s t r

@@ -1,4 +1,4 @@
--- A step that was made, by whatever line, and is taken back.
+-- A step that any line made, and its undo.
 use Rattle.std.proofs.Common.{◌≡◌, ℕ, zero, suc, ◌+◌, ◌-◌, ◌≤◌, ◌<◌, refl, sym, ◌∙◌, ap, arith, List, [], ◌∷◌, ◌++◌, Bool, true, false, cond, length, drop, length-append}
 use Rattle.std.specs.Prelude.{ℤ, Option, Some, None, MatchBool, MatchOption}
 use Rattle.std.proofs.lemmas.List.{same_from_push}
@@ -63,7 +63,7 @@ dropped_back : (begun : List ℕ) (s t : Session) (r : DebugReport) → is_made 
 dropped_back [] s t r m h = went_back s.past s t r m h
 dropped_back (b ∷ begun) s t r m h = absurd (never r (is_returned s.point) h.1 m refl)
 
--- only a line that makes a step says so
+-- only a line that makes a step reports one
 was_made : (commands : List Command) (line : DebugLine) (s t : Session) (r : DebugReport) → is_made r ≡ true
     → AnswersLine commands line s t r → WasMade s t
 was_made commands Step s t r m h = unless_ended s.point.state.bots s t r _ m (stepped commands s t r m) h
@@ -90,7 +90,7 @@ latest_push xs x =
     let same : length (xs ++ x ∷ []) - 4096 ≡ length xs - 4095 = omega (arith, length_is) in
     ap (λ k. drop k (xs ++ x ∷ [])) same ∙ drop_push (length xs - 4095) xs x (omega arith)
 
--- ---- what is taken back
+-- ---- the undone step
 
 restored_past : (past : List SessionPoint) (s t u : Session) (r : DebugReport) → past ≡ t.past → (v : State)
     → t ≡ made s v → TakesBack past t u r

@@ -1,4 +1,4 @@
--- The last step is taken back.
+-- The last step is undone.
 use Rattle.std.proofs.Common.{◌≡◌, ℕ, ◌-◌, ◌≤◌, ◌==◌, refl, sym, ◌∙◌, ap, subst, arith, List, [], ◌∷◌, ◌++◌, Bool, true, false, length, take}
 use Rattle.std.specs.Prelude.{All, Some}
 use Rattle.std.proofs.lemmas.Bool.Decides.{nat_tests}
@@ -16,14 +16,14 @@ use Rattle.step_debugger.specs.Touches.{IsTouchedBack}
 use Rattle.step_debugger.proofs.Notes.{last_split, lead_less, points_more}
 use Rattle.step_debugger.proofs.TouchedBack.{touched_back}
 
--- where the past has a last point
+-- if the past has a last point
 takes_back : (past earlier : List SessionPoint) (last : SessionPoint) (s t : Session) (report : DebugReport)
     → past ≡ earlier ++ last ∷ [] → IsBack s t report → TakesBack past s t report
 takes_back (p ∷ past) earlier last s t report e h = h
 takes_back [] [] last s t report e h = cc
 takes_back [] (p ∷ earlier) last s t report e h = cc
 
--- nothing is begun where the list is said to be empty
+-- nothing is begun if the list reports that it is empty
 pub none_begun : (begun : List ℕ) (empty : Bool) → empty ≡ (length begun == 0) → empty ≡ true → begun ≡ []
 none_begun [] empty e h = refl
 none_begun (x ∷ begun) empty e h = absurd no_zero

@@ -1,4 +1,4 @@
--- How often voxels are touched while a step is taken back, by what changes.
+-- The touches of undoing a step, by its changes.
 use Rattle.std.proofs.Common.{◌≡◌, ◌≢◌, ℕ, zero, suc, ◌+◌, ◌≤◌, ◌<◌, refl, sym, ◌∙◌, ap, subst, inl, inr, ◌⊎◌, arith, List, [], ◌∷◌, ◌++◌, Bool, true, false, cond, ◌&&◌, length, length-append}
 use Rattle.std.specs.Prelude.{filter, not, IsTrue, IsFalse}
 use Rattle.std.specs.List.{AllPairs}

@@ -1,4 +1,4 @@
--- How often voxels are touched while a group or a step is made, by the work of the step.
+-- The touches of making a group or a step, by the work of the step.
 use Rattle.std.proofs.Common.{◌≡◌, ℕ, ◌+◌, ◌*◌, ◌≤◌, arith, List, length, Option, None, Some}
 use Rattle.std.specs.Prelude.{Err}
 use Rattle.nano_spec.specs.declared.commands.Command.{Command}
@@ -14,12 +14,12 @@ use Rattle.step_debugger.specs.declared.fault.DebugFault.TheVariants as fault
 use Rattle.step_debugger.specs.Session.{SessionPoint, next_commands}
 use Rattle.step_debugger.specs.Touches.{IfRefused, IsRefusedWithin, IsWithinWorkOf}
 
--- the work of a step that breaks no rule at its start is no less than what is volatile
+-- the work of a step that breaks no rule at its start is at least the number of volatile coordinates
 volatile_most : (s : State) (commands : List Command) (step n : ℕ) → broken s commands step ≡ None
     → WorkOfStep s commands step n → volatile_total s.matrix (acts s.bots commands) ≤ n
 volatile_most s commands step n keeps work = let acts_work_here = (acts_work s commands step n keeps work).1 in omega (arith, acts_work_here)
 
--- where the next step cannot be judged nothing is touched
+-- if the next step cannot be judged, nothing is touched
 pub untouched_at : (T : Type 0) (most : ℕ) (commands : List Command) (p : SessionPoint) (r : DebugFault) (began : ℕ)
     → IfRefused {T = T} (Err r) (λ b. IsRefusedWithin most commands p b began began)
 untouched_at T most commands p (fault.Broken b) began = let work = step_work p.state (next_commands commands p) (p.steps + 1) in (work.0, work.1, omega arith)
@@ -28,7 +28,7 @@ untouched_at T most commands p fault.NoHistory began = tt
 untouched_at T most commands p (fault.NotLeader leader) began = tt
 untouched_at T most commands p fault.Memory began = tt
 
--- the step of a group is refused where it is judged
+-- the judgement refuses the step of a group
 pub judged_within : (commands : List Command) (p : SessionPoint) (b : Broken) (began ended : ℕ)
     → broken p.state (next_commands commands p) (p.steps + 1) ≡ Some b
     → length (next_commands commands p) ≡ length p.state.bots
@@ -40,7 +40,7 @@ judged_within commands p b began ended breaks all judged =
     (work.0, work.1, omega (arith, few))
 
 module _ (commands : List Command) (p : SessionPoint) (keeps : broken p.state (next_commands commands p) (p.steps + 1) ≡ None) (began middle : ℕ) (judged : middle ≤ began + 2 * volatile_total p.state.matrix (acts p.state.bots (next_commands commands p))) where
-  -- a group that is begun: its step is judged
+  -- a group begins: its step is judged
   pub begun_within : IsWithinWorkOf 102 commands p began middle
   begun_within =
       let work = step_work p.state (next_commands commands p) (p.steps + 1) in
@@ -54,7 +54,7 @@ module _ (commands : List Command) (p : SessionPoint) (keeps : broken p.state (n
       let paid = made.2 in
       (made.0, made.1, omega (arith, judged, most, paid))
 
-  -- or its step is refused after it was judged
+  -- or its step is refused after its judgement
   pub refused_within : (T : Type 0) (r : DebugFault) (ended : ℕ)
       → IfRefused {T = T} (Err r) (λ b. IsRefusedWithin 100 commands p b middle ended)
       → IfRefused {T = Option T} (Err r) (λ b. IsRefusedWithin 102 commands p b began ended)

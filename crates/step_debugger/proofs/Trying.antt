@@ -1,4 +1,4 @@
--- The next step is judged, and its groups are put into an order.
+-- The judgement of the next step, and the order of its groups.
 use Rattle.std.proofs.Common.{◌≡◌, ℕ, ◌+◌, ◌≤◌, ◌==◌, Bool, false, refl, sym, ◌∙◌, ap, arith, List, [], ◌∷◌, ◌++◌, length, length-append}
 use Rattle.std.proofs.lemmas.List.{length-map}
 use Rattle.std.specs.Prelude.{Some, IfSome}
@@ -26,7 +26,7 @@ use Rattle.step_debugger.specs.Readiness.{IsUnready}
 use Rattle.step_debugger.specs.Session.{AnswersLine, Ended, Refused, DebugReport, Session, Step, UnlessEnded, next_commands, next_leaders}
 use Rattle.step_debugger.proofs.Making.{here, refused_other}
 
--- ---- where no step can be tried
+-- ---- if no step can be attempted
 
 pub unless_active : (bots : List Bot) (s t : Session) (report : DebugReport) (P : Type 0) → 1 ≤ length bots → P
     → UnlessEnded bots s t report P
@@ -61,7 +61,7 @@ leaders_few bots commands =
     let acts_bound = acts_most bots commands in
     omega (arith, mapped_length, leaders_bound, acts_bound)
 
--- something is begun where the list is said not to be empty
+-- a group is begun if the list reports that it is not empty
 pub begun_some : (begun : List ℕ) (empty : Bool) → empty ≡ (length begun == 0) → empty ≡ false → begun ≡ [] → ⊥
 begun_some begun empty e h f = let length_is = ap (λ (xs : List ℕ). length xs) f in let length_not_zero : (length begun == 0) ≡ false = sym e ∙ h in grind (arith, nat_tests)
 

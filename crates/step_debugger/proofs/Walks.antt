@@ -1,4 +1,4 @@
--- Worked sessions, each line by what it asks.
+-- Worked sessions, each line by its kind.
 use Rattle.std.proofs.Common.{ℕ, zero, suc, refl, inl, inr, List, [], ◌∷◌, pos}
 use Rattle.std.specs.Prelude.{None, Some}
 use Rattle.vox_geom.specs.Point.{coord}
@@ -38,12 +38,12 @@ begun_1 = record f1 { begun = 1 ∷ [] }
 abbrev begun_2 : Session
 begun_2 = record f1 { begun = 2 ∷ [] }
 
--- the sessions after so many Waits
+-- the sessions after n Waits
 abbrev waited : ℕ → Session
 waited zero = opened (empty 1) full_profile
 waited (suc n) = next_of waits (waited n)
 
--- the session after the Halt alone
+-- the session after a Halt alone
 abbrev ended_1 : Session
 ended_1 = next_of (Halt ∷ []) (opened (empty 1) full_profile)
 

@@ -1,4 +1,4 @@
--- What the parts of a debugger keep.
+-- The invariant of a debugger.
 use Rattle.std.specs.Prelude.{◌≡◌, ℕ, ◌+◌, ◌<◌, ◌≤◌, false, List, [], ◌∷◌, ◌++◌, length, None, All, IsPermutation}
 use Rattle.vox_geom.specs.Space.{IsInSpace}
 use Rattle.circular_buffer.specs.Buffer.{Buffer}
@@ -13,7 +13,7 @@ use Rattle.system_state.specs.Turns.{bots_after_some}
 use Rattle.step_debugger.specs.Session.{SessionPoint, most_past, next_commands, next_leaders}
 use Rattle.step_debugger.specs.Debugging.{earliest, point_of}
 
--- the step of the note led to the point, and can be taken back
+-- the step of the note led to the point, and can be undone
 pub record LeadsTo (p : SessionPoint) (undo : Undo) : Type 0 where
   pub may : MayUndo p.state undo
   pub counted : undo.steps + 1 ≡ p.steps
@@ -25,19 +25,19 @@ abbrev pub LeadTo : SessionPoint → List Undo → Type 0
 LeadTo p [] = Unit {0}
 LeadTo p (undo ∷ notes) = LeadsTo (earliest p notes) undo × LeadTo p notes
 
--- the groups of these leaders of the next step are begun, and those of the others are left; the bots are those after
--- the begun groups
+-- the groups of these leaders of the next step are begun, and those of the others remain; the bots are those after the begun
+-- groups
 pub record AreBegun (commands : List Command) (p : SessionPoint) (begun left : List ℕ) (bots : List Bot) : Type 0 where
   pub keeps : broken p.state (next_commands commands p) (p.steps + 1) ≡ None
   pub leaders : IsPermutation (next_leaders commands p) (begun ++ left)
   pub bots_are : bots ≡ bots_after_some p.state (next_commands commands p) begun
 
--- nothing is begun, or the begun groups are as they are kept
+-- nothing is begun, or the begun groups satisfy the invariant
 abbrev pub Begin : List Command → SessionPoint → List ℕ → List ℕ → List Bot → Type 0
 Begin commands p [] left bots = bots ≡ p.state.bots
 Begin commands p (bid ∷ begun) left bots = AreBegun commands p (bid ∷ begun) left bots
 
--- the parts fit together, until memory is refused
+-- the parts fit together, until allocation fails
 pub record Fit (p : SessionPoint) (notes : List Undo) (commands : List Command) (begun left : List ℕ) (bots : List Bot)
     : Type 0 where
   pub well_formed : IsWellFormed p.state
@@ -46,7 +46,7 @@ pub record Fit (p : SessionPoint) (notes : List Undo) (commands : List Command) 
   pub taken : p.taken ≤ length commands
   pub notes_lead : LeadTo p notes
   pub begin : Begin commands p begun left bots
-  -- the bots after the begun groups stand in space
+  -- the bots after the begun groups are in space
   pub within : All (λ b. IsInSpace p.state.matrix.resolution b.pos) bots
 
 -- the parts of a debugger

@@ -13,7 +13,7 @@ use Rattle.step_order.specs.SomeGroups.{after_some}
 abbrev pub matrix_after_some : State → List Command → List ℕ → Matrix
 matrix_after_some s commands bids = (after_some s (acts s.bots commands) (acts_of (acts s.bots commands) bids)).matrix
 
--- what an act makes of the voxel at a coordinate: full or void, or nothing where it neither fills nor voids it
+-- the effect of an act on the voxel at a coordinate: full or void, or none if it neither fills nor voids it
 abbrev pub IsEditOf : Act → Coord → Option Bool → Type 0
 IsEditOf a c None = (is_edited true a c ≡ false) × (is_edited false a c ≡ false)
 IsEditOf a c (Some full) = is_edited (not full) a c ≡ true

@@ -1,4 +1,4 @@
--- A session, in which a trace is walked forwards and backwards, step by step or group by group (docs/FORMATS.md,
+-- A session, which walks a trace forwards and backwards, step by step or group by group (docs/FORMATS.md,
 -- "Sessions").
 use Rattle.std.specs.Prelude.{◌≡◌, ℕ, ◌+◌, ◌-◌, ℤ, Bool, true, false, cond, ◌&&◌, not, ◌==◌, List, [], ◌∷◌, ◌++◌, length, take, drop, Option, Some, MatchBool, MatchOption}
 use Rattle.std.specs.List.{list_any}
@@ -17,20 +17,20 @@ use Rattle.nano_spec.specs.Rules.{broken}
 use Rattle.nano_spec.specs.Serial.{leader_bids, serial}
 use Rattle.nano_spec.specs.State.{State, opening}
 
--- a state, with how many steps were made and how many commands were taken until then
+-- a state, with the number of steps made and the number of commands taken until then
 pub record SessionPoint : Type 0 where
   pub state : State
   pub steps : ℕ
   pub taken : ℕ
 
--- the point where it stands, the points before it, of which the last comes last, and the leaders of the groups that are
--- begun, in the order in which they were begun
+-- the current point, the earlier points, the most recent last, and the leaders of the begun groups, in the order in which they
+-- began
 pub record Session : Type 0 where
   pub point : SessionPoint
   pub past : List SessionPoint
   pub begun : List ℕ
 
--- how many points are kept
+-- the number of points that are kept
 abbrev pub most_past : ℕ
 most_past = 4096
 
@@ -38,12 +38,12 @@ most_past = 4096
 abbrev pub latest : {X : Type 0} → ℕ → List X → List X
 latest n xs = drop (length xs - n) xs
 
--- the session at its start
+-- the initial session
 abbrev pub opened : Matrix → Profile → Session
 opened source profile =
     record { point = record { state = opening source profile; steps = 0; taken = 0 }; past = []; begun = [] }
 
--- the commands of the next step: one for each bot, as far as there are any
+-- the commands of the next step: one for each bot, as long as there are any
 abbrev pub next_commands : List Command → SessionPoint → List Command
 next_commands commands p = take (length p.state.bots) (drop p.taken commands)
 
@@ -63,21 +63,21 @@ pub data DebugLine : Type 0 where
   Bots : DebugLine
   Voxel : Coord → DebugLine
 
--- what is printed for a line
+-- the printed answer to a line
 pub data DebugReport : Type 0 where
   -- no bot is active
   Ended : DebugReport
   -- the next commands break a rule
   Refused : Broken → DebugReport
-  -- a step was made: their number, the energy, and whether no bot is left
+  -- a step was made: the step number, the energy, and whether no bot is left
   Made : ℕ → ℤ → Bool → DebugReport
-  -- this is no leader of the step, or its group is begun
+  -- the bid is no leader of the step, or its group is begun
   NoLeader : ℕ → DebugReport
-  -- the group of this leader was begun, in the step of this number
+  -- the group of this leader began, in the step of this number
   Begun : ℕ → ℕ → DebugReport
   -- there is no earlier point
   NoHistory : DebugReport
-  -- an earlier point stands again: its number of steps and its energy
+  -- an earlier point is current again: its number of steps and its energy
   Returned : ℕ → ℤ → DebugReport
   -- the active bots
   Crew : List Bot → DebugReport
@@ -85,11 +85,11 @@ pub data DebugReport : Type 0 where
   IsVoid : Coord → DebugReport
   IsFull : Coord → Option ℕ → DebugReport
 
--- nothing is begun any more
+-- the begun groups are dropped
 abbrev pub dropped : Session → Session
 dropped s = record s { begun = [] }
 
--- the state is reached by the next step: the point joins the past, which loses its oldest where it is full
+-- the next step reached the state: the point joins the past, which loses its oldest point if it is full
 abbrev pub made : Session → State → Session
 made s t = record {
   point = record { state = t; steps = s.point.steps + 1; taken = s.point.taken + length s.point.state.bots };
@@ -97,7 +97,7 @@ made s t = record {
   begun = [];
 }
 
--- after a rule is broken all stays, but that after the rule of grounding nothing is begun
+-- after a broken rule all stays, but the rule of grounding drops the begun groups
 abbrev pub refused : Rule → Session → Session
 refused Ungrounded s = dropped s
 refused rule s = s
@@ -107,18 +107,18 @@ abbrev pub none_left : List Bot → Bool
 none_left [] = true
 none_left (bot ∷ bots) = false
 
--- what an outcome of the next step changes, and what is printed
+-- the change by an outcome of the next step, and its printed answer
 abbrev pub FollowsStep : Session → Session → DebugReport → Outcome → Type 0
 FollowsStep s t report (Goes u) = (t ≡ made s u) × (report ≡ Made (s.point.steps + 1) u.energy (none_left u.bots))
 FollowsStep s t report (Breaks b) = (t ≡ refused b.rule s) × (report ≡ Refused b)
 
--- the next step is tried
+-- an attempt at the next step
 abbrev pub TriesStep : List Command → Session → Session → DebugReport → Type 0
 TriesStep commands s t report =
     (outcome : Outcome) × Next s.point.state (next_commands commands s.point) (s.point.steps + 1) outcome
     × FollowsStep s t report outcome
 
--- where no bot is active the run has ended, and else P holds
+-- the run has ended if no bot is active, and otherwise P holds
 abbrev pub UnlessEnded : List Bot → Session → Session → DebugReport → Type 0 → Type 0
 UnlessEnded [] s t report P = (t ≡ s) × (report ≡ Ended)
 UnlessEnded (bot ∷ bots) s t report P = P
@@ -132,7 +132,7 @@ may_begin commands s bid =
 abbrev pub is_last : List Command → Session → Bool
 is_last commands s = length s.begun + 1 == length (next_leaders commands s.point)
 
--- a group is begun, where its leader is one and its group is not begun; the last one makes the step
+-- a group begins if the bid is a leader whose group is not begun; the last one makes the step
 abbrev pub BeginsGroup : List Command → ℕ → Session → Session → DebugReport → Type 0
 BeginsGroup commands bid s t report =
     MatchBool (may_begin commands s bid)
@@ -141,17 +141,17 @@ BeginsGroup commands bid s t report =
     ((t ≡ record s { begun = s.begun ++ bid ∷ [] }) × (report ≡ Begun bid (s.point.steps + 1))))
     ((t ≡ s) × (report ≡ NoLeader bid))
 
--- a group is begun unless the next commands break a rule that is judged at a step's start
+-- a group begins unless the next commands break a rule that is judged at a step's start
 abbrev pub TriesGroup : List Command → ℕ → Session → Session → DebugReport → Type 0
 TriesGroup commands bid s t report =
     MatchOption (broken s.point.state (next_commands commands s.point) (s.point.steps + 1))
     (BeginsGroup commands bid s t report) (λ b. (t ≡ s) × (report ≡ Refused b))
 
--- the point stands again
+-- the report that the point is current again
 abbrev pub is_returned : SessionPoint → DebugReport
 is_returned p = Returned p.steps p.state.energy
 
--- the last point of the past stands again
+-- the last point of the past is current again
 pub record IsBack (s t : Session) (report : DebugReport) : Type 0 where
   pub earlier : List SessionPoint
   pub last : SessionPoint
@@ -159,17 +159,17 @@ pub record IsBack (s t : Session) (report : DebugReport) : Type 0 where
   pub session : t ≡ record { point = last; past = earlier; begun = [] }
   pub report_is : report ≡ is_returned last
 
--- where nothing is begun the last step is taken back
+-- if nothing is begun, the last step is undone
 abbrev pub TakesBack : List SessionPoint → Session → Session → DebugReport → Type 0
 TakesBack [] s t report = (t ≡ s) × (report ≡ NoHistory)
 TakesBack (p ∷ past) s t report = IsBack s t report
 
--- what is begun is dropped, or else the last step is taken back
+-- the begun groups are dropped, or the last step is undone if there are none
 abbrev pub GoesBack : List ℕ → Session → Session → DebugReport → Type 0
 GoesBack [] s t report = TakesBack s.past s t report
 GoesBack (bid ∷ begun) s t report = (t ≡ dropped s) × (report ≡ is_returned s.point)
 
--- what a line changes, and what is printed
+-- the change by a line, and its printed answer
 abbrev pub AnswersLine : List Command → DebugLine → Session → Session → DebugReport → Type 0
 AnswersLine commands Step s t report = UnlessEnded s.point.state.bots s t report (TriesStep commands s t report)
 AnswersLine commands (Group bid) s t report =

@@ -1,4 +1,4 @@
--- How often voxels are touched while a step is made or taken back.
+-- The touches of making or undoing a step.
 use Rattle.std.specs.Prelude.{ℕ, ◌+◌, ◌*◌, ◌≤◌, ◌&&◌, List, Result, Err}
 use Rattle.nano_spec.specs.declared.commands.Command.{Command}
 use Rattle.nano_spec.specs.declared.outcomes.Broken.{Broken}
@@ -10,28 +10,28 @@ use Rattle.step_debugger.specs.declared.fault.DebugFault.{DebugFault}
 use Rattle.step_debugger.specs.declared.fault.DebugFault.TheVariants as fault
 use Rattle.step_debugger.specs.Session.{SessionPoint, next_commands}
 
--- the touches from began to ended are at most so many for each unit of the work of the next step
+-- the touches from began to ended are at most n for each unit of the work of the next step
 abbrev pub IsWithinWorkOf : ℕ → List Command → SessionPoint → ℕ → ℕ → Type 0
 IsWithinWorkOf most commands p began ended =
     (n : ℕ) × WorkOfStep p.state (next_commands commands p) (p.steps + 1) n × (ended ≤ began + most * n)
 
--- they are so where the step is refused too, but for 92 at each voxel where it breaks the rule of grounding: those of a
--- search, and of a machine that is made anew
+-- the same for a refused step, but with 92 more for each voxel if it breaks the rule of grounding: those of a search, and of a
+-- new machine
 abbrev pub IsRefusedWithin : ℕ → List Command → SessionPoint → Broken → ℕ → ℕ → Type 0
 IsRefusedWithin most commands p b began ended =
     IsWithinWorkOf most commands p (began + 92 * searched_for b.rule p.state.matrix) ended
 
--- where the next step is refused, P holds of the rule that it breaks
+-- P holds of the rule that a refused next step breaks
 abbrev pub IfRefused : {T : Type 0} → Result T DebugFault → (Broken → Type 0) → Type 0
 IfRefused (Err (fault.Broken b)) P = P b
 IfRefused _ P = Unit {0}
 
--- what is full in both matrices
+-- the voxels that are full in both matrices
 abbrev pub common : Matrix → Matrix → Matrix
 common old new = matrix_where old.resolution (λ c. is_full old c && is_full new c)
 
--- at most a hundred touches for each voxel that changes, for each voxel whose level changes by what becomes void, and
--- for each whose level changes then by what becomes full
+-- at most a hundred touches for each voxel that changes, for each voxel whose level changes by voiding, and for each whose
+-- level then changes by filling
 abbrev pub IsTouchedBack : Matrix → Matrix → ℕ → ℕ → Type 0
 IsTouchedBack old new began ended =
     (levels : LevelsThrough old (common old new) new)

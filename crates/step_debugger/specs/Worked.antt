@@ -1,4 +1,4 @@
--- Worked examples of sessions: what a script's lines answer, one after another, over the commands of a trace.
+-- Worked examples of sessions: the answers to a script's lines, over the commands of a trace.
 use Rattle.std.specs.Prelude.{◌≡◌, ℕ, pos, true, false, List, [], ◌∷◌, length, replicate}
 use Rattle.vox_geom.specs.Point.{coord}
 use Rattle.nano_spec.specs.declared.commands.Command.{Command}
@@ -11,7 +11,7 @@ use Rattle.nano_spec.specs.WorkedStep.{with_one}
 use Rattle.nano_spec.specs.declared.system.Harmonics.TheVariants.{Low}
 use Rattle.step_debugger.specs.Session.{AnswersLine, DebugLine, DebugReport, Session, made, opened, Step, Group, Back, Bots, Voxel, Ended, Refused, Made, NoLeader, Begun, NoHistory, Returned, Crew, IsVoid}
 
--- the lines, one after another, are answered by these reports, from a session on
+-- these reports answer the lines, one after another, from a session on
 abbrev pub Answered : List Command → Session → List DebugLine → List DebugReport → Type 0
 Answered commands s [] [] = Unit {0}
 Answered commands s [] (report ∷ reports) = ⊥
@@ -19,7 +19,7 @@ Answered commands s (line ∷ lines) [] = ⊥
 Answered commands s (line ∷ lines) (report ∷ reports) =
     (t : Session) × AnswersLine commands line s t report × Answered commands t lines reports
 
--- from the empty model of resolution 1, where the only bot waits and then halts: each step costs 23
+-- from the empty model of resolution 1: the only bot waits and then halts, and each step costs 23
 abbrev pub waits : List Command
 waits = Wait ∷ Wait ∷ Wait ∷ Wait ∷ Wait ∷ Wait ∷ Halt ∷ []
 
@@ -27,7 +27,7 @@ waits = Wait ∷ Wait ∷ Wait ∷ Wait ∷ Wait ∷ Wait ∷ Halt ∷ []
 abbrev pub floating : List Command
 floating = Fission (diff (pos 0) (pos 0) (pos 1)) 0 ∷ Fill (diff (pos 0) (pos 1) (pos 1)) ∷ Wait ∷ []
 
--- a session in which so many steps of one Wait were made
+-- a session after n steps of one Wait
 abbrev pub with_past : ℕ → Session
 with_past n =
     record {
@@ -38,7 +38,7 @@ with_past n =
 
 -- sessions
 pub record WorkedSessions : Type 0 where
-  -- six steps are made and taken back, and there is no earlier point
+  -- six steps are made and undone, and there is no earlier point
   pub six_steps_are_taken_back : Answered waits (opened (empty 1) full_profile)
       (Step ∷ Step ∷ Step ∷ Step ∷ Step ∷ Step ∷ Back ∷ Back ∷ Back ∷ Back ∷ Back ∷ Back ∷ Back ∷ [])
       (Made 1 (pos 23) false ∷ Made 2 (pos 46) false ∷ Made 3 (pos 69) false ∷ Made 4 (pos 92) false
@@ -48,11 +48,11 @@ pub record WorkedSessions : Type 0 where
   pub groups_begin_again_after_a_floating_voxel : Answered floating (opened (empty 2) full_profile)
       (Step ∷ Group 1 ∷ Group 1 ∷ Group 2 ∷ Group 1 ∷ []) (Made 1 (pos 68) false ∷ Begun 1 2 ∷ NoLeader 1
       ∷ Refused (record { step = 2; bid = 0; rule = Ungrounded; at = coord 0 1 1 }) ∷ Begun 1 2 ∷ [])
-  -- what is begun is dropped by the way back, and the bots of the point between groups are told
+  -- the step back drops the begun groups, and the report has the bots of the point between groups
   pub what_is_begun_is_dropped : Answered floating (opened (empty 2) full_profile)
       (Step ∷ Group 2 ∷ Back ∷ Group 2 ∷ Group 3 ∷ [])
       (Made 1 (pos 68) false ∷ Begun 2 2 ∷ Returned 1 (pos 68) ∷ Begun 2 2 ∷ NoLeader 3 ∷ [])
-  -- a voxel is told as it is at the point, also where the group is begun that fills it
+  -- the report has the voxel at the point, even if the group that fills it is begun
   pub a_voxel_while_groups_are_begun :
       Answered floating (opened (empty 2) full_profile) (Step ∷ Group 1 ∷ Voxel (coord 0 1 1) ∷ [])
       (Made 1 (pos 68) false ∷ Begun 1 2 ∷ IsVoid (coord 0 1 1) ∷ [])

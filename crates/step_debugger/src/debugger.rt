@@ -31,10 +31,10 @@ use system_state::Turns;
 use vox_geom::{Coord, Memory, Steps};
 use vox_planes::Planes;
 
-/// How many steps can be taken back.
+/// The most steps that can be undone.
 const MOST_HISTORY: usize = 4096;
 
-/// The step debugger over the commands of a trace. Contracts see a session, the commands, and whether memory was refused.
+/// The step debugger over the commands of a trace. Contracts see a session, the commands, and whether it is poisoned (`spent`).
 #[derive(Drop)]
 pub struct Debugger {
     alloc: Global,
@@ -59,7 +59,7 @@ impl Model for Debugger {
 }
 
 impl Debugger {
-    /// The debugger before the first step of a trace, over a source whose full voxels are grounded.
+    /// Returns the debugger before the first step of a trace, over a source whose full voxels are grounded.
     pub fn start<L: Ledger>(
         alloc: Global,
         source: Planes,
@@ -89,7 +89,7 @@ impl Debugger {
         })
     }
 
-    /// The machine in the state before the step that is begun.
+    /// Returns the machine in the state before the current step.
     pub fn machine(&self) -> &Machine
         requires { self.now.spent ≡ false }
         ensures { result.now ≡ situation_of self.now.session.point false }
@@ -97,14 +97,14 @@ impl Debugger {
         &self.machine
     }
 
-    /// The leaders of the groups that are begun, in the order in which they were begun.
+    /// Returns the leaders of the begun groups, in the order in which they began.
     pub fn begun(&self) -> &[u8]
         ensures { result.now ≡ self.now.session.begun }
     {
         self.begun.as_slice()
     }
 
-    /// How many steps can be taken back, at most 4,096.
+    /// Returns the number of steps that can be undone, at most 4,096.
     pub fn history(&self) -> u16
         ensures value { result ≡ length self.now.session.past }
         ensures most { result ≤ 4096 }
@@ -112,7 +112,7 @@ impl Debugger {
         self.history.len() as u16
     }
 
-    /// The bots after the groups that are begun.
+    /// Returns the bots after the begun groups.
     pub fn middle_crew(&self) -> &Crew
         requires { self.now.spent ≡ false }
         ensures { IsSomeAnd (middle_state self.now.commands self.now.session) (λ m. result.now ≡ m.bots) }
@@ -122,7 +122,7 @@ impl Debugger {
         &self.middle
     }
 
-    /// Whether a voxel is full after the groups that are begun.
+    /// Returns whether a voxel is full after the begun groups.
     pub fn middle_full<L: Ledger>(&self, c: Coord, steps: &mut Steps<L>) -> bool
         requires stands { self.now.spent ≡ false }
         requires within { IsInSpace self.now.session.point.state.matrix.resolution c }
@@ -139,14 +139,14 @@ impl Debugger {
         full_after(&self.machine, next, self.begun.as_slice(), c, steps)
     }
 
-    /// Whether memory was refused: no further call may be made then.
+    /// Returns whether the debugger is poisoned because allocation failed: no further call may be made then.
     pub fn spent(&self) -> bool
         ensures { result ≡ self.now.spent }
     {
         self.machine.spent()
     }
 
-    /// Makes the next step: first the groups that are begun, and then the others in rising order of their leaders.
+    /// Makes the next step: first the begun groups, and then the others in rising order of their leaders.
     pub fn step<L: Ledger>(&mut self, steps: &mut Steps<L>) -> Result<StepOk, DebugFault>
         requires { self.old.spent ≡ false }
         ensures session { IfSome (step_report self.new.session.point.steps result)
@@ -163,7 +163,7 @@ impl Debugger {
         self.make(order.as_slice(), steps)
     }
 
-    /// Whether the next step can be judged: some bot is active, and each has a command.
+    /// Returns an error if the next step cannot be judged: no bot is active, or one has no command.
     fn ready(&self) -> Result<(), DebugFault>
         requires { self.now.spent ≡ false }
         ensures some { OnOk result (1 ≤ length self.now.session.point.state.bots) }
@@ -182,7 +182,7 @@ impl Debugger {
         Ok(())
     }
 
-    /// The order in which the groups of the next step are applied: first those that are begun, and then the others.
+    /// Returns the order in which the groups of the next step are applied: first the begun ones, and then the others.
     fn order(&self) -> ArrayVec<u8, MOST_BOTS>
         requires stands { self.now.spent ≡ false }
         requires all { length (next_of self.now.commands self.now.session.point)
@@ -202,7 +202,7 @@ impl Debugger {
         order
     }
 
-    /// Makes the next step, its groups being applied in the order of their leaders that is given.
+    /// Makes the next step, applying its groups in the given order of their leaders.
     fn make<L: Ledger>(&mut self, order: &[u8], steps: &mut Steps<L>) -> Result<StepOk, DebugFault>
         requires stands { self.old.spent ≡ false }
         requires some { 1 ≤ length self.old.session.point.state.bots }
@@ -245,7 +245,7 @@ impl Debugger {
         }
     }
 
-    /// Applies the group of a leader. Where it is the last of its step, the step is made.
+    /// Applies the group of a leader. The last group makes the step.
     pub fn group<L: Ledger>(
         &mut self,
         leader: u8,
@@ -281,7 +281,7 @@ impl Debugger {
         }
     }
 
-    /// The rule that the next commands break, of those that are judged at a step's start.
+    /// Returns the rule that the next commands break, of those that are judged at a step's start.
     fn judge<L: Ledger>(&self, turns: &mut Turns, steps: &mut Steps<L>) -> Option<Broken>
         requires stands { self.now.spent ≡ false }
         requires some { 1 ≤ length self.now.session.point.state.bots }
@@ -303,7 +303,7 @@ impl Debugger {
         self.machine.system().judge(next, step, turns, steps)
     }
 
-    /// The leaders of the groups that are not begun.
+    /// Returns the leaders of the groups that are not begun.
     fn leaders_left(&self) -> ArrayVec<u8, MOST_BOTS>
         requires stands { self.now.spent ≡ false }
         requires all { length (next_of self.now.commands self.now.session.point)
@@ -326,7 +326,7 @@ impl Debugger {
         left
     }
 
-    /// The group at a place among those that are not begun is begun.
+    /// Begins the group at an index among those that are not begun.
     fn begin(&mut self, leader: u8, left: ArrayVec<u8, MOST_BOTS>, place: usize, turns: &Turns)
         requires turns { AreTurns
             (acts self.old.session.point.state.bots (next_of self.old.commands self.old.session.point))
@@ -355,7 +355,7 @@ impl Debugger {
         self.begun.push(leader);
     }
 
-    /// Drops the groups that are begun, or else takes the last step back.
+    /// Drops the begun groups, or undoes the last step if there are none.
     pub fn back<L: Ledger>(&mut self, steps: &mut Steps<L>) -> Result<(), DebugFault>
         requires { self.old.spent ≡ false }
         ensures session { IfSome (back_report self.new.session.point result)

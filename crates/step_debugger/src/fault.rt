@@ -1,26 +1,26 @@
-//! Why a call of the debugger did not do its work.
+//! The reasons why a call of the debugger fails.
 ghost use Rattle.std.specs.Prelude.{◌≡◌};
 ghost use Rattle.step_debugger.specs.Calls.{debug_fault_number};
 
 use nano_spec::Broken;
 
-/// Why a call of the debugger did not do its work.
+/// The reason why a call of the debugger failed.
 #[derive(Clone, Copy, PartialEq, Eq, Debug)]
 pub enum DebugFault {
     /// The next commands break this rule.
     Broken(Broken),
     /// No bot is active.
     Ended,
-    /// There is no earlier step to go back to.
+    /// There is no earlier step to undo.
     NoHistory,
-    /// This is no leader of the step, or its group is begun.
+    /// The bid is no leader of the step, or its group is begun.
     NotLeader { leader: u8 },
-    /// Memory was refused: no further call may be made.
+    /// Allocation failed: no further call may be made.
     Memory,
 }
 
 impl DebugFault {
-    /// The number of the fault.
+    /// Returns the number of the fault.
     pub fn number(self) -> u8
         ensures { result ≡ debug_fault_number self }
     {

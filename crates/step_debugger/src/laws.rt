@@ -6,13 +6,13 @@ ghost use Rattle.step_debugger.specs.Orders.{BeginEach};
 ghost use Rattle.step_debugger.specs.Worked.{WorkedSessions};
 ghost use Rattle.step_debugger.specs.Session.{AnswersLine, Back, DebugLine, Made, DebugReport, Session, Step, is_returned, latest, most_past, next_leaders};
 
-/// A line of a session has one answer at most.
+/// A line of a session has at most one answer.
 pub fn one_answer()
     ensures { (commands : List CommandOf) (line : DebugLine) (s t u : Session) (r q : DebugReport)
         → AnswersLine commands line s t r → AnswersLine commands line s u q → (t ≡ u) × (r ≡ q) }
 {}
 
-/// A step that was made, by whatever line, is taken back: the point and the past stand again, the past without its oldest point where no more are kept.
+/// A step that any line made is undone: the point and the past return, the past without its oldest point if it was full.
 pub fn back_restores()
     ensures point { (commands : List CommandOf) (line : DebugLine) (s t u : Session) (steps : ℕ) (energy : ℤ)
         (ended : Bool) (report : DebugReport)
@@ -36,7 +36,7 @@ pub fn back_restores()
         → report ≡ is_returned s.point }
 {}
 
-/// Lines that begin the groups of all leaders of a step, in whatever order, make that step: the session is then as after the line of the step.
+/// Lines that begin the groups of all leaders of a step, in any order, end in the session of that step's line.
 pub fn every_order_makes_the_step()
     ensures step { (commands : List CommandOf) (order : List ℕ) (s t : Session) → IsReady s.point.state → s.begun ≡ []
         → IsPermutation (next_leaders commands s.point) order → BeginEach commands order s t

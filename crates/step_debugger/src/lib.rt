@@ -1,4 +1,4 @@
-//! The step debugger: a trace is walked forwards and backwards, and a step group by group in a chosen order.
+//! The step debugger: walks a trace forwards and backwards, and a step group by group in a chosen order.
 #![tactic(auto)]
 
 mod debugger;

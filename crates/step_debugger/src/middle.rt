@@ -15,7 +15,7 @@ use step_machine::Machine;
 use system_state::edited_region;
 use vox_geom::{Coord, Steps};
 
-/// What the command of a bot makes of a voxel, if it changes it: full or void.
+/// Returns the effect of a bot's command on a voxel if it changes it: full or void.
 fn edit_of(r: u16, bot: &Bot, command: &Command, c: Coord) -> Option<bool>
     requires within { IsInSpace r bot.now.pos }
     requires stays { IsTrue (stays_in_space r (act bot.now command.now)) }
@@ -28,7 +28,7 @@ fn edit_of(r: u16, bot: &Bot, command: &Command, c: Coord) -> Option<bool>
     None
 }
 
-/// Whether a voxel is full after the groups of the leaders with these bids: the one that changes it decides.
+/// Returns whether a voxel is full after the groups of the leaders with these bids: the one that changes it decides.
 pub(crate) fn full_after<L: Ledger>(
     machine: &Machine,
     next: &[Command],

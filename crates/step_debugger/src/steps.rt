@@ -14,7 +14,7 @@ use std::sync::ledger::Ledger;
 use step_machine::{Machine, Undo};
 use vox_geom::{Memory, Steps};
 
-/// The commands of the next step: one for each of so many bots, as far as there are any.
+/// Returns the commands of the next step: one for each of `count` bots, as long as there are any.
 pub(crate) fn next_commands(commands: &[Command], taken: u32, count: u8) -> &[Command]
     requires { taken ≤ length commands.now }
     ensures { result.now ≡ take count (drop taken commands.now) }
@@ -24,7 +24,7 @@ pub(crate) fn next_commands(commands: &[Command], taken: u32, count: u8) -> &[Co
     next
 }
 
-/// The rule that is broken where some bot has no command.
+/// Returns the rule that is broken if some bot has no command.
 pub(crate) fn trace_ends(machine: &Machine, next: &[Command]) -> Broken
     requires lacks { length next.now < length machine.now.state.bots }
     requires steps { machine.now.steps < 1073741824 }
@@ -49,7 +49,7 @@ pub(crate) fn append(order: &mut ArrayVec<u8, MOST_BOTS>, bids: &[u8])
     }
 }
 
-/// The place of a bid among bids.
+/// Returns the index of a bid among bids.
 pub(crate) fn place_of(bids: &[u8], bid: u8) -> Option<usize>
     ensures found { IfSome result (λ i. (i < length bids.now) × (slice_index bids.now i ≡ bid)) }
     ensures none { IfNone result (list_any (λ k. k == bid) bids.now ≡ false) }
@@ -62,7 +62,7 @@ pub(crate) fn place_of(bids: &[u8], bid: u8) -> Option<usize>
     None
 }
 
-/// The machine is made anew in its state. For want of memory it stays. In a function of its own a machine is dropped at one place.
+/// Replaces the machine by a new one in its state. Out of memory, it stays. Out of line: drops the machine in one place.
 pub(crate) fn renew<L: Ledger>(
     alloc: Global,
     machine: &mut Machine,
@@ -78,7 +78,7 @@ pub(crate) fn renew<L: Ledger>(
     Ok(())
 }
 
-/// Takes the step of a note back. How many bots there were before it.
+/// Undoes the step of a note. Returns the number of bots before it.
 pub(crate) fn take_back<L: Ledger>(
     machine: &mut Machine,
     undo: Undo,

@@ -32,13 +32,13 @@ or-false : (b : Bool) → ((b || (false || false)) || false) ≡ b
 or-false true = refl
 or-false false = refl
 
--- such a bot is together with itself alone
+-- such a bot is a member of its own group alone
 pub together_by_bid : (a b : Act) → IsTrue (is_alone a.command) → are_together a b ≡ (a.bot.bid == b.bot.bid)
 together_by_bid a b h =
     (λ i. ((a.bot.bid == b.bot.bid) || (no_fuse (position a) a.command (position b) b.command h i || no_fuse_with (position b) b.command (position a) a.command h i)) || no_region (position a) a.command (position b) b.command h i)
     ∙ or-false (a.bot.bid == b.bot.bid)
 
--- so its group is itself, where its bid stands once
+-- so its group is itself, if its bid is unique
 pub alone_members : (all : List Act) (a : Act) → IsTrue (is_alone a.command)
     → members all a ≡ filter (λ b. a.bot.bid == b.bot.bid) all
 alone_members all a h = ap (λ t. filter t all) (λ i b. together_by_bid a b h i)

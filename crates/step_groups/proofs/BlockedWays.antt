@@ -1,4 +1,4 @@
--- The least full coordinate of the ways of a command.
+-- The least full coordinate of the paths of a command.
 use Rattle.std.proofs.Common.{◌≡◌, ℕ, refl, ap, ◌∙◌, sym, subst, Bool, true, false, ◌&&◌, ◌||◌, not, List, [], ◌∷◌, Option, Some, None, find, length, nat_lt, ◌++◌}
 use Rattle.vox_geom.specs.declared.coordinate.Coord.{Coord}
 use Rattle.vox_geom.specs.Point.{Point, point}
@@ -28,7 +28,7 @@ use Rattle.nano_spec.specs.Rules.{here, broken_by}
 use Rattle.nano_spec.specs.declared.outcomes.Broken.{Broken}
 use Rattle.nano_spec.specs.declared.outcomes.Rule.{Rule}
 
--- two tests that say the same find the same
+-- two equal tests find the same
 pub find-same : {A : Type 0} (f g : A → Bool) (xs : List A) → ((x : A) → f x ≡ g x) → find f xs ≡ find g xs
 find-same f g xs h = ap (λ t. find t xs) (λ i x. h x i)
 
@@ -36,11 +36,11 @@ find-never : {A : Type 0} (xs : List A) → find (λ _. false) xs ≡ None
 find-never [] = refl
 find-never (x ∷ xs) = find-never xs
 
--- where there is no way nothing blocks it
+-- if there is no path, nothing blocks it
 pub no_way : (m : Matrix) (cs : List Coord) → find (λ c. is_full m c && false) cs ≡ None
 no_way m cs = find-same (λ c. is_full m c && false) (λ _. false) cs (λ c. and_false (is_full m c)) ∙ find-never cs
 
--- one way
+-- one path
 pub one_way : (m : Matrix) (k : Corners) (s : Span) (cs : List Coord)
     → ((p : Point) → is_within (span k) p ≡ is_within s p) → find (λ c. is_full m c && is_within (span k) (point c)) cs
     ≡ find (λ c. is_full m c && (is_within s (point c) || false)) cs
@@ -81,7 +81,7 @@ drop_none [] ys = refl
 drop_none (Some b ∷ xs) ys = refl
 drop_none (None ∷ xs) ys = drop_none xs ys
 
--- a judgement that finds nothing may be left out
+-- a judgement that finds nothing may be omitted
 pub mute : (xs ys : List (Option Broken)) (o : Option Broken) → o ≡ None
     → first_value (xs ++ o ∷ ys) ≡ first_value (xs ++ ys)
 mute xs ys o e = ap (λ v. first_value (xs ++ v ∷ ys)) e ∙ drop_none xs ys
@@ -123,7 +123,7 @@ pub stays : (step : ℕ) (a : Act) (r : ℕ) (p : Point) → IsTrue (in_space r 
     → broken_by step OutOfSpace a.bot.bid (here a (not (in_space r p && true))) ≡ None
 stays step a r p h = ap (λ b. broken_by step OutOfSpace a.bot.bid (here a b)) (within (in_space r p) h)
 
--- two ways
+-- two paths
 pub two_ways : (m : Matrix) (k l : Corners) (s t : Span) (x y : Option Coord)
     → ((p : Point) → is_within (span k) p ≡ is_within s p) → ((p : Point) → is_within (span l) p ≡ is_within t p)
     → x ≡ find (λ c. is_full m c && is_within (span k) (point c)) (all_of m)
@@ -217,7 +217,7 @@ only_next step bid rule x y e = ap (λ o. first_value (broken_by step rule bid o
     one None = refl
     one (Some b) = refl
 
--- what is left of the rules of a fusion in space
+-- the remaining rules of a fusion in space
 past_space : (s : State) (step : ℕ) (bot : Bot) (a : Act) (inside : Bool) (p : Option Broken) → IsTrue inside
     → first_value (broken_by step OutOfSpace bot.bid (here a (not inside))
     ∷ broken_by step Blocked bot.bid (find (λ c. is_full s.matrix c && false) (all_of s.matrix)) ∷ None ∷ None ∷ p
@@ -230,7 +230,7 @@ past_space s step bot a inside p i =
     last None = refl
     last (Some b) = refl
 
--- what a bot without a partner breaks
+-- the rule that a bot without a partner breaks
 abbrev lacks_partner : ℕ → Act → List Act → Option Broken
 lacks_partner step a all = broken_by step Partner a.bot.bid (here a (not (list_any (are_partners a) all)))
 

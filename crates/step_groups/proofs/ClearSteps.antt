@@ -1,4 +1,4 @@
--- A way of one by one coordinate has its two ends and no other coordinate.
+-- A path of one by one coordinate has its two ends and no other coordinate.
 use Rattle.std.proofs.Common.{◌≡◌, ◌⊎◌, inl, inr, ℕ, zero, suc, ◌+◌, ◌*◌, ◌≤◌, refl, sym, ◌∙◌, ap, subst, arith, Bool, true, false, ◌&&◌, find, None, min, max, pos, negsuc}
 use Rattle.std.specs.Prelude.{ℤ, ◌+ℤ◌, IsTrue, unsigned_abs}
 use Rattle.std.proofs.lemmas.Bool.{cases_eq}
@@ -22,7 +22,7 @@ from_low l h v o t = grind (arith, nat_tests)
 to_high : (l h v : ℕ) → l ≤ h → IsTrue (is_between (pos l) (pos h) (pos v)) → v ≤ h
 to_high l h v o t = grind (arith, nat_tests)
 
--- the one end and what is added to it make the other, and a number lies between
+-- one end plus a number is the other, and a number is between
 record IsAlong (a b v n : ℕ) : Type 0 where
   pub still : n ≡ 0 → a ≡ b
   pub at_end : n ≤ 1 → (v ≡ a) ⊎ (v ≡ b)
@@ -51,7 +51,7 @@ along a b v by e t = ends (apart a b by e)
       at_end = λ l. elim (cases_eq v a) [ inl s ↦ inl s | inr s ↦ inr (omega (arith, f, l, low, high)) ];
     }
 
--- where both ends are one, so is what lies between
+-- if both ends are equal, so is the number between
 at_both : (a b v n : ℕ) → IsAlong a b v n → n ≡ 0 → (v ≡ a) × (v ≡ b)
 at_both a b v n h z = by (h.at_end (omega (arith, z)))
   where
@@ -59,7 +59,7 @@ at_both a b v n h z = by (h.at_end (omega (arith, z)))
     by (inl e) = (e, e ∙ h.still z)
     by (inr e) = (e ∙ sym (h.still z), e)
 
--- ---- the coordinates of the way
+-- ---- the coordinates of the path
 
 along_x : (a b c : Coord) (i j k : ℕ) → IsAlong a.x b.x c.x i → IsAlong a.y b.y c.y j → IsAlong a.z b.z c.z k → i ≤ 1
     → j ≡ 0 → k ≡ 0 → (c ≡ a) ⊎ (c ≡ b)
@@ -110,14 +110,14 @@ at_an_end a b c zero (suc j) k x y z one = along_y a b c zero (suc j) k x y z re
 at_an_end a b c zero zero k x y z one = along_z a b c zero zero k x y z refl refl (omega (arith, one))
 
 module _ (from to : Coord) (d : Diff) (sum : point to ≡ plus (point from) d) (one : mlen d ≡ 1) where
-  -- a coordinate of the way is one of its ends
+  -- a coordinate of the path is one of its ends
   one_of_ends : (c : Coord) → is_within (span (corners from to)) (point c) ≡ true → (c ≡ from) ⊎ (c ≡ to)
   one_of_ends c t =
       let three_parts = parts_of_three _ _ _ t in
       at_an_end from to c (unsigned_abs d.dx) (unsigned_abs d.dy) (unsigned_abs d.dz)
       (along from.x to.x c.x d.dx (ap (λ (q : Point). q.x) sum) three_parts.0) (along from.y to.y c.y d.dy (ap (λ (q : Point). q.y) sum) three_parts.1) (along from.z to.z c.z d.dz (ap (λ (q : Point). q.z) sum) three_parts.2) one
 
-  -- where both ends are void the way is clear
+  -- if both ends are void, the path is clear
   pub clear_step : (m : Matrix) → is_full m from ≡ false → is_full m to ≡ false
       → find (λ c. is_full m c && is_within (span (corners from to)) (point c)) (all_of m) ≡ None
   clear_step m e f = none_find (λ c. is_full m c && is_within (span (corners from to)) (point c)) (all_of m) (λ c i. by c (is_within (span (corners from to)) (point c)) refl)

@@ -1,4 +1,4 @@
--- What is left of the rules of a group command in space.
+-- The remaining rules of a group command in space.
 use Rattle.std.proofs.Common.{◌≡◌, ℕ, ◌+◌, refl, ap, ◌∙◌, sym, arith, Bool, true, false, ◌&&◌, ◌||◌, not, cond, List, [], ◌∷◌, Option, Some, None, find, pos, min, max}
 use Rattle.std.specs.Prelude.{IsFalse, IsTrue}
 use Rattle.std.specs.List.{list_any}
@@ -28,7 +28,7 @@ use Rattle.step_groups.specs.Judging.{act, are_misshapen, is_alone, corner_list,
 use Rattle.step_groups.proofs.BlockedWays.{only_next, skip, unblocked}
 use Rattle.step_groups.proofs.Named.{far_of, last_named, near_of, point_of}
 
--- whether the members of a bot's group misfit a region
+-- whether the members of a bot's group do not fit a region
 abbrev pub misshape : List Act → Act → Span → Bool
 misshape all a s = are_misshapen (members all a) (dimension s)
 
@@ -61,7 +61,7 @@ dimension_is a b = λ i. axis a.x b.x i + axis a.y b.y i + axis a.z b.z i
 -- ---- a group command whose region is in space
 
 module _ (s : State) (all : List Act) (step : ℕ) (bot : Bot) (near far : Coord) (region : Corners) (corners_are : region ≡ corners near far) where
-  -- the region between the two points that are named
+  -- the region between the two named points
   module _ (d f : Diff) (inside : IsTrue (in_space s.matrix.resolution (plus (point bot.pos) d) && (in_space s.matrix.resolution (plus (plus (point bot.pos) d) f) && true))) (near_is : near ≡ coordinate (plus (point bot.pos) d)) (far_is : far ≡ coordinate (plus (plus (point bot.pos) d) f)) where
     abbrev p : Point
     p = plus (point bot.pos) d
@@ -112,7 +112,7 @@ module _ (s : State) (all : List Act) (step : ℕ) (bot : Bot) (near far : Coord
       left k full together alone h false shape g e
       ∙ only_next step bot.bid InRegion None (broken_by step GroupShape bot.bid (cond shape (Some bot.pos) None)) refl)
 
--- a bot whose corner is another
+-- a bot with another corner
 pub skip_corner : (T : Point → Bool) (a : Act) (bs : List Act) → list_any T (corners_of (position a) a.command) ≡ false
     → list_any T (corner_list (a ∷ bs)) ≡ list_any T (corner_list bs)
 skip_corner T a bs h = list_any-append T (corners_of (position a) a.command) (corner_list bs) ∙ ap (λ t. t || list_any T (corner_list bs)) h

@@ -1,4 +1,4 @@
--- The groups of leaders, place by place.
+-- The groups of leaders, by index.
 use Rattle.std.proofs.Common.{◌≡◌, ℕ, zero, suc, ◌+◌, ◌<◌, ◌≤◌, refl, ap, sym, ◌∙◌, arith, List, [], ◌∷◌, ◌++◌, ◌-◌, take, drop, length, get_or, map, Option, Some, None, ◌&&◌, subst}
 use Rattle.vox_geom.specs.declared.coordinate.Coord.{Coord}
 use Rattle.vox_geom.specs.Point.{point}
@@ -18,7 +18,7 @@ use Rattle.vox_geom.proofs.Firsts.{first_is}
 use Rattle.step_groups.proofs.Shared.{least_same}
 use Rattle.step_groups.proofs.Lists.{to_end}
 
--- the leader at a place
+-- the leader at an index
 pub record Place (r : ℕ) (all leaders : List Act) (j : ℕ) (g : Group) : Type 0 where
   pub leader : Act
   pub here : drop j leaders ≡ leader ∷ drop (j + 1) leaders
@@ -57,7 +57,7 @@ pub rest_slice : (r : ℕ) (all leaders : List Act) (groups : List Group) (j : �
 rest_slice r all leaders groups j h =
     subst (λ (gs : List Group). AreGroups r all (drop j leaders) gs) (sym (to_end groups j)) (rest r all leaders groups j h)
 
--- the clash of two leaders, by the boxes of their groups
+-- the interference of two leaders, by the boxes of their groups
 pub clash_is : (m : Matrix) (all : List Act) (a b : Act) (g h : Group) (o : Option Coord) → IsGroup m.resolution all a g
     → IsGroup m.resolution all b h → LeastOf m.resolution (λ c. in_boxes g.boxes.items c && in_boxes h.boxes.items c) o
     → clash m all a b ≡ o
@@ -85,7 +85,7 @@ turn_miss m all step a more j g h ga p l =
     ap (judge_with m all step a) p.here
     ∙ ap (λ o. first_value (broken_by step Interference a.bot.bid o ∷ map (λ b. broken_by step Interference a.bot.bid (clash m all a b)) (drop (j + 1) more))) (clash_is m all a p.leader g h None ga p.group l)
 
--- what the slices of the boxes share
+-- the coordinates shared by the slices of boxes
 pub of_slices : (r : ℕ) (g h : Group) (xs ys : List Corners) (o : Option Coord) → xs ≡ g.boxes.items
     → ys ≡ h.boxes.items → AreBoxesIn r g.boxes.items
     → (AreBoxesIn r xs → LeastOf r (λ c. in_boxes xs c && in_boxes ys c) o)

@@ -1,5 +1,5 @@
--- What is known where no bot breaks a rule of single bots: commands stay in space, and groups have eight members at
--- most.
+-- If no bot breaks a rule of single bots, commands stay in space, and groups have at most eight
+-- members.
 use Rattle.std.proofs.Common.{◌≡◌, ℕ, zero, suc, ◌+◌, ◌<◌, ◌≤◌, ◌^◌, refl, ap, sym, ◌∙◌, subst, arith, inl, inr, ◌⊎◌, Bool, true, false, ◌||◌, ◌==◌, not, cond, List, [], ◌∷◌, filter, length, map, Option, Some, None}
 use Rattle.std.specs.Prelude.{IsTrue, AllPairs, ◌≢◌, ℤ}
 use Rattle.std.specs.List.{list_any}
@@ -46,7 +46,7 @@ unbroken s all step (x ∷ xs) e a rule (inl f) j =
     (nothing (λ (c : Coord). record { step = step; bid = x.bot.bid; rule = rule; at = c }) (fault s all x rule) (no_first (map judged rules_of_bots) (judged rule) judge_bot_is (in_map judged rule rules_of_bots j)))
 unbroken s all step (x ∷ xs) e a rule (inr i) j = unbroken s all step xs (none_or (judge_bot s all step x) (judge_each s all step xs) e).1 a rule i j
 
--- ---- how many members a group has
+-- ---- the number of members of a group
 
 one_at_most : (p : Act → Bool) (xs : List Act) → Rising (map (λ (a : Act). a.bot) xs)
     → ((x y : Act) → In x xs → In y xs → p x ≡ true → p y ≡ true → x.bot.bid ≡ y.bot.bid) → length (filter p xs) ≤ 1
@@ -77,7 +77,7 @@ both_counts {X} p q (x ∷ xs) = by (p x) (q x) (both_counts p q xs)
     by false true h = omega arith
     by false false h = h
 
--- where the partner of a bot in a fusion stands
+-- the position of the partner of a bot in a fusion
 abbrev mate_place : Point → Command → Point
 mate_place p (FusionP d) = plus p d
 mate_place p (FusionS d) = plus p d
@@ -167,7 +167,7 @@ module _ (bots : List Bot) (commands : List Command) (lengths : length commands 
   few_by s b (GVoid d f) e = fits _ (between (plus (position (act b (GVoid d f))) d) (plus (plus (position (act b (GVoid d f))) d) f)) _ (here_false (act b (GVoid d f)) _ e)
   few_by s b k e = pair_at_most (act b k) (λ x. refl)
 
-  -- what the rules of single bots say, where none is broken
+  -- the content of the rules of single bots, if none is broken
   pub judged : (s : State) (step : ℕ) → judge_each s (acts bots commands) step (acts bots commands) ≡ None
       → AreJudged s.matrix.resolution (acts bots commands)
   judged s step e =

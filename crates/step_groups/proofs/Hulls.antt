@@ -1,4 +1,4 @@
--- Boxes around boxes.
+-- Bounding boxes of boxes.
 use Rattle.std.proofs.Common.{◌≡◌, ℕ, zero, suc, ◌+◌, ◌-◌, ◌<◌, ◌≤◌, refl, ap, sym, ◌∙◌, subst, arith, Bool, true, false, ◌&&◌, ◌||◌, List, [], ◌∷◌, ◌++◌, take, drop, length, get_or, None, pos}
 use Rattle.std.specs.Prelude.{IsTrue}
 use Rattle.std.proofs.lemmas.Bool.Decides.{nat_tests}
@@ -16,12 +16,12 @@ use Rattle.step_groups.specs.declared.groups.Group.{Group}
 use Rattle.step_groups.proofs.Shared.{any-push, take_one}
 use Rattle.step_groups.proofs.Lists.{to_end}
 
--- a wider stretch of numbers
+-- a wider interval of numbers
 wider : (a b l h v : ℕ) → a ≤ b → l ≤ a → b ≤ h → IsTrue (is_between (pos a) (pos b) (pos v))
     → IsTrue (is_between (pos l) (pos h) (pos v))
 wider a b l h v o i j t = grind (arith, nat_tests)
 
--- a box between coordinates that a box lies between holds its coordinates
+-- a box between coordinates that bound another box contains it
 pub widened : (a k : Corners) (l h : Coord) → IsOrdered a → l.x ≤ a.low.x → l.y ≤ a.low.y → l.z ≤ a.low.z
     → a.high.x ≤ h.x → a.high.y ≤ h.y → a.high.z ≤ h.z
     → ((p : Point) → is_within (span k) p ≡ is_within (between (point l) (point h)) p) → (c : Coord)
@@ -51,7 +51,7 @@ more_around boxes j k all next lt e h f g c t =
     (sym (ap (λ xs. in_boxes xs c) (take_one boxes j k lt e) ∙ any-push (λ l. is_within (span l) (point c)) (take j boxes) k) ∙ t)
     (λ i. f c (h c i)) (g c)
 
--- ---- the boxes around the groups, place by place
+-- ---- the bounding boxes of the groups, by index
 
 pub hull_at : (hulls : List Corners) (groups : List Group) (j : ℕ) (k : Corners) (g : Group) → AreHulls hulls groups
     → j < length groups → k ≡ get_or hulls j k → g ≡ get_or groups j g → IsHull k g.boxes.items

@@ -74,7 +74,7 @@ itself_least n = omega arith
 itself_most : (n : ℕ) → max n n ≡ n
 itself_most n = omega arith
 
--- the box of a place is the place
+-- the box of a position is the position
 spot_is : (a : Act) → span (box_of_bot a) ≡ just (position a)
 spot_is a =
     let pos = a.bot.pos in

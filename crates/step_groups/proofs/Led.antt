@@ -1,4 +1,4 @@
--- The bids of the leaders up to a place, with one more bot.
+-- The bids of the leaders up to an index, with one more bot.
 use Rattle.std.proofs.Common.{◌≡◌, ℕ, ◌+◌, ◌<◌, ap, sym, ◌∙◌, subst, Bool, false, true, not, cond, List, [], ◌∷◌, ◌++◌, filter, length, map, take, drop, get_or}
 use Rattle.std.specs.Prelude.{AllPairs}
 use Rattle.std.specs.List.{list_any}
@@ -15,7 +15,7 @@ use Rattle.step_groups.specs.Judging.{act}
 use Rattle.step_groups.proofs.Joined.{with_leader}
 use Rattle.step_groups.proofs.Mates.{leads, split_at, take_more}
 
--- the bids of the leaders among the bots before a place
+-- the bids of the leaders among the bots before an index
 abbrev pub led : List Bot → List Command → ℕ → List ℕ
 led bots commands i = map bid_of (filter (is_leader (acts bots commands)) (acts (take i bots) (take i commands)))
 
@@ -42,7 +42,7 @@ module _ (bots : List Bot) (commands : List Command) (i : ℕ) (b : Bot) (k : Co
       ∙ (ap (map bid_of) (with_leader (acts bots commands) xs (act b k) (not t) (leads_here ∙ ap not e))
       ∙ map-append bid_of (filter (is_leader (acts bots commands)) xs) (cond (not t) (act b k ∷ []) []))
 
-  -- a bot with a mate before it leads no group
+  -- a bot with a member of its group before it leads no group
   pub follows : list_any (are_together (act b k)) (acts (take i bots) (take i commands)) ≡ true
       → led bots commands (i + 1) ≡ led bots commands i
   follows e = one_more true e ∙ append_none (led bots commands i)

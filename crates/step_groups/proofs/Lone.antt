@@ -1,4 +1,4 @@
--- Bots that act alone interfere with none where they are apart.
+-- Bots that act alone do not interfere if they are disjoint.
 use Rattle.std.proofs.Common.{◌≡◌, ℕ, ◌<◌, refl, ap, sym, ◌∙◌, subst, inl, inr, ◌⊎◌, Bool, true, false, ◌&&◌, ◌||◌, List, [], ◌∷◌, ◌++◌, length, map, Option, Some, None}
 use Rattle.std.specs.Prelude.{All, AllPairs, IfNone, IsTrue, is_some}
 use Rattle.std.specs.List.{list_all, list_any}
@@ -30,7 +30,7 @@ use Rattle.step_groups.proofs.Sums.{alone_leads, alone_members}
 
 -- ---- one bot more
 
--- what is volatile for one more
+-- the volatile coordinates of one more
 pub any_more : (c : Coord) (xs : List Act) (a : Act) → IsTrue (list_any (is_volatile_of (point c)) (xs ++ a ∷ []))
     → IsTrue (list_any (is_volatile_of (point c)) xs) ⊎ IsTrue (is_volatile_of (point c) a)
 any_more c xs a h =
@@ -50,7 +50,7 @@ apart_more (x ∷ xs) a h k = (
   apart_more xs a h.1 (λ c v w. k c v (or_by_second (is_volatile_of (point c) x) (list_any (is_volatile_of (point c)) xs) w)),
 )
 
--- ---- the box around some and one more
+-- ---- the bounding box of some and one more
 
 pub in_more_boxes : (others : List Corners) (k : Corners) (c : Coord) → IsTrue (in_boxes (others ++ k ∷ []) c)
     → IsTrue (in_boxes others c) ⊎ IsTrue (is_within (span k) (point c))
@@ -75,7 +75,7 @@ pub none_of : (o : Option Coord) (P : Type 0) → is_some o ≡ false → IfNone
 none_of None P e h = h
 none_of (Some c) P e h = cc
 
--- what is known of some bots and of the boxes around what is volatile for each
+-- facts of some bots and of the volatile bounding box of each
 pub record AreBoxed (all : Corners) (hulls : List Corners) (xs : List Act) : Type 0 where
   pub around : IsHull all hulls
   pub each : (c : Coord) → IsTrue (list_any (is_volatile_of (point c)) xs) → IsTrue (in_boxes hulls c)
@@ -107,7 +107,7 @@ both true false h = cc
 both false b h = cc
 
 module _ (m : Matrix) (all : List Act) (step : ℕ) where
-  -- what is volatile for the group of a bot that is alone
+  -- the volatile coordinates of the group of a bot that is alone
   by_itself : (a : Act) (c : Coord) → members all a ≡ a ∷ [] → is_volatile all a (point c) ≡ is_volatile_of (point c) a
   by_itself a c e = ap (λ ms. list_any (is_volatile_of (point c)) ms) e ∙ or_false (is_volatile_of (point c) a)
 
@@ -158,7 +158,7 @@ module _ (m : Matrix) (bots : List Bot) (commands : List Command) (lengths : len
   pub all_lone : AreLone (acts bots commands)
   all_lone = record { leads = lone_leaders; alone = lone_groups }
 
-  -- and none interferes with another where they are apart
+  -- and none interferes with another if they are disjoint
   pub lone_pairs : (step : ℕ) → AreAllApart (acts bots commands)
       → first_value (judge_pairs m (acts bots commands) step (leaders (acts bots commands))) ≡ None
   lone_pairs step h = ap (λ ls. first_value (judge_pairs m (acts bots commands) step ls)) lone_leaders ∙ pairs_none m (acts bots commands) step (acts bots commands) own_members h

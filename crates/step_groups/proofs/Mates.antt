@@ -19,9 +19,9 @@ use Rattle.step_groups.specs.Judging.{act, is_alone}
 use Rattle.step_groups.proofs.Alone.{together_by_bid}
 use Rattle.step_groups.proofs.Spots.{of_partner, of_sharer, spot_of_partner, spot_of_sharer}
 
--- ---- the bots before a place and after it
+-- ---- the bots before an index and after it
 
--- what reading gives past the end
+-- the result of a read past the end
 abbrev pub blank : Bot
 blank = record { bid = 0; pos = record { x = 0; y = 0; z = 0 }; seeds = 0 }
 
@@ -87,7 +87,7 @@ no_filter p [] e = refl
 no_filter p (x ∷ xs) e = none_first p x xs (p x) refl e (no_filter p xs)
 
 module _ (xs ys : List Act) (a : Act) (up : Rising (map (λ (b : Act). b.bot) (xs ++ a ∷ ys))) where
-  -- the bot leads its group where no bot before it is of the group
+  -- the bot leads its group if no bot before it is of the group
   pub leads : is_leader (xs ++ a ∷ ys) a ≡ not (list_any (are_together a) xs)
   leads = by (list_any (are_together a) xs) refl
     where
@@ -124,7 +124,7 @@ module _ (xs ys : List Act) (a : Act) (up : Rising (map (λ (b : Act). b.bot) (x
       ∙ ap (λ ms. ms ++ filter (are_together a) (a ∷ ys)) (no_filter (are_together a) xs e)
       ∙ rw (with_itself a) refl
 
-  -- what is volatile for a leader's group is so for the leader, or is the place of another member
+  -- a coordinate volatile for a leader's group is so for the leader, or is the position of another member
   pub volatile : list_any (are_together a) xs ≡ false → (p : Point) → is_volatile (xs ++ a ∷ ys) a p
       ≡ (is_volatile_of p a || list_any (λ b. is_within (just (position b)) p) (filter (are_together a) ys))
   volatile e p = ap (λ ms. list_any (is_volatile_of p) ms) (group e) ∙ same_truth (is_volatile_of p a || list_any (is_volatile_of p) zs) (is_volatile_of p a || list_any spots zs) onwards backwards

@@ -1,4 +1,4 @@
--- The coordinates that a command names, where they are in space, and the parts of a deed.
+-- The coordinates that a command names, if they are in space, and the parts of an action.
 use Rattle.std.proofs.Common.{◌≡◌, ℕ, Bool, true, false, ◌&&◌}
 use Rattle.std.specs.Prelude.{IsTrue}
 use Rattle.vox_geom.specs.declared.coordinate.Coord.{Coord}
@@ -16,7 +16,7 @@ point_of r p h = (space_is r p h).1
 pub within_of : (r : ℕ) (p : Point) → IsTrue (in_space r p) → IsInSpace r (coordinate p)
 within_of r p h = (space_is r p h).0
 
--- of one point that is named, and of the second of two
+-- of the only named point, and of the second of two
 pub only_named : (b : Bool) → IsTrue (b && true) → IsTrue b
 only_named b h = first_of_two b true h
 

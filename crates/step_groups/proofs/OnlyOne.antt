@@ -1,4 +1,4 @@
--- The step of the only bot, of which one rule is judged after another.
+-- The step of the only bot, whose rules are judged one after another.
 use Rattle.std.proofs.Common.{◌≡◌, ℕ, ◌+◌, ◌-◌, ◌*◌, ◌<◌, ◌≤◌, refl, ap, sym, ◌∙◌, arith, List, [], ◌∷◌, not, map, Bool, true, false, Option, rules}
 use Rattle.std.specs.Prelude.{ℤ, AllPairs, IsTrue}
 use Rattle.std.proofs.lemmas.List.Sums.{sum_by-cons}
@@ -28,7 +28,7 @@ use Rattle.step_groups.proofs.ClearSteps.{ordered_corners}
 use Rattle.step_groups.proofs.Touching.{counted, smove_reads_twice}
 use Rattle.step_groups.proofs.Whole.{by_itself, none_after}
 
--- of a command that the profile allows the later rules decide
+-- if the profile allows the command, the later rules decide
 pub allowed : (m : Matrix) (h : Harmonics) (profile : Profile) (b : Bot) (k : Command) (step : ℕ) (o : Option Broken)
     → is_allowed profile k ≡ true
     → ((s : State) (all : List Act) → o ≡ first_fault (record s { matrix = m }) all step (act b k) later_rules)
@@ -43,14 +43,14 @@ allowed m h profile b k step o may later energy =
 one_rises : (b : Bot) → AllPairs (λ x y. x.bid < y.bid) (b ∷ [])
 one_rises b = search rules
 
--- what its rules read is volatile
+-- its rules read volatile coordinates alone
 pub read_once : (m : Matrix) (b : Bot) (k : Command) (before after : ℕ) → after ≤ before + touches_of m (act b k)
     → after ≤ before + 2 * volatile_total m (acts (b ∷ []) (k ∷ []))
 read_once m b k before after le =
     let sum_is = sum_by-cons (touches_of m) (act b k) [] in
     touched m (b ∷ []) (k ∷ []) before after refl (one_rises b) (omega (arith, sum_is, le))
 
--- a way that is read once has no more coordinates than are volatile
+-- a path that is read once has no more coordinates than are volatile
 pub read_half : (m : Matrix) (b : Bot) (d : Diff) (to : Coord) (before after : ℕ)
     → IsTrue (in_space m.resolution (plus (point b.pos) d)) → point to ≡ plus (point b.pos) d
     → IsInSpace m.resolution b.pos → IsInSpace m.resolution to → after ≤ before + size (span (corners b.pos to))
@@ -63,7 +63,7 @@ read_half m b d to before after inside sum from within le =
     let most = read_once m b (SMove d) before (after + (after - before)) twice in
     omega (arith, most)
 
--- what holds of filling and of voiding
+-- facts of both filling and voiding
 pub by_kind : (P : Command → Type 0) (d : Diff) (full : Bool) → P (Fill d) → P (Void d) → P (edit_of full d)
 by_kind P d true fill void = fill
 by_kind P d false fill void = void

@@ -1,4 +1,4 @@
--- One box around all that is volatile for some bots, bot by bot.
+-- One bounding box of all that is volatile for some bots, bot by bot.
 use Rattle.std.proofs.Common.{◌≡◌, ℕ, ◌≤◌, refl, ap, sym, ◌∙◌, subst, arith, inl, inr, Bool, true, false, ◌&&◌, ◌||◌, List, [], ◌∷◌, ◌++◌, pos}
 use Rattle.std.specs.Prelude.{IsTrue}
 use Rattle.std.proofs.lemmas.Bool.Decides.{nat_tests}
@@ -32,7 +32,7 @@ inside_box k c o t =
     let ez = ends k.low.z k.high.z c.z o.z (second_of_two (between_x && between_y) between_z t) in
     record { from_x = ex.0; from_y = ey.0; from_z = ez.0; to_x = ex.1; to_y = ey.1; to_z = ez.1 }
 
--- ---- what is volatile for one bot lies within the box between where it stands and what it names
+-- ---- a bot's volatile coordinates are in the box between its position and the voxel that it names
 
 either : (a b : Bool) (c : Bool) → (IsTrue a → IsTrue c) → (IsTrue b → IsTrue c) → IsTrue (a || (b || false)) → IsTrue c
 either true b c f g h = f refl

@@ -1,4 +1,4 @@
--- The groups of the leaders up to a place, with one more bot.
+-- The groups of the leaders up to an index, with one more bot.
 use Rattle.std.proofs.Common.{◌≡◌, ℕ, ◌+◌, ◌-◌, ◌<◌, ◌≤◌, ap, sym, ◌∙◌, subst, arith, false, true, ◌||◌, List, [], ◌∷◌, ◌++◌, filter, length, map, take, drop, get_or}
 use Rattle.std.specs.Prelude.{IsTrue, All, AllPairs}
 use Rattle.std.specs.List.{list_any}
@@ -73,7 +73,7 @@ module _ (r : ℕ) (bots : List Bot) (commands : List Command) (i : ℕ) (b : Bo
         (filter (is_leader (acts bots commands)) (acts (take (i + 1) bots) (take (i + 1) commands))) next
     alone_here groups next g f alone leader mates boxes space h = add_alone r all xs ys a whole up more groups next g one_more f alone leader mates boxes space h
 
-    -- the bots behind a leader that have its number
+    -- the bots after a leader with its group index
     module _ (ns : List ℕ) (n : ℕ) (tell : with_number n (take (length bots - (i + 1)) (drop (i + 1) bots)) (take (length ns - (i + 1)) (drop (i + 1) ns)) ≡ map (λ (x : Act). x.bot) (filter (are_together (act b k)) (acts (drop (i + 1) bots) (drop (i + 1) commands)))) (leads : list_any (are_together (act b k)) (acts (take i bots) (take i commands)) ≡ false) where
       abbrev mates : List Act
       mates = filter (are_together a) ys

@@ -1,4 +1,4 @@
--- What boxes share.
+-- The intersection of boxes.
 use Rattle.std.proofs.Common.{◌≡◌, ℕ, zero, suc, ◌+◌, take, length, get_or, ◌<◌, ◌≤◌, refl, ap, sym, ◌∙◌, subst, arith, Bool, true, false, ◌&&◌, ◌||◌, List, [], ◌∷◌, ◌++◌, Option, Some, None, pos, IfSome, IfNone}
 use Rattle.std.specs.Prelude.{IsTrue}
 use Rattle.std.specs.List.{list_any}
@@ -16,7 +16,7 @@ use Rattle.vox_geom.proofs.Truths.{both_true, false_by, first_of_two, or_of_and,
 use Rattle.vox_planes.specs.Difference.{earlier}
 use Rattle.vox_planes.proofs.Differences.{earlier-least}
 
--- what lies between two numbers below r is below r
+-- a number between two numbers below r is below r
 between_below : (r a b v : ℕ) → a < r → b < r → IsTrue (is_between (pos a) (pos b) (pos v)) → v < r
 between_below r a b v h k t = grind (arith, nat_tests)
 
@@ -32,7 +32,7 @@ within_space r k c h t =
       z = between_below r k.low.z k.high.z c.z h.low.z h.high.z (second_of_two (between_x && between_y) between_z t);
     }
 
--- what two boxes share
+-- the intersection of two boxes
 pub meets_is : (r : ℕ) (k l : Corners) (o : Option Coord) → IsBoxIn r k → IfSome o (AreShared k l)
     → IfSome o (IsLeastOf (AreShared k l)) → IfNone o ((c : Coord) → AreShared k l c → ⊥)
     → LeastOf r (λ c. is_within (span k) (point c) && is_within (span l) (point c)) o

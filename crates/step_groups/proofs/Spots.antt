@@ -1,4 +1,4 @@
--- What is volatile for two bots of one group: the place of each, and for a group command the one region.
+-- The volatile coordinates of two bots of one group: the position of each, and for a group command the one region.
 use Rattle.std.proofs.Common.{◌≡◌, refl, sym, ◌∙◌, inl, inr, ◌⊎◌, Bool, true, false, ◌||◌}
 use Rattle.std.specs.List.{list_any}
 use Rattle.vox_geom.specs.Point.{Point, plus}
@@ -14,7 +14,7 @@ use Rattle.step_order.proofs.Faultless.{within_as}
 abbrev within_any : Point → Command → Point → Bool
 within_any q e x = list_any (λ s. is_within s x) (volatile_regions q e)
 
--- the halves of a fusion make their places volatile
+-- the halves of a fusion make their positions volatile
 primary : (p : Point) (c : Command) (q : Point) (e : Command) (x : Point) → fuse p c q e ≡ true
     → within_any p c x ≡ is_within (just p) x
 primary p (FusionP d) q e x h = or_false (is_within (just p) x)

@@ -45,7 +45,7 @@ module _ (m : Matrix) (all : List Act) (up : Rising (map (λ (x : Act). x.bot) a
       ap (λ (zs : List Act). is_leader zs a) found_here.whole
       ∙ (leads found_here.before found_here.after a up' ∙ ap not (none_before found_here.before found_here.after a up' h))
 
-  -- what is volatile for a bot that is alone and stays in space is so for its group
+  -- the volatile coordinates of a bot that is alone and stays in space are so for its group
   alone_count : (a : Act) → In a all → IsTrue (is_alone a.command) → IsTrue (stays_in_space m.resolution a)
       → volatile_count m all a ≡ count_by (λ c. is_volatile_of (point c) a) (all_of m)
   alone_count a i h s =

@@ -1,4 +1,4 @@
--- The numbers of the groups tell who leads, and who is of whose group.
+-- The group index of each bot determines the leader and the members of its group.
 use Rattle.std.specs.Prelude.{AllPairs, IsTrue}
 use Rattle.std.proofs.Common.{◌≡◌, ◌≢◌, ℕ, zero, suc, ◌+◌, ◌-◌, ◌<◌, refl, ap, sym, ◌∙◌, subst, arith, inl, inr, ◌⊎◌, Bool, true, false, ◌||◌, ◌==◌, not, cond, List, [], ◌∷◌, ◌++◌, filter, length, map, take, drop, get_or}
 use Rattle.std.specs.List.{list_any, position_or_len}
@@ -38,7 +38,7 @@ same_place : {X : Type 0} (p q : X → Bool) (xs : List X) → ((x : X) → In x
 same_place p q [] h = refl
 same_place p q (x ∷ xs) h = λ n. cond (not (h x (inl refl) n)) (1 + same_place p q xs (λ y i. h y (inr i)) n) 0
 
--- what passes at a place is not passed over
+-- an element that passes at an index is not skipped
 pub place_before : {X : Type 0} (p : X → Bool) (xs ys : List X) (a : X) → p a ≡ true
     → position_or_len p (xs ++ a ∷ ys) ≡ position_or_len p xs
 place_before p [] ys a e = rw e refl
@@ -60,7 +60,7 @@ some_found p (x ∷ xs) e = some_step (p x) (list_any p xs) (position_or_len p x
     some_step true u n m f h = omega arith
     some_step false u n m f h = let l = h f in omega arith
 
--- ---- numbers place by place
+-- ---- group indices, one by one
 
 number_at : (f : Act → ℕ) (bots : List Bot) (commands : List Command) (i n : ℕ) (b : Bot) (k : Command)
     → i < length bots → length commands ≡ length bots → b ≡ get_or bots i b → k ≡ get_or commands i k
@@ -94,7 +94,7 @@ alone_before bots commands i b k lt lengths bi ki rising h =
     let up : Rising (map (λ (x : Act). x.bot) (acts bots commands)) = subst (λ (bs : List Bot). Rising bs) (sym (all_bots bots commands lengths)) (rising_is bots rising) in
     none_before (acts (take i bots) (take i commands)) (acts (drop (i + 1) bots) (drop (i + 1) commands)) (act b k) (subst (λ (xs : List Act). Rising (map (λ (x : Act). x.bot) xs)) (split_at bots commands i b k lt lengths bi ki) up) h
 
--- the number of the only bot
+-- the group index of the only bot
 pub only_number : (bots : List Bot) (commands : List Command) → length bots ≡ 1 → length commands ≡ length bots
     → AreNumbers (acts bots commands) (0 ∷ [])
 only_number [] commands e f = absurd (omega arith)
@@ -102,7 +102,7 @@ only_number (b ∷ []) [] e f = absurd (omega arith)
 only_number (b ∷ []) (k ∷ commands) e f = λ i. cond (not (sym (with_itself (act b k)) i)) (1 + 0) 0 ∷ []
 only_number (b ∷ c ∷ bots) commands e f = absurd (omega arith)
 
--- the number of the bot at a place is told by the bots before it
+-- the bots before an index determine the group index of the bot there
 pub first_before : (bots : List Bot) (commands : List Command) (i : ℕ) (b : Bot) (k : Command) → i < length bots
     → length commands ≡ length bots → b ≡ get_or bots i b → k ≡ get_or commands i k
     → position_or_len (are_together (act b k)) (acts (take i bots) (take i commands))
@@ -110,7 +110,7 @@ pub first_before : (bots : List Bot) (commands : List Command) (i : ℕ) (b : Bo
 first_before bots commands i b k lt lengths bi ki =
     sym (ap (position_or_len (are_together (act b k))) (split_at bots commands i b k lt lengths bi ki) ∙ place_before (are_together (act b k)) (acts (take i bots) (take i commands)) (acts (drop (i + 1) bots) (drop (i + 1) commands)) (act b k) (with_itself (act b k)))
 
--- ---- those that have the number
+-- ---- the bots with the group index
 
 with_map : (f : Act → ℕ) (p : Act → Bool) (n : ℕ) (xs : List Act) → ((x : Act) → In x xs → (f x == n) ≡ p x)
     → with_number n xs (map f xs) ≡ filter p xs
@@ -133,7 +133,7 @@ pub of_bots : {Y : Type 0} (f : Bot → Y) (xs : List Act)
 of_bots f [] = refl
 of_bots f (x ∷ xs) = ap (λ more. f x.bot ∷ more) (of_bots f xs)
 
--- as many have the number as it stands among the numbers
+-- the bots with an index are as many as its occurrences
 as_long : {A : Type 0} (t : Bool) (x : A) (m : ℕ) (xs : List A) (ns : List ℕ) → length xs ≡ length ns
     → length (cond t (x ∷ xs) xs) ≡ length (cond t (m ∷ ns) ns)
 as_long true x m xs ns e = ap suc e
@@ -150,12 +150,12 @@ pub acts_length : (bots : List Bot) (commands : List Command) → length command
     → length (acts bots commands) ≡ length bots
 acts_length bots commands e = sym (length-map (acts bots commands) (λ (a : Act). a.bot)) ∙ ap length (all_bots bots commands e)
 
--- there are as many numbers as bots
+-- there are as many group indices as bots
 pub as_many_numbers : (bots : List Bot) (commands : List Command) (numbers : List ℕ) → length commands ≡ length bots
     → AreNumbers (acts bots commands) numbers → length numbers ≡ length bots
 as_many_numbers bots commands numbers e are = ap length are ∙ (length-map (acts bots commands) (group_number (acts bots commands)) ∙ acts_length bots commands e)
 
--- what has another number is not among them
+-- a bot with another index is not among them
 pub bot_without : (n : ℕ) (bots : List Bot) (numbers : List ℕ) (i : ℕ) → i < length bots → length numbers ≡ length bots
     → (get_or numbers i 0 == n) ≡ false
     → with_number n (drop i bots) (drop i numbers) ≡ with_number n (drop (i + 1) bots) (drop (i + 1) numbers)
@@ -166,7 +166,7 @@ bot_without n (x ∷ bots) (m ∷ numbers) (suc i) l e h =
     let next : suc (i + 1) ≡ suc i + 1 = omega arith in
     bot_without n bots numbers i (omega arith) (omega arith) h ∙ (λ j. with_number n (drop (next j) (x ∷ bots)) (drop (next j) (m ∷ numbers)))
 
--- those from a place on that have the number: the bot at the place, if it has it, and those behind it
+-- those from an index on with the group index: the bot there, if it has it, and those after it
 from_place : (n : ℕ) (bots : List Bot) (commands : List Command) (numbers : List ℕ) (i : ℕ) (b : Bot) (k : Command)
     → i < length bots → length commands ≡ length bots → length numbers ≡ length bots → b ≡ get_or bots i b
     → k ≡ get_or commands i k → with_number n (acts (drop i bots) (drop i commands)) (drop i numbers)
@@ -195,7 +195,7 @@ module _ (n : ℕ) (bots : List Bot) (commands : List Command) (numbers : List �
       ≡ act b k ∷ with_number n (acts (drop (i + 1) bots) (drop (i + 1) commands)) (drop (i + 1) numbers)
   with_it e = from_place n bots commands numbers i b k lt lengths as_long_as bi ki ∙ ap (λ t. cond t (act b k ∷ behind) behind) e
 
--- ---- numbers of a crew
+-- ---- the group indices of a crew
 
 one_bid : (all : List Act) (a b : Act) → Rising (map (λ (x : Act). x.bot) all) → In a all → In b all
     → a.bot.bid ≡ b.bot.bid → a ≡ b
@@ -283,7 +283,7 @@ module _ (bots : List Bot) (commands : List Command) (lengths : length commands 
         let same = as_many_numbers bots commands numbers lengths are in
         number_at (group_number all) bots commands i n b k lt lengths bi ki (get_or_default numbers i 0 n (omega (arith, same, lt)) ∙ ap (λ ns. get_or ns i n) are)
 
-    -- the number of the bot at a place tells the members of its group
+    -- the group index of the bot determines the members of its group
     pub tells_members : TellsMembers (acts bots commands) numbers (get_or numbers i 0) (act (get_or bots i blank) k)
     tells_members = (λ j. with_number (number_is j) all (are j)) ∙ tells all apart a there
 
@@ -316,7 +316,7 @@ module _ (bots : List Bot) (commands : List Command) (lengths : length commands 
         ≡ position_or_len (are_together (act (get_or bots i blank) k)) (acts (take i bots) (take i commands))
     number_before = number_is ∙ sym (first_before bots commands i b k lt lengths bi ki)
 
-    -- it leads its group where the number is its place
+    -- it leads its group if its group index is its own index
     pub leads_by_number : get_or numbers i 0 ≡ i
         → list_any (are_together (act (get_or bots i blank) k)) (acts (take i bots) (take i commands)) ≡ false
     leads_by_number e = by (list_any (are_together a) xs) refl

@@ -1,4 +1,4 @@
--- How many touches the rules of one bot make.
+-- The touches that the rules of one bot make.
 use Rattle.std.proofs.Common.{◌≡◌, ℕ, zero, suc, ◌+◌, ◌*◌, ◌≤◌, ◌<◌, length, drop, get_or, refl, ap, sym, ◌∙◌, subst, arith, Bool, true, false, ◌&&◌, ◌||◌, cond, List, [], ◌∷◌, count_by, max}
 use Rattle.std.specs.Prelude.{IsTrue, sum_by}
 use Rattle.nano_spec.specs.declared.commands.Command.{Command}
@@ -26,7 +26,7 @@ step true false h = absurd (no (h refl))
 step false true h = omega arith
 step false false h = omega arith
 
--- what passes one test passes the other
+-- an element that passes one test passes the other
 pub count_more : (f g : Coord → Bool) (xs : List Coord) → ((c : Coord) → IsTrue (f c) → IsTrue (g c))
     → count_by f xs ≤ count_by g xs
 count_more f g [] h = omega arith
@@ -51,7 +51,7 @@ twice : (m : Matrix) (a : Act) → IsTrue (is_alone a.command) → IsTrue (stays
     → touches_of m a ≡ 2 * count_by (λ c. is_volatile_of (point c) a) (all_of m)
 twice m a l h = λ i. cond {A = ℕ} (l i && h i) (2 * count_by (λ c. is_volatile_of (point c) a) (all_of m)) 0
 
--- a region has as many coordinates as its size says
+-- a region has as many coordinates as its size
 pub counted : (m : Matrix) (k : Corners) (a b : Coord) (old new : ℕ) → k ≡ corners a b → IsOrdered k
     → IsInSpace m.resolution a → IsInSpace m.resolution b → new ≤ old + size (span k)
     → new ≤ old + count_by (in_box k) (all_of m)
@@ -81,7 +81,7 @@ two_reads m a k j old mid new alone h i n le lf =
 abbrev Covers : Corners → Span → Type 0
 Covers k s = (p : Point) → is_within (span k) p ≡ is_within s p
 
--- a box that covers the way of a move has volatile coordinates alone
+-- a box that covers the path of a move has volatile coordinates alone
 on_way : (bot : Bot) (d : Diff) (k : Corners) (to : Coord) → point to ≡ plus (point bot.pos) d
     → Covers k (between (point bot.pos) (point to)) → (c : Coord) → IsTrue (in_box k c)
     → IsTrue (is_volatile_of (point c) (act bot (SMove d)))
@@ -126,7 +126,7 @@ lmove_reads m bot d e k j mid to old half new i n f g h l le lf =
     (λ c t. or_by_second (is_within (between (point bot.pos) reached) (point c)) (is_within (between reached place_reached) (point c) || false) (or_by_first (is_within (between reached place_reached) (point c)) false (sym (l (point c) ∙ (λ v. is_within (between (f v) (point_is v)) (point c))) ∙ t)))
     le lf
 
--- the touches of the bots from a place on
+-- the touches of the bots from an index on
 pub sum_at : (T : Act → ℕ) (bots : List Bot) (commands : List Command) (i : ℕ) (b : Bot) (k : Command) → i < length bots
     → length commands ≡ length bots → b ≡ get_or bots i b → k ≡ get_or commands i k
     → sum_by T (acts (drop i bots) (drop i commands))

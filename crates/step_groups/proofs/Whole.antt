@@ -1,4 +1,4 @@
--- The first broken rule of a step, in the parts in which it is looked for.
+-- The first broken rule of a step, in the parts of the search for it.
 use Rattle.std.proofs.Common.{◌≡◌, ℕ, refl, ap, sym, ◌∙◌, List, [], ◌∷◌, ◌++◌, map, length, Option, Some, None, option_map, arith, Bool, true, false, cond, filter}
 use Rattle.std.proofs.lemmas.Option.{slice_get_past}
 use Rattle.std.specs.Prelude.{ℤ, flat_map, slice_get}
@@ -45,7 +45,7 @@ whole s commands step e =
     ∙ (first-append (judge_bots s all step) (judge_pairs s.matrix all step (leaders all))
     ∙ ap (λ o. option_or o (first_value (judge_pairs s.matrix all step (leaders all)))) (each_is s all step all))
 
--- the rules do not ask for the energy
+-- the rules do not read the energy
 same_start : (m : Matrix) (h : Harmonics) (profile : Profile) (bots : List Bot) (energy : ℤ) (all : List Act) (step : ℕ)
     (xs : List Act) → judge_each (record (start_of m h profile bots) { energy = energy }) all step xs
     ≡ judge_each (start_of m h profile bots) all step xs
@@ -63,7 +63,7 @@ by_bot step o b lengths e f energy =
     whole (record (start_of_step step) { energy = energy }) step.commands.now step.number lengths
     ∙ ap (λ v. option_or v (first_value (judge_pairs step.planes.now all step.number (leaders all)))) each
 
--- where no bot breaks one it is the first pair that interferes
+-- if no bot breaks one, it is the first pair that interferes
 pub by_pair : (step : Step) (o p q : Option Broken) → length step.commands.now ≡ length step.bots.now
     → o ≡ judge_each (start_of_step step) (acts_of_step step) step.number (acts_of_step step) → o ≡ None
     → p ≡ first_value (judge_pairs step.planes.now (acts_of_step step) step.number (leaders (acts_of_step step)))
@@ -98,7 +98,7 @@ single s commands step e f =
     whole s commands step f
     ∙ (ap (option_or (judge_each s all step all)) (alone s.matrix all step s.bots commands e) ∙ none_after (judge_each s all step all))
 
--- what a single bot breaks is what it breaks by itself
+-- the first rule that a single bot breaks by itself is the first of the step
 pub by_itself : (m : Matrix) (h : Harmonics) (profile : Profile) (bots : List Bot) (commands : List Command) (step : ℕ)
     (o : Option Broken) → length bots ≡ 1 → length commands ≡ length bots
     → o ≡ judge_each (start_of m h profile bots) (acts bots commands) step (acts bots commands) → (energy : ℤ)

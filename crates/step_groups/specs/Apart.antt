@@ -1,4 +1,4 @@
--- Bots that act alone and are apart (docs/FORMATS.md, "Rules").
+-- Bots that act alone and do not interfere (docs/FORMATS.md, "Rules").
 use Rattle.std.specs.Prelude.{List, [], ◌∷◌, IsTrue}
 use Rattle.std.specs.List.{list_any}
 use Rattle.vox_geom.specs.declared.coordinate.Coord.{Coord}
@@ -6,7 +6,7 @@ use Rattle.vox_geom.specs.Point.{point}
 use Rattle.nano_spec.specs.Act.{Act}
 use Rattle.nano_spec.specs.Volatile.{is_volatile_of}
 
--- no coordinate is volatile for the bot and for one of the others
+-- no coordinate is volatile for both the bot and one of the others
 abbrev pub IsApartFrom : Act → List Act → Type 0
 IsApartFrom a others =
     (c : Coord) → IsTrue (is_volatile_of (point c) a) → IsTrue (list_any (is_volatile_of (point c)) others) → ⊥

@@ -1,4 +1,4 @@
--- What a bot does in a step, in coordinates (docs/FORMATS.md, "Commands").
+-- A bot's action in a step, in coordinates (docs/FORMATS.md, "Commands").
 use Rattle.std.specs.Prelude.{◌≡◌, ℕ, true, false, List, [], ◌∷◌, IsTrue}
 use Rattle.vox_geom.specs.declared.coordinate.Coord.{Coord}
 use Rattle.vox_geom.specs.Point.{Point, point, plus}
@@ -12,7 +12,7 @@ use Rattle.step_groups.specs.declared.deed.Deed.{Deed}
 use Rattle.step_groups.specs.declared.deed.Deed.TheVariants.{Waits, Flips, Halts, Moves, Bends, Splits, Fuses, Edits}
 use Rattle.step_groups.specs.Judging.{act}
 
--- what a bot at p does by a command whose coordinates are in space
+-- the action of a bot at p by a command whose coordinates are in space
 abbrev pub deed_by : Point → Command → Deed
 deed_by p Halt = Halts
 deed_by p Wait = Waits
@@ -27,12 +27,12 @@ deed_by p (Void d) = Edits (coordinate (plus p d)) (coordinate (plus p d)) false
 deed_by p (GFill d f) = Edits (coordinate (plus p d)) (coordinate (plus (plus p d) f)) true true
 deed_by p (GVoid d f) = Edits (coordinate (plus p d)) (coordinate (plus (plus p d) f)) false true
 
--- the bot does this by the command, whose coordinates are in space
+-- the command has this action, and its coordinates are in space
 pub record IsDeed (r : ℕ) (bot : Bot) (command : Command) (deed : Deed) : Type 0 where
   pub stays : IsTrue (stays_in_space r (act bot command))
   pub is : deed ≡ deed_by (point bot.pos) command
 
--- the boxes that a bot makes volatile by what it does, from where it stands
+-- the boxes that a bot makes volatile by its action, from its position
 abbrev pub boxes_of : Coord → Deed → List Corners
 boxes_of from (Moves to) = corners from to ∷ []
 boxes_of from (Bends middle to) = corners from middle ∷ corners middle to ∷ []

@@ -1,4 +1,4 @@
--- What the groups of a step are (docs/FORMATS.md, "Groups").
+-- The groups of a step (docs/FORMATS.md, "Groups").
 use Rattle.std.specs.Prelude.{◌≡◌, ℕ, ◌≤◌, ◌||◌, List, [], ◌∷◌, length, map, Option, All, IsTrue}
 use Rattle.vox_geom.specs.declared.coordinate.Coord.{Coord}
 use Rattle.vox_geom.specs.Point.{point}
@@ -22,7 +22,7 @@ bid_of a = a.bot.bid
 abbrev pub box_of_bot : Act → Corners
 box_of_bot a = corners a.bot.pos a.bot.pos
 
--- the group that this bot leads: its members are those of the definition, and its boxes are in space and cover what is
+-- the group that this bot leads: its members are those of the definition, and its boxes are in space and cover all that is
 -- volatile for it
 pub record IsGroup (r : ℕ) (all : List Act) (a : Act) (g : Group) : Type 0 where
   pub leader : g.leader ≡ a.bot.bid
@@ -37,7 +37,7 @@ AreGroups r all [] (g ∷ groups) = ⊥
 AreGroups r all (a ∷ leaders) [] = ⊥
 AreGroups r all (a ∷ leaders) (g ∷ groups) = IsGroup r all a g × AreGroups r all leaders groups
 
--- each box is around the boxes of one of the groups, in their order
+-- each box bounds the boxes of one of the groups, in their order
 abbrev pub AreHulls : List Corners → List Group → Type 0
 AreHulls [] [] = Unit {0}
 AreHulls [] (g ∷ groups) = ⊥
@@ -48,7 +48,7 @@ AreHulls (k ∷ hulls) (g ∷ groups) = IsHull k g.boxes.items × AreHulls hulls
 abbrev pub judge_with : Matrix → List Act → ℕ → Act → List Act → Option Broken
 judge_with m all step a more = first_value (map (λ b. broken_by step Interference a.bot.bid (clash m all a b)) more)
 
--- what the rules of single bots say of all bots: each command stays in space, and no group has more than 8 members
+-- a consequence of the rules of single bots: each command stays in space, and no group has more than 8 members
 pub record AreJudged (r : ℕ) (all : List Act) : Type 0 where
   pub stays : All (λ a. IsTrue (stays_in_space r a)) all
   pub few : All (λ a. length (members all a) ≤ 8) all

@@ -27,16 +27,16 @@ act bot command = record { bot = bot; command = command }
 abbrev pub first_fault : State → List Act → ℕ → Act → List Rule → Option Broken
 first_fault s all step a rules = first_value (judge_by rules s all step a)
 
--- the rule that is broken, where one is
+-- the rule that is broken, if one is
 abbrev pub rule_broken : {T : Type 0} → Result T Broken → Option Broken
 rule_broken judged = result_err judged
 
--- the command that fills the voxel at a difference, or else the one that voids it
+-- the command that fills the voxel at a difference (true), or voids it (false)
 abbrev pub edit_of : Bool → Diff → Command
 edit_of true d = Fill d
 edit_of false d = Void d
 
--- the command that fills the region between two corners together with other bots, or else the one that voids it
+-- the command that fills the region between two corners with other bots (true), or voids it (false)
 abbrev pub group_edit_of : Bool → Diff → Diff → Command
 group_edit_of true d f = GFill d f
 group_edit_of false d f = GVoid d f
@@ -49,13 +49,13 @@ judge_bot s all step a = first_fault s all step a rules_of_bots
 abbrev pub later_rules : List Rule
 later_rules = HaltAlone ∷ HaltOrigin ∷ HaltLow ∷ OutOfSpace ∷ Blocked ∷ Seeds ∷ InRegion ∷ Partner ∷ GroupShape ∷ []
 
--- the first rule after the one on the profile that a bot breaks, whatever the state is beside the matrix and whoever
--- else acts
+-- the first rule after the one on the profile that a bot breaks, whatever the rest of the state beyond the matrix and the other
+-- acts
 abbrev pub IsLaterFault : Matrix → ℕ → Act → Option Broken → Type 0
 IsLaterFault m step a fault =
     (s : State) (all : List Act) → fault ≡ first_fault (record s { matrix = m }) all step a later_rules
 
--- a state at the start of a step, as far as the rules read it: they do not ask for the energy
+-- the state at the start of a step, as far as the rules read it: without the energy
 abbrev pub start_of : Matrix → Harmonics → Profile → List Bot → State
 start_of m harmonics profile bots =
     record { matrix = m; harmonics = harmonics; bots = bots; energy = pos 0; profile = profile }
@@ -69,7 +69,7 @@ judge_each s all step (a ∷ more) = option_or (judge_bot s all step a) (judge_e
 abbrev pub corner_list : List Act → List Point
 corner_list xs = flat_map (λ b. corners_of (position b) b.command) xs
 
--- whether the members of a group are not as many as a region of the dimension has corners, or two are at one
+-- whether a group has a wrong number of members for its region's dimension, or two members at one corner
 abbrev pub are_misshapen : List Act → ℕ → Bool
 are_misshapen members dimension = not (length members == 2 ^ dimension) || repeats (corner_list members)
 
@@ -86,7 +86,7 @@ is_alone (GFill d f) = false
 is_alone (GVoid d f) = false
 is_alone _ = true
 
--- whether the command is one of those that few of many bots have: no wait, no move, no fill and no void of one voxel
+-- whether the command is rare among many bots: no wait, no move, no fill and no void of one voxel
 abbrev pub is_rare : Command → Bool
 is_rare Wait = false
 is_rare (SMove d) = false
@@ -95,7 +95,7 @@ is_rare (Fill d) = false
 is_rare (Void d) = false
 is_rare _ = true
 
--- how many touches the judgement of a bot may take: only commands that need no other bot read voxels
+-- the number of touches that the judgement of a bot may take: only commands that need no other bot read voxels
 abbrev pub touches_of : Matrix → Act → ℕ
 touches_of m a =
     cond (is_alone a.command && stays_in_space m.resolution a)

@@ -1,4 +1,4 @@
--- One box around all that is volatile for some bots.
+-- One bounding box of all that is volatile for some bots.
 use Rattle.std.specs.Prelude.{◌≡◌, ◌≤◌, true, List, IsTrue}
 use Rattle.std.specs.List.{list_any}
 use Rattle.vox_geom.specs.declared.coordinate.Coord.{Coord}
@@ -18,7 +18,7 @@ pub record LiesBetween (low high c : Coord) : Type 0 where
   pub to_y : c.y ≤ high.y
   pub to_z : c.z ≤ high.z
 
--- a box takes in what P holds of; it says that all are apart only where it said so before, and P held of nothing in it
+-- a box extended by P; it claims that all are disjoint only if it did so before, and P held of nothing in it
 pub record TakesIn (P : Coord → Type 0) (old new : Outline) : Type 0 where
   pub keeps : (c : Coord) → LiesBetween old.low old.high c → LiesBetween new.low new.high c
   pub takes : (c : Coord) → P c → LiesBetween new.low new.high c
@@ -33,7 +33,7 @@ IsVolatileFor a c = IsTrue (is_volatile_of (point c) a)
 abbrev pub IsHullFor : Act → Corners → Type 0
 IsHullFor a k = (c : Coord) → IsVolatileFor a c → IsTrue (is_within (span k) (point c))
 
--- what the box says of these bots
+-- the meaning of the box for these bots
 pub record IsOutlineOf (outline : Outline) (xs : List Act) : Type 0 where
   pub around : (c : Coord) → IsTrue (list_any (is_volatile_of (point c)) xs) → LiesBetween outline.low outline.high c
   pub apart : outline.apart ≡ true → AreAllApart xs

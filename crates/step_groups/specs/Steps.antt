@@ -1,4 +1,4 @@
--- The step that is judged (docs/FORMATS.md, "Rules").
+-- The step to judge (docs/FORMATS.md, "Rules").
 use Rattle.std.specs.Prelude.{◌≡◌, ℕ, ℤ, List, length, Option, All}
 use Rattle.vox_geom.specs.Space.{IsInSpace}
 use Rattle.nano_spec.specs.declared.commands.Command.{Command}
@@ -29,7 +29,7 @@ pub record CanJudge (step : Step) (bot : Bot) : Type 0 where
 abbrev pub acts_of_step : Step → List Act
 acts_of_step step = acts step.bots.now step.commands.now
 
--- the state at the step's start, as far as the rules ask for it: not the energy
+-- the state at the step's start, as far as the rules need it: without the energy
 abbrev pub start_of_step : Step → State
 start_of_step step = start_of step.planes.now step.harmonics step.profile step.bots.now
 
@@ -42,7 +42,7 @@ abbrev pub first_broken : Matrix → Harmonics → Profile → List Bot → List
 first_broken matrix harmonics profile bots commands step energy =
     broken (record (start_of matrix harmonics profile bots) { energy = energy }) commands step
 
--- the first rule that the step breaks, where the energy at its start is this one
+-- the first rule that the step breaks, at this energy at its start
 abbrev pub broken_in : Step → ℤ → Option Broken
 broken_in step energy =
     first_broken step.planes.now step.harmonics step.profile step.bots.now step.commands.now step.number energy

@@ -1,4 +1,4 @@
-//! Whether bots that act alone are apart, by boxes around what is volatile for each of them.
+//! Interference test by bounding boxes, for bots that act alone.
 ghost use Rattle.std.specs.Prelude.{◌≡◌, ◌≤◌, true, ◌++◌, [], ◌∷◌, length, All, IsTrue};
 ghost use Rattle.std.specs.List.{list_all};
 ghost use Rattle.vox_geom.specs.declared.coordinate.Coord.{Coord as Coordinate};
@@ -19,7 +19,7 @@ use nano_spec::{Bot, Command};
 use vox_geom::Region;
 use vox_planes::Planes;
 
-/// Whether each of the commands needs no other bot, so that each bot is a group of its own.
+/// Returns whether no command needs another bot, so that each bot is a group of its own.
 pub fn all_act_alone(commands: &[Command]) -> bool
     ensures { result ≡ list_all is_alone commands.now }
 {
@@ -31,7 +31,7 @@ pub fn all_act_alone(commands: &[Command]) -> bool
     true
 }
 
-/// Whether the box has no coordinate that one of the others has, which are all within the one around them.
+/// Returns whether `hull` is disjoint from every box in `others`; `all` contains them all.
 fn is_apart(hull: &Region, all: &Region, others: &[Region]) -> bool
     requires { IsHull all.now others.now }
     ensures { result ≡ true → (c : Coordinate) → IsTrue (is_within (span hull.now) (point c))
@@ -48,7 +48,7 @@ fn is_apart(hull: &Region, all: &Region, others: &[Region]) -> bool
     true
 }
 
-/// The box around the others and one more.
+/// Returns the bounding box of `all` and one more box.
 fn with_box(all: &Region, others: &[Region], hull: &Region) -> Region
     requires { IsHull all.now others.now }
     ensures { IsHull result (others.now ++ hull.now ∷ []) }
@@ -59,7 +59,7 @@ fn with_box(all: &Region, others: &[Region], hull: &Region) -> Region
     around(all, hull)
 }
 
-/// Whether boxes around what is volatile for each of the bots are apart. Bots in a line are told apart by one box each.
+/// Returns whether the volatile bounding boxes of the bots are disjoint. For bots in a line one box each is enough.
 pub(crate) fn are_apart(planes: &Planes, bots: &[Bot], commands: &[Command]) -> bool
     requires few { length bots.now ≤ 40 }
     requires lengths { length commands.now ≡ length bots.now }

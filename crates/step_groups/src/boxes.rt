@@ -1,4 +1,4 @@
-//! What boxes share, and the box around them.
+//! Intersection and bounding box of boxes.
 ghost use Rattle.std.specs.Prelude.{◌≡◌, ◌+◌, ◌≤◌, ◌<◌, ◌&&◌, ℕ, length, All, IsTrue};
 ghost use Rattle.vox_geom.specs.declared.coordinate.Coord.{Coord as Coordinate};
 ghost use Rattle.vox_geom.specs.Point.{point};
@@ -10,7 +10,7 @@ ghost use Rattle.vox_geom.specs.Least.{LeastOf};
 use vox_geom::{Coord, Region};
 use vox_planes::earlier;
 
-/// The least coordinate of the box that one of the boxes has.
+/// Returns the least coordinate that a box shares with one of the boxes.
 fn clash_box(s: &Region, boxes: &[Region]) -> Option<Coord>
     ensures { (r : ℕ) → IsBoxIn r s.now
         → LeastOf r (λ c. is_within (span s.now) (point c) && in_boxes boxes.now c) result }
@@ -23,7 +23,7 @@ fn clash_box(s: &Region, boxes: &[Region]) -> Option<Coord>
     least
 }
 
-/// The least coordinate that two lists of boxes have.
+/// Returns the least coordinate that two lists of boxes share.
 pub(crate) fn clash(first: &[Region], second: &[Region]) -> Option<Coord>
     ensures { (r : ℕ) → AreBoxesIn r first.now → LeastOf r (λ c. in_boxes first.now c && in_boxes second.now c) result }
 {
@@ -35,7 +35,7 @@ pub(crate) fn clash(first: &[Region], second: &[Region]) -> Option<Coord>
     least
 }
 
-/// The box around two boxes.
+/// Returns the bounding box of two boxes.
 pub(crate) fn around(a: &Region, b: &Region) -> Region
     ensures first { (c : Coordinate) → IsTrue (is_within (span a.now) (point c))
         → IsTrue (is_within (span result) (point c)) }
@@ -59,7 +59,7 @@ pub(crate) fn around(a: &Region, b: &Region) -> Region
     Region::of(least, greatest)
 }
 
-/// A box around all the boxes.
+/// Returns a bounding box of the boxes.
 pub(crate) fn hull(boxes: &[Region]) -> Region
     ensures { IsHull result boxes.now }
 {

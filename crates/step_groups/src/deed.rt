@@ -1,4 +1,4 @@
-//! What a bot does in a step, in coordinates.
+//! A bot's action in a step, in coordinates.
 ghost use Rattle.std.specs.Prelude.{IfNone, IfSome, IsFalse};
 ghost use Rattle.vox_geom.specs.Space.{IsInSpace};
 ghost use Rattle.nano_spec.specs.Act.{stays_in_space};
@@ -9,35 +9,35 @@ use nano_spec::{Bot, Command};
 use vox_geom::{Coord, Far, Near};
 use vox_planes::Planes;
 
-/// What a bot does in a step, by the coordinates that its command names.
+/// A bot's action in a step, by the coordinates that its command names.
 #[derive(Clone, Copy, PartialEq, Eq, Debug)]
 pub enum Deed {
     /// Nothing.
     Waits,
-    /// It changes the harmonics.
+    /// Flips the harmonics.
     Flips,
-    /// It ends the run.
+    /// Ends the run.
     Halts,
-    /// It moves straight there.
+    /// Moves straight to `to`.
     Moves {
         to: Coord,
     },
-    /// It moves straight to the middle, and from there straight on.
+    /// Moves straight to `middle`, and from there straight to `to`: a two-leg move.
     Bends {
         middle: Coord,
         to: Coord,
     },
-    /// It makes a bot there, with so many of the seeds.
+    /// Fission: makes a bot at `to` with this number of the seeds.
     Splits {
         to: Coord,
         seeds: u8,
     },
-    /// It fuses with the bot there, and stays where it is the primary.
+    /// Fusion with the bot at `partner`; the primary remains.
     Fuses {
         partner: Coord,
         primary: bool,
     },
-    /// It fills the region between the corners, or else voids it, together with other bots or by itself.
+    /// Fills the region between the corners (or voids it), with other bots or alone.
     Edits {
         near: Coord,
         far: Coord,
@@ -46,7 +46,7 @@ pub enum Deed {
     },
 }
 
-/// The deed of a bot that fills, or else voids, the voxel at a difference: `None` exactly where that is out of space.
+/// Returns the action that fills (or voids) the voxel at a difference, or `None` exactly if that is out of space.
 fn edit_voxel(r: u16, bot: Bot, d: Near, full: bool) -> Option<Deed>
     requires { IsInSpace r bot.pos }
     ensures some { IfSome result (IsDeed r bot (edit_of full d)) }
@@ -61,7 +61,7 @@ fn edit_voxel(r: u16, bot: Bot, d: Near, full: bool) -> Option<Deed>
     })
 }
 
-/// The deed of a bot that fills, or else voids, a region together with others: `None` exactly where a corner is out of space.
+/// Returns the action that fills (or voids) a region with other bots, or `None` exactly if a corner is out of space.
 fn edit_region(r: u16, bot: Bot, d: Near, f: Far, full: bool) -> Option<Deed>
     requires { IsInSpace r bot.pos }
     ensures some { IfSome result (IsDeed r bot (group_edit_of full d f)) }
@@ -77,7 +77,7 @@ fn edit_region(r: u16, bot: Bot, d: Near, f: Far, full: bool) -> Option<Deed>
     })
 }
 
-/// What a bot does by its command: `None` exactly where a coordinate that it names is out of space.
+/// Returns the action of a bot by its command, or `None` exactly if a coordinate that it names is out of space.
 #[inline(always)]
 pub fn deed_of(r: u16, bot: Bot, command: &Command) -> Option<Deed>
     requires { IsInSpace r bot.pos }
@@ -113,7 +113,7 @@ pub fn deed_of(r: u16, bot: Bot, command: &Command) -> Option<Deed>
     }
 }
 
-/// The same where the bot stands in the matrix.
+/// [`deed_of`] for a bot in the matrix.
 #[inline(always)]
 pub(crate) fn deed_in(planes: &Planes, bot: &Bot, command: &Command) -> Option<Deed>
     requires { IsInSpace planes.now.resolution bot.now.pos }

@@ -25,8 +25,8 @@ use std::sync::ledger::Ledger;
 use vox_geom::{Region, Steps};
 use vox_planes::Planes;
 
-/// Bots that act together (docs/FORMATS.md, "Groups"), and the boxes that together hold what is volatile for them.
-/// The leader is the least bid. The members, the leader among them, are in rising order.
+/// Bots that act together (docs/FORMATS.md, "Groups"), and the boxes that hold all that is volatile for them. The leader has the
+/// least bid. The members, including the leader, are in rising order.
 #[derive(Drop)]
 pub struct Group {
     pub leader: u8,
@@ -60,7 +60,7 @@ impl Model for Groups {
 }
 
 impl Groups {
-    /// No groups.
+    /// Returns an empty list of groups.
     pub fn new() -> Groups
         ensures { result ≡ [] }
     {
@@ -69,16 +69,16 @@ impl Groups {
         }
     }
 
-    /// The groups.
+    /// Returns the groups.
     pub fn list(&self) -> &[Group]
         ensures { result.now ≡ self.now }
     {
         self.groups.as_slice()
     }
 
-    /// Judges a step by the rules that ask for no other state than the one at its start: for each bot whether its command is
-    /// allowed and then the rules of single bots, and at last whether groups interfere. The groups are then those of the step;
-    /// where a rule is broken there are none. A list of groups that is kept from step to step is not filled anew.
+    /// Judges a step by the rules that depend only on the state at its start: for each bot the profile and then the rules of single
+    /// bots, and last the interference of groups. Stores the groups of the step, or none if a rule is broken. Reuses the list from
+    /// step to step.
     pub fn judge<L: Ledger>(
         &mut self,
         step: &Step,
@@ -113,9 +113,8 @@ impl Groups {
         Ok(())
     }
 
-    /// Judges a step in which each command needs no other bot, so that each bot is a group of its own: the first rule that is
-    /// broken. Mostly each bot is beside the box around those before it, or else boxes around what is volatile for the bots are
-    /// apart: no group is made.
+    /// Judges a step in which no command needs another bot: each bot is a group of its own. Returns the first broken rule. Usually
+    /// bounding boxes show that no two bots interfere, and no group is made.
     pub fn judge_lone<L: Ledger>(&mut self, step: &Step, steps: &mut Steps<L>) -> Option<Broken>
         requires step { CanBeJudged step.now }
         requires lone { IsTrue (list_all is_alone step.now.commands.now) }
@@ -147,7 +146,7 @@ impl Groups {
     }
 }
 
-/// Judges a step of a crew as [`Groups::judge`] does, and gives its groups. `step` is the number of the step, from 1 on.
+/// Judges a step of a crew as [`Groups::judge`] does, and returns its groups. `step` is the number of the step, from 1 on.
 pub fn judge_groups<L: Ledger>(
     crew: &Crew,
     planes: &Planes,

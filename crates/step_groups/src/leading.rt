@@ -1,4 +1,4 @@
-//! Which bots lead the groups of a step.
+//! The leaders of the groups of a step.
 ghost use Rattle.std.specs.Prelude.{◌≡◌, length};
 ghost use Rattle.nano_spec.specs.Act.{acts};
 ghost use Rattle.nano_spec.specs.Serial.{leader_bids};
@@ -8,7 +8,7 @@ use arrayvec::ArrayVec;
 use bot_crew::{Crew, MOST_BOTS};
 use nano_spec::Command;
 
-/// The bids of the leaders of a step's groups, in rising order, also where the step breaks a rule.
+/// Returns the bids of the leaders of a step's groups, in rising order, even if the step breaks a rule.
 pub fn leaders(crew: &Crew, commands: &[Command]) -> ArrayVec<u8, MOST_BOTS>
     requires { length commands.now ≡ length crew.now }
     ensures { result.items ≡ leader_bids (acts crew.now commands.now) }

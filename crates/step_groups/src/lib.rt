@@ -1,4 +1,4 @@
-//! Which rule the commands of a step break first, and which bots act together.
+//! Judges the commands of a step and forms its groups.
 #![tactic(auto)]
 
 mod apart;

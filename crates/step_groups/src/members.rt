@@ -1,4 +1,4 @@
-//! Which bots are of a group, and what is volatile for them.
+//! The members of a group, and their volatile boxes.
 ghost use Rattle.std.specs.Prelude.{◌≡◌, ◌+◌, ◌≤◌, ◌<◌, ◌++◌, ℕ, length, map, filter, take, [], ◌∷◌, All, IsTrue};
 ghost use Rattle.arrayvec.specs.ArrayVec.{array_vec_len};
 ghost use Rattle.vox_geom.specs.declared.coordinate.Coord.{Coord as Coordinate};
@@ -22,7 +22,7 @@ use nano_spec::{Bot, Command};
 use vox_geom::Region;
 use vox_planes::Planes;
 
-/// Whether the command needs no other bot, so that its bot is a group of its own.
+/// Returns whether the command needs no other bot, so that its bot is a group of its own.
 pub(crate) fn acts_alone(command: &Command) -> bool
     ensures { result ≡ is_alone command.now }
 {
@@ -35,7 +35,7 @@ pub(crate) fn acts_alone(command: &Command) -> bool
     }
 }
 
-/// The group of a bot without others.
+/// Returns the group of a bot that acts alone.
 fn lone_group(planes: &Planes, bot: &Bot, command: &Command) -> Group
     requires within { IsInSpace planes.now.resolution bot.now.pos }
     requires stays { IsTrue (stays_in_space planes.now.resolution (act bot.now command.now)) }
@@ -56,7 +56,7 @@ fn lone_group(planes: &Planes, bot: &Bot, command: &Command) -> Group
     }
 }
 
-/// Adds those of these bots that have the number, each with the box of its position.
+/// Adds the bots with the group index, each with the box of its position.
 fn join(group: &mut Group, bots: &[Bot], numbers: &[u8], number: u8)
     requires lengths { length numbers.now ≡ length bots.now }
     requires members { array_vec_len group.old.members + length (with_number number bots.now numbers.now) ≤ 8 }
@@ -76,7 +76,7 @@ fn join(group: &mut Group, bots: &[Bot], numbers: &[u8], number: u8)
     }
 }
 
-/// Adds the group of the bot at a place, if the bot leads one.
+/// Adds the group of the bot at an index, if the bot leads one.
 fn push_group(
     groups: &mut ArrayVec<Group, MOST_BOTS>,
     planes: &Planes,
@@ -114,7 +114,7 @@ fn push_group(
     groups.push(group);
 }
 
-/// The groups of the bots, in rising order of their leaders, added to none.
+/// Adds the groups of the bots to an empty list, in rising order of their leaders.
 pub(crate) fn list_groups(
     groups: &mut ArrayVec<Group, MOST_BOTS>,
     planes: &Planes,

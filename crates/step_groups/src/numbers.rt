@@ -1,4 +1,4 @@
-//! The numbers of a step's groups: each bot has the place of the first bot of its group.
+//! The group index of each bot: the index of the first bot of its group.
 ghost use Rattle.std.specs.Prelude.{◌≡◌, ◌≤◌, IsTrue, false, length};
 ghost use Rattle.std.specs.List.{list_any, position_or_len};
 ghost use Rattle.nano_spec.specs.Act.{acts};
@@ -13,7 +13,7 @@ use arrayvec::ArrayVec;
 use bot_crew::MOST_BOTS;
 use nano_spec::{Bot, Command};
 
-/// The place of the first of these bots that is of the bot's group, or how many they are. None is where the bot acts alone.
+/// Returns the index of the first of these bots in the bot's group, or their number if there is none, as for a bot alone.
 fn first_mate(bots: &[Bot], commands: &[Command], bot: &Bot, command: &Command) -> usize
     requires lengths { length commands.now ≡ length bots.now }
     requires alone { IsTrue (is_alone command.now)
@@ -32,7 +32,7 @@ fn first_mate(bots: &[Bot], commands: &[Command], bot: &Bot, command: &Command) 
     bots.len()
 }
 
-/// The numbers of the groups, also where the step breaks a rule.
+/// Returns the group index of each bot, even if the step breaks a rule.
 pub fn number_groups(bots: &[Bot], commands: &[Command]) -> ArrayVec<u8, MOST_BOTS>
     requires lengths { length commands.now ≡ length bots.now }
     requires crew { IsCrew bots.now }

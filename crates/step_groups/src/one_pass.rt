@@ -1,5 +1,5 @@
-//! The judgement of bots each of which acts alone, and whether they are apart, in one pass: by one box around all that is
-//! volatile for the bots so far.
+//! Judgement and interference test of bots that act alone, in one pass: one bounding box holds all that is volatile for the bots so
+//! far.
 ghost use Rattle.std.specs.Prelude.{◌≡◌, ◌+◌, ◌≤◌, ◌||◌, nat_lt, true, length, IfNone, IfOk, IsTrue, sum_by};
 ghost use Rattle.std.specs.List.{list_all};
 ghost use Rattle.vox_geom.specs.declared.coordinate.Coord.{Coord as Coordinate};
@@ -20,8 +20,7 @@ use std::sync::ledger::Ledger;
 use vox_geom::{Coord, Diff, Region, Steps};
 use vox_planes::Planes;
 
-/// One box around all that is volatile for the bots so far, by its ends, and whether each bot was beside the box of those
-/// before it.
+/// The bounding box of all that is volatile for the bots so far, and whether each bot was disjoint from the box of those before it.
 #[derive(Clone, Copy)]
 pub(crate) struct Outline {
     pub(crate) low: Coord,
@@ -29,7 +28,7 @@ pub(crate) struct Outline {
     pub(crate) apart: bool,
 }
 
-/// Whether no number lies between both ends.
+/// Returns whether two intervals are disjoint.
 #[inline(always)]
 fn are_beside(low: u16, high: u16, other_low: u16, other_high: u16) -> bool
     ensures { result ≡ (nat_lt high other_low || nat_lt other_high low) }
@@ -37,7 +36,7 @@ fn are_beside(low: u16, high: u16, other_low: u16, other_high: u16) -> bool
     high < other_low || other_high < low
 }
 
-/// Whether no coordinate lies between both ends.
+/// Returns whether two boxes are disjoint.
 #[inline(always)]
 fn lie_beside(low: Coord, high: Coord, other_low: Coord, other_high: Coord) -> bool
     ensures { result ≡ true → (c : Coordinate) → LiesBetween low high c → LiesBetween other_low other_high c → ⊥ }
@@ -48,7 +47,7 @@ fn lie_beside(low: Coord, high: Coord, other_low: Coord, other_high: Coord) -> b
     x || y || z
 }
 
-/// Takes in a box.
+/// Extends the bounding box by a box.
 #[inline(always)]
 fn take_in(outline: &mut Outline, hull: &Region)
     ensures { TakesIn (λ c. IsTrue (is_within (span hull.now) (point c))) outline.old outline.new }
@@ -71,7 +70,7 @@ fn take_in(outline: &mut Outline, hull: &Region)
     };
 }
 
-/// The box of the way of a bot with `SMove`, or the first rule that it breaks.
+/// Returns the box of the path of a bot with `SMove`, or the first rule that it breaks.
 #[inline(always)]
 fn hull_of_move<L: Ledger>(
     planes: &Planes,
@@ -89,7 +88,7 @@ fn hull_of_move<L: Ledger>(
     Ok(Region::of(bot.pos, to))
 }
 
-/// A box around a bot with `Fill` or `Void` and the voxel that it names, or the first rule that it breaks.
+/// Returns a bounding box of a bot with `Fill` or `Void` and the voxel that it names, or the first rule that it breaks.
 #[inline(always)]
 fn hull_of_edit(planes: &Planes, step: u32, bot: Bot, d: Diff) -> Result<Region, Broken>
     requires { IsInSpace planes.now.resolution bot.pos }
@@ -102,7 +101,7 @@ fn hull_of_edit(planes: &Planes, step: u32, bot: Bot, d: Diff) -> Result<Region,
     Ok(Region::of(bot.pos, at))
 }
 
-/// A box around a bot with `Halt`, or the first rule that it breaks.
+/// Returns a bounding box of a bot with `Halt`, or the first rule that it breaks.
 fn hull_of_halt(step: &Step, bot: Bot) -> Result<Region, Broken>
     ensures value { rule_broken result ≡ later_fault step.now (act bot Halt) }
     ensures hull { IfOk result (IsHullFor (act bot Halt)) }
@@ -120,7 +119,7 @@ fn hull_of_halt(step: &Step, bot: Bot) -> Result<Region, Broken>
     Ok(Region::of(bot.pos, bot.pos))
 }
 
-/// A box around a bot with `Fission` and its new bot, or the first rule that it breaks.
+/// Returns a bounding box of a bot with `Fission` and its new bot, or the first rule that it breaks.
 fn hull_of_fission<L: Ledger>(
     planes: &Planes,
     step: u32,
@@ -146,8 +145,8 @@ fn hull_of_fission<L: Ledger>(
     Ok(Region::of(bot.pos, to))
 }
 
-/// A box around all that is volatile for a bot whose command needs no other bot and is one that few bots have, or the first rule after
-/// the one on the profile that it breaks. One call for all of them leaves the loop its registers.
+/// Returns a bounding box of all that is volatile for a bot with a rare command that needs no other bot. If it breaks a rule after
+/// the one on the profile, returns the first. Out of line: leaves the loop its registers.
 #[inline(never)]
 fn judge_rare<L: Ledger>(
     step: &Step,
@@ -168,12 +167,12 @@ fn judge_rare<L: Ledger>(
             hull_of_fission(step.planes, step.number, *bot, d.diff(), *m, steps)
         }
         Command::Flip => Ok(Region::of(bot.pos, bot.pos)),
-        // The others need other bots, or are frequent, and are never judged here.
+        // All others need other bots or are frequent, and are never judged here.
         _ => Ok(Region::of(bot.pos, bot.pos)),
     }
 }
 
-/// The same of every command that needs no other bot. Those that most of many bots have are judged at once.
+/// [`judge_rare`] for every command that needs no other bot. Frequent ones take the fast path.
 #[inline(always)]
 pub(crate) fn judge_hull<L: Ledger>(
     step: &Step,
@@ -202,14 +201,14 @@ pub(crate) fn judge_hull<L: Ledger>(
         | Command::Fission(_, _)
         | Command::GFill(_, _)
         | Command::GVoid(_, _) => {
-            // By a name of its own: else the box of every arm lies where this call leaves its box, and is read before it is all written.
+            // Named, so that each arm writes its box in one place and no box is read half written.
             let hull = judge_rare(step, bot, command, steps)?;
             Ok(hull)
         }
     }
 }
 
-/// The first rule that a bot breaks. Where it breaks none, what is volatile for it is taken in.
+/// Returns the first rule that a bot breaks. If it breaks none, extends the bounding box by its volatile coordinates.
 #[inline(always)]
 fn judge_next<L: Ledger>(
     step: &Step,
@@ -237,8 +236,8 @@ fn judge_next<L: Ledger>(
     }
 }
 
-/// Whether each bot was found to be apart from those before it, or the first rule that one of the bots breaks. In a function of
-/// its own the loop has all registers.
+/// Returns whether each bot is disjoint from those before it, or the first rule that a bot breaks. Out of line: the loop has all
+/// registers.
 #[inline(never)]
 pub(crate) fn judge_apart<L: Ledger>(step: &Step, steps: &mut Steps<L>) -> Result<bool, Broken>
     requires step { CanBeJudged step.now }

@@ -28,7 +28,7 @@ use std::sync::ledger::Ledger;
 use vox_geom::{Coord, Diff, Region, Steps};
 use vox_planes::{Planes, earlier};
 
-/// The rule is broken there by the bot with the bid.
+/// Returns that the bot with the bid breaks the rule there.
 pub(crate) fn breaks(step: u32, bid: u8, rule: Rule, at: Coord) -> Broken
     ensures { Some result ≡ broken_by step rule bid (Some at) }
 {
@@ -40,7 +40,7 @@ pub(crate) fn breaks(step: u32, bid: u8, rule: Rule, at: Coord) -> Broken
     }
 }
 
-/// Where a difference leads to: `None` exactly where it leads out of the matrix.
+/// Returns the coordinate that a difference leads to, or `None` exactly if it is out of the matrix.
 #[inline(always)]
 pub(crate) fn reach(planes: &Planes, from: Coord, d: Diff) -> Option<Coord>
     requires { IsInSpace planes.now.resolution from }
@@ -52,7 +52,7 @@ pub(crate) fn reach(planes: &Planes, from: Coord, d: Diff) -> Option<Coord>
     from.plus_in_matrix(d, planes.resolution())
 }
 
-/// Where a bot with `SMove` gets to, or the first rule that it breaks.
+/// Returns the end of a bot's `SMove`, or the first rule that it breaks.
 #[inline(always)]
 pub(crate) fn end_of_move<L: Ledger>(
     planes: &Planes,
@@ -76,7 +76,7 @@ pub(crate) fn end_of_move<L: Ledger>(
     }
 }
 
-/// Whether a way is seen to be void with no search of a row: it lies above all full voxels, or is by one coordinate.
+/// Returns whether a path is void without a search of a row: it is above all full voxels, or is by one coordinate.
 #[inline(always)]
 pub(crate) fn is_clear_at_once<L: Ledger>(
     planes: &Planes,
@@ -104,7 +104,7 @@ pub(crate) fn is_clear_at_once<L: Ledger>(
     !planes.full_at(to, steps)
 }
 
-/// A box around the ways of a bot with `LMove`, or the first rule that it breaks.
+/// Returns a bounding box of both legs of a bot with `LMove`, or the first rule that it breaks.
 #[inline(always)]
 pub(crate) fn hull_of_moves<L: Ledger>(
     planes: &Planes,
@@ -135,14 +135,14 @@ pub(crate) fn hull_of_moves<L: Ledger>(
     }
 }
 
-/// Whether a fission with m asks for more seeds than the bot has.
+/// Returns whether a fission with m needs more seeds than the bot has.
 pub(crate) fn lacks_seeds(bot: Bot, m: u8) -> bool
     ensures { result ≡ nat_le (length (seed_list bot.seeds)) m }
 {
     seeds_of(bot) <= m
 }
 
-/// Which voxel a bot with `Fill` or `Void` names, or the first rule that it breaks.
+/// Returns the voxel that a bot with `Fill` or `Void` names, or the first rule that it breaks.
 #[inline(always)]
 pub(crate) fn named_by(planes: &Planes, step: u32, bot: Bot, d: Diff) -> Result<Coord, Broken>
     requires { IsInSpace planes.now.resolution bot.pos }
@@ -157,7 +157,7 @@ pub(crate) fn named_by(planes: &Planes, step: u32, bot: Bot, d: Diff) -> Result<
     Ok(at)
 }
 
-/// The first rule that a bot in a fusion breaks whose partner's place is in space.
+/// Returns the first rule that a bot in a fusion breaks, if its partner's position is in space.
 fn judge_fusion(step: &Step, bot: &Bot, command: &Command) -> Option<Broken>
     requires { CanJudge step.now bot.now }
     ensures { (partner : Coordinate) (primary : Bool)
@@ -170,8 +170,8 @@ fn judge_fusion(step: &Step, bot: &Bot, command: &Command) -> Option<Broken>
     Some(breaks(step.number, bot.bid, Rule::Partner, bot.pos))
 }
 
-/// The first rule that a bot breaks which edits the region between two corners together with others. The members of its
-/// group have the number.
+/// Returns the first rule that a bot with a group command breaks, which edits the region between two corners. The members of its
+/// group have the group index `number`.
 fn judge_group(
     step: &Step,
     numbers: &[u8],
@@ -197,8 +197,8 @@ fn judge_group(
     None
 }
 
-/// The first rule after the one on the profile that a bot breaks whose command needs other bots. The members of its group
-/// have the number. One call for all of them leaves the others their registers.
+/// Returns the first rule after the one on the profile that a bot breaks whose command needs other bots. The members of its group
+/// have the index. Out of line: leaves the other commands their registers.
 #[inline(never)]
 fn judge_together(
     step: &Step,
@@ -225,7 +225,7 @@ fn judge_together(
     }
 }
 
-/// The first rule after the one on the profile that a bot breaks. The members of its group have the number.
+/// Returns the first rule after the one on the profile that a bot breaks. The members of its group have the index.
 fn judge_later<L: Ledger>(
     step: &Step,
     numbers: &[u8],
@@ -248,7 +248,7 @@ fn judge_later<L: Ledger>(
     }
 }
 
-/// The first rule that a bot breaks.
+/// Returns the first rule that a bot breaks.
 fn judge_bot<L: Ledger>(
     step: &Step,
     numbers: &[u8],
@@ -271,7 +271,7 @@ fn judge_bot<L: Ledger>(
     }
 }
 
-/// The first rule that one of the bots breaks, whose groups have these numbers.
+/// Returns the first rule that one of the bots breaks, by their group indices.
 pub(crate) fn judge_bots<L: Ledger>(
     step: &Step,
     numbers: &[u8],

@@ -18,8 +18,8 @@ use std::sync::ledger::Ledger;
 use vox_geom::{Coord, Long, Near, Steps};
 use vox_planes::Planes;
 
-/// The first rule that the command of a single bot breaks, as [`crate::judge_groups`] judges it. The bot is the one group of
-/// the step, and no list of groups is made.
+/// Returns the first rule that the command of a single bot breaks, as [`crate::judge_groups`] judges it. The bot is the only group
+/// of the step, and no list of groups is made.
 pub fn judge_single<L: Ledger>(step: &Step, steps: &mut Steps<L>) -> Option<Broken>
     requires one { length step.now.bots.now ≡ 1 }
     requires step { CanBeJudged step.now }
@@ -30,7 +30,7 @@ pub fn judge_single<L: Ledger>(step: &Step, steps: &mut Steps<L>) -> Option<Brok
     judge_bots(step, &[0], steps)
 }
 
-/// Where the only bot gets to by a straight move, or the first rule that the step breaks. The way is read once.
+/// Returns the end of the only bot's `SMove`, or the first rule that the step breaks. Reads the path once.
 #[inline(always)]
 pub fn judge_move<L: Ledger>(
     planes: &Planes,
@@ -56,7 +56,7 @@ pub fn judge_move<L: Ledger>(
     }
 }
 
-/// Where the only bot gets to by a straight move whose way is seen to be void at once, `None` where that is to be judged.
+/// Returns the end of the only bot's `SMove` if its path is void without a search, `None` if it has to be judged.
 #[inline(always)]
 pub fn moves_at_once<L: Ledger>(
     planes: &Planes,
@@ -85,7 +85,7 @@ pub fn moves_at_once<L: Ledger>(
     None
 }
 
-/// Which voxel the only bot fills, or else voids, or the first rule that the step breaks. No voxel is read.
+/// Returns the voxel that the only bot fills (or voids), or the first rule that the step breaks. Reads no voxel.
 #[inline(always)]
 pub fn judge_edit(
     planes: &Planes,
@@ -110,7 +110,7 @@ pub fn judge_edit(
     }
 }
 
-/// The command that fills, or else voids, the voxel at the difference.
+/// Returns the command that fills (or voids) the voxel at the difference.
 #[inline(always)]
 pub fn edit(d: Near, full: bool) -> Command
     ensures { result ≡ edit_of full d }

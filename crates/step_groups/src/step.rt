@@ -1,8 +1,8 @@
-//! The step that is judged.
+//! The step to judge.
 use nano_spec::{Bot, Command, Harmonics, Profile};
 use vox_planes::Planes;
 
-/// A step that is judged: the state at its start, as far as the rules ask for it, and the commands.
+/// A step to judge: the state at its start, as far as the rules need it, and the commands.
 #[derive(Clone, Copy)]
 pub struct Step<'a> {
     /// The matrix.

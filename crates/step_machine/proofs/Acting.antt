@@ -1,4 +1,4 @@
--- What is known of the acts of a step that breaks no rule.
+-- Facts of the acts of a step that breaks no rule.
 use Rattle.std.proofs.Common.{◌≡◌, ℕ, refl, List, Bool, true, false, not}
 use Rattle.std.specs.Prelude.{None, IsTrue}
 use Rattle.nano_spec.specs.declared.commands.Command.{Command}

@@ -1,4 +1,4 @@
--- The only bot is still alone after a step by a command that is frequent.
+-- The only bot is still alone after a step by a frequent command.
 use Rattle.std.proofs.Common.{◌≡◌, ℕ, ◌+◌, refl, ◌∙◌, ap, subst, sym, List, [], ◌∷◌, Bool, true, false, length}
 use Rattle.std.specs.Prelude.{None}
 use Rattle.vox_geom.specs.declared.difference.Diff.{Diff}
@@ -19,7 +19,7 @@ use Rattle.step_machine.specs.Stepped.{Stepped, answer_of}
 use Rattle.step_machine.specs.declared.machine.StepFault.{StepFault}
 use Rattle.step_machine.proofs.Still.{only_bot}
 
--- whatever the only bot is, its command leaves one
+-- the command leaves one bot, whatever the bot is
 abbrev LeavesOne : Command → Type 0
 LeavesOne command = (b : Bot) → length (bots_after (acts (b ∷ []) (command ∷ []))) ≡ 1
 

@@ -1,4 +1,4 @@
--- The answers to a step: where it breaks a rule at its start, where it is not made after all, and where it is made.
+-- The answers to a step: it breaks a rule at its start, is not made after all, or is made.
 use Rattle.std.proofs.Common.{◌≡◌, ℕ, ◌+◌, ◌*◌, ◌≤◌, ◌<◌, refl, sym, ap, subst, arith, List, [], Bool, true, false, length}
 use Rattle.std.specs.Prelude.{◌↔◌, Some, None, Ok, Err}
 use Rattle.nano_spec.specs.declared.commands.Command.{Command}
@@ -28,11 +28,11 @@ use Rattle.step_machine.proofs.Working.{acts_work, judged_touches}
 searched_all : (rule : Rule) (m : Matrix) → rule ≡ Ungrounded → searched_for rule m ≡ volume m.resolution
 searched_all rule m e = λ i. searched_for (e i) m
 
--- where bots are left the run has not halted
+-- if bots are left, the run has not halted
 pub bots_left : (bots : List Bot) → length bots ≡ 1 → (false ≡ true ↔ bots ≡ [])
 bots_left bots one = ((λ h. cc), (λ e. let none = ap length e in absurd (omega (arith, none, one))))
 
--- a machine's parts, which are not spent, and what is seen of them
+-- the parts of a machine that is not poisoned, and its situation
 module _ (s : State) (commands : List Command) (steps : ℕ) (spent : Bool) (v : Situation) (e : seen s steps spent ≡ v) (stands : spent ≡ false) (began : ℕ) where
   -- a rule is broken that is judged at the start
   pub broken_at_start : (b : Broken) (ended : ℕ) → broken s commands (steps + 1) ≡ Some b
@@ -57,7 +57,7 @@ module _ (s : State) (commands : List Command) (steps : ℕ) (spent : Bool) (v :
   })
 
   module _ (judged : ℕ) (keeps : broken s commands (steps + 1) ≡ None) (start : judged ≤ began + 3 * volatile_total s.matrix (acts s.bots commands)) where
-    -- memory is refused
+    -- allocation fails
     pub no_memory : (ended : ℕ) → Stepped v (seen s steps true) commands (Err fault.Memory) began ended
     no_memory ended = subst (λ (w : Situation). Stepped w (seen s steps true) commands (Err fault.Memory) began ended) e (record {
       goes = tt;
@@ -76,7 +76,7 @@ module _ (s : State) (commands : List Command) (steps : ℕ) (spent : Bool) (v :
       touches_broken = tt;
     })
 
-    -- a voxel would float, or memory is refused
+    -- a voxel would float, or allocation fails
     pub not_settled : (f : StepFault) (ended : ℕ) → IsUnsettled s commands (steps + 1) f judged ended
         → Stepped v (seen s steps true) commands (Err f) began ended
     not_settled fault.Spent ended h = absurd h
@@ -124,7 +124,7 @@ module _ (s : State) (commands : List Command) (steps : ℕ) (spent : Bool) (v :
       touches_broken = tt;
     })
 
--- a machine that was spent before the step
+-- a machine that was poisoned before the step
 pub already_spent : (s : Situation) (commands : List Command) (n : ℕ) → s.spent ≡ true
     → Stepped s s commands (Err fault.Spent) n n
 already_spent s commands n spent = record {

@@ -7,7 +7,7 @@ use Rattle.vox_geom.specs.Space.{coordinate_at, coordinates, numbers_from, place
 use Rattle.vox_geom.proofs.Places.{place-coordinate_at}
 use Rattle.step_order.proofs.Lists.{In, filter_in, flat_in, in_either, in_place, place_in}
 
--- no element comes again
+-- no element repeats
 abbrev pub Apart : {X : Type 0} → List X → Type 0
 Apart [] = Unit {0}
 Apart (x ∷ xs) = (In x xs → ⊥) × Apart xs

@@ -30,14 +30,14 @@ pub size_is : (m : Matrix) (r : ℕ) (full : Bool) (a : Act) (k : Corners) → r
     → IsInSpace r k.high → IsRegionOf k full a → size (span k) ≡ edit_count m full a
 size_is m r full a k s o h e = sym (region_count r k o h) ∙ (λ i. count_by (λ c. e c i) (coordinates (s i)))
 
--- not many are changed
+-- a bound on the changes
 few : (m : Matrix) (full : Bool) (a : Act) → length (cells_of m full a) ≤ edit_count m full a
 few m full a =
     let filtered_length = length-filter (λ c. is_state m full c && is_edited full a c) (all_of m) in
     let le = count_le (λ c. is_state m full c && is_edited full a c) (is_edited full a) (λ c h. second_of_two (is_state m full c) (is_edited full a c) h) (all_of m) in
     omega (arith, filtered_length, le)
 
--- what a list of the region's voxels did
+-- the effect of listing the region's voxels
 pub record AreListed (m : Matrix) (full : Bool) (a : Act) (old new : List Coord) (spare spare_left before after : ℕ) : Type 0 where
   pub items : new ≡ old ++ cells_of m full a
   pub left : spare ≤ spare_left + edit_count m full a
@@ -60,7 +60,7 @@ void : (xs : List Coord) → ((c : Coord) → In c xs → ⊥) → xs ≡ []
 void [] h = refl
 void (x ∷ xs) h = absurd (h x (inl refl))
 
--- nothing is changed where nothing is edited
+-- no edit, no change
 pub no_cells : (m : Matrix) (full : Bool) (a : Act) → ((c : Coord) → false ≡ is_edited full a c)
     → cells_of m full a ≡ []
 no_cells m full a e = void (cells_of m full a) (λ c i. let passed = filter_in (λ d. is_state m full d && is_edited full a d) c (all_of m) i in not_both (second_of_two (is_state m full c) (is_edited full a c) passed.1) (sym (e c)))
@@ -80,7 +80,7 @@ none_of : (m : Matrix) (full : Bool) (all : List Act) → ((a : Act) → In a al
 none_of m full [] h = refl
 none_of m full (a ∷ all) h = rw (h a (inl refl)) (none_of m full all (λ x i. h x (inr i)))
 
--- no voxel is changed so where no command changes so
+-- no voxel changes so unless some command changes so
 pub none_change : (m : Matrix) (full : Bool) (bots : List Bot) (commands : List Command)
     → list_any (is_change full) commands ≡ false → cells_of_all m full (leaders (acts bots commands)) ≡ []
 none_change m full bots commands none =

@@ -88,7 +88,7 @@ module _ (s : State) (all : List Act) (good : IsGood s all) where
       → is_volatile all l (point c) ≡ true
   volatile_for full l c i e = in_any (is_volatile_of (point c)) l (members all l) (in_filter (are_together l) l all (leader_is l i) (with_itself l)) (edits_own full l c e)
 
-  -- a leader whose group edits what some act edits
+  -- a leader whose group edits a coordinate that some act edits
   leader_edits : (full : Bool) (c : Coord) → is_changed full all c ≡ true
       → (l : Act) × In l (leaders all) × (is_edited full l c ≡ true)
   leader_edits full c h =
@@ -103,7 +103,7 @@ module _ (s : State) (all : List Act) (good : IsGood s all) where
       by [] d = tt
       by (x ∷ xs) d = ((λ i. d.0 x i refl), by xs d.1)
 
-  -- what two leaders' groups change is apart
+  -- the changes of two leaders' groups are disjoint
   never_both : (full other : Bool) (l d : Act) (c : Coord) → In l (leaders all) → In d (leaders all)
       → IsInSpace s.matrix.resolution c → is_edited full l c ≡ true → is_edited other d c ≡ true → (l ≡ d → ⊥) → ⊥
   never_both full other l d c i j w e f ne = good.clear l d i j ne c w (volatile_for full l c i e) (volatile_for other d c j f)
@@ -155,7 +155,7 @@ module _ (s : State) (all : List Act) (good : IsGood s all) where
   pub state_void : (c : Coord) → is_full s.matrix c ≡ false → is_state s.matrix false c ≡ true
   state_void c h = ap not h
 
-  -- ---- the forest may lose the ones and then gain the others
+  -- ---- the forest may lose the voided voxels and then gain the filled ones
 
   pub may_remove : MayRemove s.matrix (cells_of_all s.matrix true (leaders all))
   may_remove = record {
@@ -171,7 +171,7 @@ module _ (s : State) (all : List Act) (good : IsGood s all) where
     void = λ c i. false_by (is_full between c) (λ f. not_both (r.full c f) (void_state c (cell_of false c (held c (cells_of_all s.matrix false (leaders all)) i)).1));
   }
 
-  -- ---- what it comes to
+  -- ---- the result
 
   module _ (between : Matrix) (lost : AreRemoved s.matrix between (cells_of_all s.matrix true (leaders all))) where
     is_left : (c : Coord) → IsInSpace s.matrix.resolution c → is_full between c ≡ true

@@ -1,4 +1,4 @@
--- A try of a step at once that was declined, before the step is made otherwise.
+-- A fast path that was not applicable, before the step is made otherwise.
 use Rattle.std.proofs.Common.{◌≡◌, inl, inr, ℕ, ◌+◌, ◌≤◌, ◌∙◌, ap, arith, List, Bool}
 use Rattle.std.specs.Prelude.{None, Some}
 use Rattle.nano_spec.specs.declared.commands.Command.{Command}
@@ -14,7 +14,7 @@ pub declined_few : (s : State) (commands : List Command) (step began ended : ℕ
 declined_few s commands step began ended (inl e) = omega arith
 declined_few s commands step began ended (inr h) = h.1
 
--- where a rule is broken at the step's start nothing was touched
+-- if a rule is broken at the step's start, nothing was touched
 pub declined_broken : (s : State) (commands : List Command) (steps : ℕ) (spent : Bool) (v : Situation)
     → seen s steps spent ≡ v → (began ended : ℕ) (b : Broken) → broken s commands (steps + 1) ≡ Some b
     → IsDeclined v.state commands (v.steps + 1) began ended → ended ≡ began

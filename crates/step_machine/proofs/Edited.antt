@@ -1,4 +1,4 @@
--- The step of the only bot by filling or voiding a voxel: which cells change.
+-- The step of the only bot that fills or voids a voxel: the cells that change.
 use Rattle.std.proofs.Common.{◌≡◌, ℕ, ◌+◌, ◌*◌, ◌≤◌, refl, sym, ◌∙◌, ap, subst, arith, List, [], ◌∷◌, Bool, true, false, ◌&&◌, ◌||◌, not, cond, length, append-nil, filter}
 use Rattle.std.specs.Bool.{beq}
 use Rattle.std.specs.Prelude.{Option, None, IsTrue, MatchBool, count_by}
@@ -84,7 +84,7 @@ module _ (m : Matrix) (b : Bot) (d : Diff) (at : Coord) (named : point at ≡ pl
   one_counted true = let one_there = counted_there in omega (arith, one_there)
   one_counted false = let one_there = counted_there in omega (arith, one_there)
 
--- what a voxel is removed from that is filled, or else voided, and what it is added to: it changes where it was
+-- the cells removed and added by filling the voxel (or voiding it): it changes only if it was
 -- otherwise
 
 abbrev ArePart : Bool → Bool → List Coord → List Coord → List Coord → Type 0
@@ -154,7 +154,7 @@ module _ (s : State) (d : Diff) (at : Coord) (full : Bool) (commands : List Comm
         → listed ≤ before + 96 * volatile_total s.matrix (acts s.bots commands)
     paid_for before listed l = let volatile_one = one_volatile step ready keeps in omega (arith, volatile_one, l)
 
-    -- the voxel may become full, or else void, where it is otherwise
+    -- the voxel may change if it is not yet as it should be
     pub may_change : beq was full ≡ false → MatchBool full (MayAdd old (at ∷ [])) (MayRemove old (at ∷ []))
     may_change other = by full refl
       where
@@ -167,7 +167,7 @@ module _ (s : State) (d : Diff) (at : Coord) (full : Bool) (commands : List Comm
             may_lose s commands step ready keeps old (at ∷ []) tied (lost_as (at ∷ []) part.0)
 
     module _ (forest : Standing) (before listed after : ℕ) (stands : forest.spent ≡ false) (once : listed ≤ before + 10) where
-      -- and then the forest is that of the step's state
+      -- then the forest is that of the step's state
       pub changed_refitted : beq was full ≡ false
           → MatchBool full (AreAdded old forest.matrix (at ∷ [])) (AreRemoved old forest.matrix (at ∷ []))
           → IsCheap old forest.matrix (at ∷ []) 100 listed after → IsRefitted s commands forest before after
@@ -185,7 +185,7 @@ module _ (s : State) (d : Diff) (at : Coord) (full : Bool) (commands : List Comm
               is_refitted s commands step ready keeps old forest.matrix forest (at ∷ []) [] before listed after after tied (lost_as (at ∷ []) part.0) (won_as [] part.1) (paid_for before listed once)
               lost cheap (won_none forest.matrix lost.whole) (cheap_none forest.matrix forest.matrix after) stands
 
-      -- and it is so already where the voxel is as it is to be
+      -- the forest is already right if the voxel is as it should be
       pub kept_refitted : beq was full ≡ true → forest.matrix ≡ old → after ≡ listed
           → IsRefitted s commands forest before after
       kept_refitted same kept end =
@@ -195,7 +195,7 @@ module _ (s : State) (d : Diff) (at : Coord) (full : Bool) (commands : List Comm
           is_refitted s commands step ready keeps matrix matrix forest [] [] before listed listed after (kept ∙ tied) (lost_as [] part.0) (won_as [] part.1) (paid_for before listed once)
           (lost_none matrix whole_too) (cheap_none matrix matrix listed) (won_none matrix whole_too) (λ first last f l. let cheap_none_here = cheap_none matrix matrix listed first last f l in omega (arith, cheap_none_here, end)) stands
 
-  -- the forest is that of the step's state, and each voxel in it is held up where it has to be
+  -- the forest is that of the step's state, and each voxel in it is grounded if the harmonics require it
   pub settled_by : (step : ℕ) → broken s commands step ≡ None → (forest : Standing) (before after : ℕ)
       → IsRefitted s commands forest before after → (s.harmonics ≡ Low → FirstUngrounded forest.matrix None)
       → IsSettled s commands step forest before after

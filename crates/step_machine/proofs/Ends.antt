@@ -1,4 +1,4 @@
--- That an end of a call has one answer: said once, where the search would find it anew in each clause of each end.
+-- Each end of a call has one answer: stated once, so that the search need not find it in each clause of each end.
 use Rattle.std.proofs.Common.{◌≡◌, ℕ, List, [], ◌∷◌, false, true, ap, arith, get_or, length, subst, sym}
 use Rattle.std.specs.Prelude.{ℤ, Result, Ok, Err}
 use Rattle.nano_spec.specs.declared.commands.Command.{Command}
@@ -31,7 +31,7 @@ refused_made e = cc
 refused_declined : {A : Type 0} → tried.Refused ≡ tried.Declined → A
 refused_declined e = cc
 
--- what a try has come to that made its step, that refused it, and that declined it
+-- attempts that made the step, refused it, or were not applicable
 module _ {old new : Situation} {command : Command} {fault : StepFault} {began ended : ℕ} where
   pub is_made : Stepped old new (command ∷ []) (answer_of true new.state fault) began ended
       → IsTried old new command tried.Made fault began ended
@@ -44,7 +44,7 @@ module _ {old new : Situation} {command : Command} {fault : StepFault} {began en
   pub is_declined : new ≡ old → ended ≡ began → IsTried old new command tried.Declined fault began ended
   is_declined n e = record { made = declined_made; refused = declined_refused; memory = λ f _. declined_refused f; stays = λ _. n; untouched = λ _. e }
 
--- memory was not refused where the answer is another
+-- another answer means that no allocation failed
 pub spent_memory : {A : Type 0} → ◌≡◌ {A = Result StepOk StepFault} (Err fault.Spent) (Err fault.Memory) → A
 spent_memory e = cc
 
@@ -65,7 +65,7 @@ only_command [] command l e = absurd (omega arith)
 only_command (k ∷ []) command l e = ap (λ (c : Command). c ∷ []) (sym e)
 only_command (k ∷ m ∷ more) command l e = absurd (omega arith)
 
--- what the only bot's step has done, as the answer to the commands of a step
+-- the effect of the only bot's step, as the answer to the commands of a step
 pub made_alone : (old new : Situation) (commands : List Command) (command : Command) (energy : ℤ) (fault : StepFault)
     (began ended : ℕ) → commands ≡ command ∷ [] → energy ≡ new.state.energy
     → Stepped old new (command ∷ []) (answer_of true new.state fault) began ended

@@ -36,7 +36,7 @@ use Rattle.step_machine.proofs.Refitting.{cheap_none, counted, is_refitted, won_
 use Rattle.step_machine.proofs.Regions.{edits_nothing, edits_region}
 use Rattle.step_machine.proofs.Working.{edits_are_volatile}
 
--- ---- what a command voids
+-- ---- the region that a command voids
 
 voids_is_edit : (p : Point) (k : Command) (s : Span) → voided p k ≡ s ∷ [] → is_edit k ≡ true
 voids_is_edit p (Fill d) s h = refl

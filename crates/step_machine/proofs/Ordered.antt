@@ -1,4 +1,4 @@
--- An accepted step ends where its groups end one after another, in whatever order.
+-- An accepted step ends in the state of its groups applied one after another, in any order.
 use Rattle.std.proofs.Common.{◌≡◌, ℕ, List, sym, ◌∙◌, ap}
 use Rattle.std.specs.Prelude.{Some, None, Result, Ok, Err, IfOk, IsPermutation}
 use Rattle.nano_spec.specs.declared.commands.Command.{Command}
@@ -18,7 +18,7 @@ serial_is : (law : OrderLaw) (s t : State) (commands : List Command) (step : ℕ
     → serial s commands order ≡ Some t
 serial_is law s t commands step order ready permuted next = let accepted = accepted_step s t commands step next in law s commands step order ready accepted.keeps permuted ∙ ap Some (sym accepted.is)
 
--- where a step was made
+-- if a step was made
 pub made_in_order : {A E : Type 0} (law : OrderLaw) (s t : State) (commands : List Command) (step : ℕ) (order : List ℕ)
     → IsReady s → IsPermutation (leader_bids (acts s.bots commands)) order → (r : Result A E)
     → IfOk r (λ _. Next s commands step (Goes t)) → IfOk r (λ _. serial s commands order ≡ Some t)

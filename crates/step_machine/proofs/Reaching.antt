@@ -1,4 +1,4 @@
--- Each voxel has a level or none: what a path of so many voxels holds up grows with their number, until it stays.
+-- Each voxel has a level or none: the set of voxels on paths of at most n voxels grows with n, until it stays.
 use Rattle.std.proofs.Common.{◌≡◌, ℕ, zero, suc, ◌+◌, ◌≤◌, ◌<◌, ◌⊎◌, inl, inr, refl, ap, sym, ◌∙◌, arith, Bool, true, false, ◌&&◌, ◌||◌, not, List, [], ◌∷◌, length}
 use Rattle.std.specs.Prelude.{IsTrue, Option, Some, None, count_by, ◌==◌}
 use Rattle.std.specs.List.{list_any}
@@ -19,13 +19,13 @@ use Rattle.step_order.proofs.Voxels.{coordinates_within, in_coordinates}
 use Rattle.support_forest.proofs.Counts.{count_more}
 use Rattle.support_forest.proofs.Levels.{same_point_itself}
 
--- ---- what is held up by a path of at most n + 1 voxels
+-- ---- the voxels supported by a path of at most n + 1 voxels
 
 abbrev reached : Matrix → ℕ → Coord → Bool
 reached m zero c = is_full m c && c.y == 0
 reached m (suc n) c = reached m n c || (is_full m c && list_any (λ d. are_adjacent c d && reached m n d) (all_of m))
 
--- whether the voxel is held up by one beside it
+-- whether a neighbor supports the voxel
 abbrev holds : Matrix → ℕ → Coord → Coord → Bool
 holds m n c d = are_adjacent c d && reached m n d
 
@@ -77,7 +77,7 @@ reached_by m (suc n) a (b ∷ path) p l =
     held m n a b (first_of_two (is_full m a) (are_adjacent a b) step) (second_of_two (is_full m a) (are_adjacent a b) step)
     (reached_by m n b path (second_of_two (is_full m a && are_adjacent a b) (is_path m (b ∷ path)) p) (omega arith))
 
--- no path of at most n + 1 voxels leads from what they do not hold up
+-- no path of at most n + 1 voxels leads from a voxel that they do not support
 too_short : (m : Matrix) (n : ℕ) (a : Coord) (path : List Coord) → reached m n a ≡ false → IsTrue (is_path m (a ∷ path))
     → n < length path
 too_short m n a path f p = elim (cases_lt n (length path)) [ inl l ↦ l | inr l ↦ absurd (not_both (reached_by m n a path p l) f) ]
@@ -119,7 +119,7 @@ level_some m (suc n) c h = by (true_or_false (reached m n c)) (level_some m n c)
     by (inl e) before = before e
     by (inr e) before = (suc n, level_least m n c h e)
 
--- ---- a number from which on no more is held up
+-- ---- a number from which on no more voxels are supported
 
 abbrev Stays : Matrix → ℕ → Type 0
 Stays m n = (c : Coord) → reached m (suc n) c ≡ true → reached m n c ≡ true
@@ -136,7 +136,7 @@ no_level : (m : Matrix) (n : ℕ) (c : Coord) → Stays m n → reached m n c �
 no_level m n c stays f ([], p) = cc
 no_level m n c stays f (a ∷ path, p) = not_both (ap (reached m n) (begins c a path m p) ∙ reached_all m n stays a path (second_of_two (same_point (point c) (point a)) (is_path m (a ∷ path)) p)) f
 
--- whether one voxel more holds it up
+-- whether a path with one more voxel supports it
 abbrev is_new : Matrix → ℕ → Coord → Bool
 is_new m n c = reached m (suc n) c && not (reached m n c)
 
@@ -185,7 +185,7 @@ pub levels_of : (m : Matrix) (cs : List Coord) → (levels : List (Option ℕ)) 
 levels_of m [] = ([], tt)
 levels_of m (c ∷ cs) = let the_level = level_of m c in let more = levels_of m cs in (the_level.0 ∷ more.0, (the_level.1, more.1))
 
--- ---- what is not grounded
+-- ---- ungrounded voxels
 
 grounded_or_not : (m : Matrix) (c : Coord) (level : Option ℕ) → Level m c level → Grounded m c ⊎ (Grounded m c → ⊥)
 grounded_or_not m c None h = inr h

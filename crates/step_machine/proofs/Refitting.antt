@@ -36,7 +36,7 @@ pub back_of : (xs ys slice back : List Coord) (n : ℕ) → slice ≡ xs ++ ys �
     → back ≡ ys
 back_of xs ys slice back n e f g = g ∙ ((λ i. drop (f i) (e i)) ∙ drop-append_seam xs ys)
 
--- ---- a voxel changes only where some command is an edit
+-- ---- a voxel changes only if some command is an edit
 
 edit_by : (full : Bool) (b : Bot) (k : Command) (c : Coord) → is_edited full (act b k) c ≡ true → is_edit k ≡ true
 edit_by full b (Fill d) c h = refl
@@ -65,7 +65,7 @@ module _ (s : State) (commands : List Command) (step : ℕ) (ready : IsReady s) 
   good : IsGood s (acts s.bots commands)
   good = good_is s commands step ready keeps
 
-  -- there is room for what they change
+  -- the list has room for their changes
   pub room_for_all : length s.bots ≤ 40 → AreCommands commands
       → edits_total s.matrix true (leaders (acts s.bots commands))
       + edits_total s.matrix false (leaders (acts s.bots commands)) ≤ 148955
@@ -88,8 +88,8 @@ module _ (s : State) (commands : List Command) (step : ℕ) (ready : IsReady s) 
     pub refitted : (new : Matrix) → AreAdded between new back → new ≡ (after s commands).matrix
     refitted new won = new_is s (acts s.bots commands) good between lost_is new (subst (λ (cells : List Coord). AreAdded between new cells) g won)
 
-  -- the forest is that of the step's state, and the touches are paid for, where it lost what is voided and gained what
-  -- is filled
+  -- the forest is that of the step's state and the touches are paid for, if it lost the voided voxels and gained the filled
+  -- ones
   pub is_refitted : (old between : Matrix) (forest : Standing) (front back : List Coord)
       (before listed middle after : ℕ) → old ≡ s.matrix → front ≡ edits_of s commands true
       → back ≡ edits_of s commands false → listed ≤ before + 96 * volatile_total s.matrix (acts s.bots commands)
@@ -106,7 +106,7 @@ module _ (s : State) (commands : List Command) (step : ℕ) (ready : IsReady s) 
             (λ first last a b. lose first last (subst (λ (m : Matrix). Levels m first) (sym e) a) b) win w;
       }
 
-  -- a voxel changes only where some command is an edit
+  -- a voxel changes only if some command is an edit
   pub edits_some : (full : Bool) (cells : List Coord) → cells ≡ edits_of s commands full → 1 ≤ length cells
       → 1 ≤ count_by is_edit commands
   edits_some full [] e h = absurd (omega arith)
@@ -115,7 +115,7 @@ module _ (s : State) (commands : List Command) (step : ℕ) (ready : IsReady s) 
       let witness = any_in (λ a. is_edited full a c) (acts s.bots commands) (cell_of s (acts s.bots commands) good full c member).2 in
       counted s.bots commands witness.0 witness.1 (edit_by full witness.0.bot witness.0.command c witness.2)
 
--- ---- nothing was lost, or gained
+-- ---- no loss, or no gain
 
 pub lost_none : (m : Matrix) → length m.voxels ≡ volume m.resolution → AreRemoved m m []
 lost_none m whole = record { resolution = refl; whole = whole; full = λ c h. h; kept = λ c h. inl h; gone = λ c i. absurd (held c [] i) }

@@ -1,4 +1,4 @@
--- The region that a command fills or voids, and the coordinates that it has.
+-- The region that a command fills or voids, and its coordinates.
 use Rattle.std.proofs.Common.{◌≡◌, ℕ, refl, sym, ◌∙◌, ap, List, [], ◌∷◌, Bool, true, false, cond, ◌||◌, not}
 use Rattle.std.specs.Bool.{beq}
 use Rattle.std.specs.List.{list_any}
@@ -26,7 +26,7 @@ one s spans c e = or_false (is_within s (point c)) ∙ ap (λ ts. list_any (λ t
 none : (spans : List Span) (c : Coord) → spans ≡ [] → false ≡ list_any (λ t. is_within t (point c)) spans
 none spans c e = ap (λ ts. list_any (λ t. is_within t (point c)) ts) (sym e)
 
--- the region is edited so, where it is not as it is to be
+-- the region is edited, unless it is already as it should be
 pub edits_region : (r : ℕ) (b : Bot) (k : Command) (w : EditedRegion) (full : Bool) → IsEditedRegion r b k w
     → beq w.full full ≡ false → (c : Coord) → is_within (span w.region) (point c) ≡ is_edited full (act b k) c
 edits_region r b k w full h e c = h.covers (point c) ∙ by w.full full h.filled h.voided e
@@ -39,7 +39,7 @@ edits_region r b k w full h e c = h.covers (point c) ∙ by w.full full h.filled
     by false true p q e = one h.named (voided (point b.pos) k) c q
     by false false p q e = cc
 
--- and else nothing is
+-- nothing else is edited
 pub edits_nothing : (r : ℕ) (b : Bot) (k : Command) (w : EditedRegion) (full : Bool) → IsEditedRegion r b k w
     → beq w.full full ≡ true → (c : Coord) → false ≡ is_edited full (act b k) c
 edits_nothing r b k w full h e c = by w.full full h.filled h.voided e

@@ -1,4 +1,4 @@
--- How many voxels the groups of a step change at most.
+-- A bound on the voxels that the groups of a step change.
 use Rattle.std.proofs.Common.{◌≡◌, ℕ, suc, ◌+◌, ◌*◌, ◌≤◌, ◌^◌, ◌||◌, ◌==◌, not, refl, sym, ◌∙◌, ap, inl, inr, arith, List, [], ◌∷◌, Bool, true, false, cond, length, length-append, subst}
 use Rattle.std.specs.Prelude.{count_by, sum_by, flat_map, ℤ, nat_le}
 use Rattle.std.specs.List.{list_any}
@@ -77,7 +77,7 @@ far_most p f h = let bounds = far_bounds f h in region_most (between p (plus p f
 just_one : (p : Point) → size (just p) ≡ 1
 just_one p = λ i. extent_itself p.x i * extent_itself p.y i * extent_itself p.z i
 
--- ---- how many coordinates an act edits
+-- ---- the number of coordinates that an act edits
 
 pub count_none : (xs : List Coord) → count_by (λ c. false) xs ≡ 0
 count_none [] = refl
@@ -89,11 +89,11 @@ count_one m s =
     let region_bound = region_count_most m.resolution s in
     omega (arith, same_count, region_bound)
 
--- how many coordinates an act voids or fills
+-- the number of coordinates that an act voids or fills
 abbrev edits_of : Matrix → Act → ℕ
 edits_of m a = edit_count m true a + edit_count m false a
 
--- the size of what an act voids or fills, by the number of members that its group needs
+-- the size of an act's edit, by the number of members that its group needs
 abbrev Fits : Act → ℕ → Type 0
 Fits a n = (list_any (λ s. not (n == 2 ^ dimension s)) (group_regions (position a) a.command) ≡ false) × (1 ≤ n)
 

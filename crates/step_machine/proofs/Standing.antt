@@ -1,4 +1,4 @@
--- A machine that is made anew in the state of another.
+-- A new machine in the state of another.
 use Rattle.std.proofs.Common.{◌≡◌, ℕ, ◌≤◌, sym, subst, List}
 use Rattle.std.specs.Prelude.{ℤ}
 use Rattle.nano_spec.specs.declared.system.Bot.{Bot}

@@ -1,4 +1,4 @@
--- What comes of a step.
+-- The outcome of a step.
 use Rattle.std.proofs.Common.{◌≡◌, ℕ, ◌+◌, ◌≤◌, ◌<◌, ◌%◌, ◌==◌, refl, sym, ◌∙◌, ap, subst, inl, inr, ◌⊎◌, arith, List, [], ◌∷◌, ◌++◌, Bool, true, false, cond, map, length}
 use Rattle.std.specs.Prelude.{ℤ, pos, ◌+ℤ◌, ◌<ℤ◌, Option, Some, None, count_by, option_map, slice_get, MatchBool}
 use Rattle.std.proofs.lemmas.Int.{ints}
@@ -46,9 +46,9 @@ pub harmonics_are : (s : State) (commands : List Command) (before after_them : H
     → after_them ≡ (after s commands).harmonics
 harmonics_are s commands before after_them h e f = f ∙ ((λ i. cond (count_by is_flip commands % 2 == 1) (flipped (e i)) (e i)) ∙ ap (λ n. cond (n % 2 == 1) (flipped s.harmonics) s.harmonics) (sym (flips s.bots commands h)))
 
--- ---- what comes of the step, by the least voxel that is not held up
+-- ---- the outcome of the step, by the least ungrounded voxel
 
--- the harmonics and the matrix after the step, as the machine has them, and the voxel that it found
+-- the machine's harmonics and matrix after the step, and the voxel that it found
 pub record IsFound (s : State) (commands : List Command) (harmonics : Harmonics) (matrix : Matrix) (at : Option Coord) : Type 0 where
   pub harmonics_is : harmonics ≡ (after s commands).harmonics
   pub matrix_is : matrix ≡ (after s commands).matrix
@@ -87,7 +87,7 @@ goes s t commands step h m at e f g same = by (after s commands).harmonics refl 
     by High i n = accepts e (λ low. cc) (ap Goes same)
     by Low i n = accepts e (λ low. subst (λ (o : Option Coord). FirstUngrounded (after s commands).matrix o) g n) (ap Goes same)
 
--- ---- the rules that are judged at the start of a step are not that of grounding
+-- ---- the rules judged at the start of a step exclude that of grounding
 
 pub first_in : {A : Type 0} (xs : List (Option A)) (a : A) → first_value xs ≡ Some a → In (Some a) xs
 first_in [] a e = cc
@@ -145,7 +145,7 @@ paid_on e f steps p up down = record { above = omega (arith, ints, p.above, up);
 
 -- ---- the step of a machine
 
--- a machine's parts and what is seen of them
+-- a machine's parts and its situation
 abbrev pub seen : State → ℕ → Bool → Situation
 seen s steps spent = record { state = s; steps = steps; spent = spent }
 
@@ -167,7 +167,7 @@ sound_on s t commands old new changed list steps spent v sound e few is stands t
   few = few_steps s steps spent v e few;
 }
 
--- a machine that is spent is sound whatever its forest is
+-- a poisoned machine is consistent, whatever its forest
 pub sound_spent : (s : State) (old new : Standing) (changed list : Changes) (steps : ℕ) (spent : Bool)
     → IsConsistent s old changed steps spent → MOST_CHANGED ≤ list.spare + length list.items
     → IsConsistent s new list steps true

@@ -1,4 +1,4 @@
--- The step of the only bot by a straight move: the matrix stays as it is.
+-- The step of the only bot by `SMove`: the matrix stays as it is.
 use Rattle.std.proofs.Common.{◌≡◌, ℕ, refl, sym, ◌∙◌, ap, subst, arith, List, [], ◌∷◌, false, length}
 use Rattle.std.specs.Prelude.{Option, None, MatchBool}
 use Rattle.vox_geom.specs.declared.coordinate.Coord.{Coord}
@@ -38,7 +38,7 @@ module _ (s : State) (d : Diff) (one : length s.bots ≡ 1) (whole : IsWhole s.m
   harmonics_stay : s.harmonics ≡ (after s (SMove d ∷ [])).harmonics
   harmonics_stay = let only = only_bot s.bots one in sym (ap (λ (bots : List Bot). harmonics_after s.harmonics (acts bots (SMove d ∷ []))) only.1)
 
-  -- the step goes to its state, of which the forest is one
+  -- the step goes to its state, and the forest is that state's
   pub still : (step : ℕ) (forest : Standing) (now : ℕ) → broken s (SMove d ∷ []) step ≡ None
       → (s.harmonics ≡ Low → FirstUngrounded s.matrix None) → forest.matrix ≡ s.matrix → forest.spent ≡ false
       → IsSettled s (SMove d ∷ []) step forest now now

@@ -1,4 +1,4 @@
--- The note of a step, and the step that is taken back by it.
+-- The note of a step, and the undo by it.
 use Rattle.std.proofs.Common.{◌≡◌, ◌≢◌, ℕ, ◌+◌, ◌*◌, ◌≤◌, refl, sym, ◌∙◌, ap, subst, inl, inr, ◌⊎◌, arith, List, ◌++◌, Bool, true, false, cond, ◌&&◌, ◌||◌, length, length-append, get_or}
 use Rattle.std.specs.Prelude.{All, IsTrue, IsFalse, None, not}
 use Rattle.std.specs.List.{AllPairs, Contains}
@@ -78,7 +78,7 @@ added_is old new cells a =
     by d true e = a.added d (holds d cells (of_among cells d e))
     by d false e = same_truth (is_full new d) (is_full old d) (λ f. old_one d (λ i. not_both (among cells d i) e) (a.full d f)) (a.kept d)
 
--- ---- what may be taken back
+-- ---- the condition of an undo
 
 in_each : {P : Coord → Type 0} (cells : List Coord) → ((c : Coord) → In c cells → P c) → All P cells
 in_each cells h k d l = h (get_or cells k d) (place_in d cells k l)
@@ -104,7 +104,7 @@ may_gain_back m n undo e h = subst (λ (x : Matrix). MayAdd (without_filled x un
     void_still true full f = refl
     void_still false full f = f
 
--- the machine's parts belong together in the state that a note tells, where the machine is spent or its forest is that
+-- the machine's parts are consistent in the state of the note, if the machine is poisoned or its forest is that
 -- state's
 pub sound_restored : (s : State) (undo : Undo) (old : Standing) (changed : Changes) (steps : ℕ) (spent : Bool)
     → IsConsistent s old changed steps spent → MayUndo s undo → (now : State) (new : Standing) (spends : Bool)
@@ -138,7 +138,7 @@ module _ (s : State) (undo : Undo) (old : Standing) (changed : Changes) (steps :
       subst (λ (xs : List Coord). MayAdd (without_filled old.matrix xs) voided) (sym f)
       (subst (λ (ys : List Coord). MayAdd (without_filled old.matrix undo.filled.items) ys) (sym u) (may_gain_back old.matrix s.matrix undo (sound.tied unspent) here.voxels))
 
-  -- the machine's parts belong together again
+  -- the machine's parts are consistent again
   pub sound_back : (now : State) (new : Standing) (filled voided : List Coord) → filled ≡ undo.filled.items
       → voided ≡ undo.voided.items → now ≡ state_before s undo → new.spent ≡ false
       → new.matrix ≡ matrix_before old.matrix filled voided → IsConsistent now new changed undo.steps spent
@@ -163,7 +163,7 @@ module _ (s : State) (commands : List Command) (step : ℕ) (ready : IsReady s) 
   good : IsGood s (acts s.bots commands)
   good = good_is s commands step ready keeps
 
-  -- not many voxels change
+  -- a bound on the voxels that change
   pub few_change : IsWhole s.matrix → length (edits_of s commands true ++ edits_of s commands false) ≤ 64000000
   few_change whole =
       let length_is = length-append (edits_of s commands true) (edits_of s commands false) in
@@ -210,7 +210,7 @@ module _ (s : State) (commands : List Command) (step : ℕ) (ready : IsReady s) 
     pub note_holds : HaveChanged t.matrix undo
     note_holds = subst (λ (x : State). HaveChanged x.matrix undo) (sym is) have_changed
 
-    -- where the note names no voxel, nothing has changed
+    -- no other voxel has changed
     others_stay : (d : Coord) → IsInSpace s.matrix.resolution d → (In d undo.filled.items → ⊥)
         → (In d undo.voided.items → ⊥) → is_full (after s commands).matrix d ≡ is_full s.matrix d
     others_stay d w nf nv = now d w ∙ by (is_full s.matrix d) refl
@@ -255,7 +255,7 @@ module _ (s : State) (commands : List Command) (step : ℕ) (ready : IsReady s) 
     pub state_is_back : state_before t undo ≡ s
     state_is_back = ap (λ (x : State). state_before x undo) is ∙ (λ i. record { matrix = matrix_is_back i; harmonics = h.harmonics i; bots = h.crew i; energy = h.energy i; profile = s.profile })
 
-    -- what a machine in the state of a well-formed step may take back
+    -- a machine in a well-formed state may undo the step
     pub may_undo : s.profile.seeds ≤ 39 → undo.steps ≤ 1073741824 → IsEnergyBounded s.energy undo.steps → IsWellFormed s
         → MayUndo t undo
     may_undo seeds few paid formed = record {
@@ -263,7 +263,7 @@ module _ (s : State) (commands : List Command) (step : ℕ) (ready : IsReady s) 
       before = subst (λ (x : State). IsMachineState x undo.steps) (sym state_is_back) (record { well_formed = formed; within = ready.within; seeds = seeds; few = few; paid = paid });
     }
 
-    -- seen at a machine
+    -- the same for a machine
     pub note_may_undo : (old : Standing) (changed : Changes) (steps : ℕ) (spent : Bool) (v : Situation)
         → IsConsistent s old changed steps spent → seen s steps spent ≡ v → undo.steps + 1 ≡ steps + 1
         → IsWellFormed v.state → MayUndo t undo

@@ -31,7 +31,7 @@ turn_at all (a ∷ ls) [] i d h k = absurd h
 turn_at all (a ∷ ls) (t ∷ ts) zero d h k = (a, h.0, refl, inl refl)
 turn_at all (a ∷ ls) (t ∷ ts) (suc i) d h k = let turn = turn_at all ls ts i d h.1 (omega arith) in (turn.0, turn.1, turn.2 ∙ ap (λ k. turn.0 ∷ drop k (a ∷ ls)) (let successor_is : suc (i + 1) ≡ suc i + 1 = omega arith in successor_is), inr turn.3)
 
--- the act of a turn: its bot and its command stand at the turn's place
+-- the act of a turn: its bot and its command have the turn's index
 pub record IsHere (bots : List Bot) (commands : List Command) (ls : List Act) (i : ℕ) (t : Turn) : Type 0 where
   pub act : Act
   pub among_bots : t.place < length bots
@@ -57,11 +57,11 @@ here bots commands ls ts i t h k e =
     let act_there = act_at bots commands t.place turn.0 element_is in
     record { act = turn.0; among_bots = act_there.0; among_commands = act_there.1; bot = act_there.2; command = act_there.3; rest = turn.2; leads = turn.3 }
 
--- the turn that a read past the end would give
+-- the turn returned by a read past the end
 abbrev pub no_turn : Turn
 no_turn = record { leader = 0; place = 0; partner = 0 }
 
--- the bot that a read past the end would give
+-- the bot returned by a read past the end
 abbrev pub no_bot : Bot
 no_bot = record { bid = 0; pos = origin; seeds = 0 }
 
@@ -100,7 +100,7 @@ module _ (s : State) (commands : List Command) (bots : List Bot) (turns list : L
     pub turned_rest : drop i (leaders (acts s.bots commands)) ≡ turned ∷ drop (i + 1) (leaders (acts s.bots commands))
     turned_rest = here_is.rest ∙ ap (λ a. a ∷ drop (i + 1) (leaders (acts s.bots commands))) (sym turned_is)
 
--- ---- what one turn more lists
+-- ---- the voxels that one more turn lists
 
 totals : (m : Matrix) (full : Bool) (a : Act) (ls : List Act)
     → edits_total m full (a ∷ ls) ≡ edit_count m full a + edits_total m full ls

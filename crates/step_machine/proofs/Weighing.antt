@@ -55,7 +55,7 @@ next_at s commands step (Some b) e = (Breaks b, breaks_at_start b e refl)
 pub next_of : (s : State) (commands : List Command) (step : ℕ) → (o : Outcome) × Next s commands step o
 next_of s commands step = next_at s commands step (broken s commands step) refl
 
--- what is within each work of a step is within one
+-- a call within each work of a step is within one
 pub within_one : (s : State) (commands : List Command) (step began ended : ℕ)
     → ((n : ℕ) → WorkOfStep s commands step n → ended ≤ began + 100 * n) → IsWithinWork s commands step began ended
 within_one s commands step began ended h = let work = step_work s commands step in (work.0, work.1, h work.0 work.1)

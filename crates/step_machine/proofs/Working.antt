@@ -1,4 +1,4 @@
--- How often a step touches voxels, by its work.
+-- The touches of a step, bounded by its work.
 use Rattle.std.proofs.Common.{◌≡◌, ℕ, ◌+◌, ◌*◌, ◌≤◌, ◌<◌, refl, sym, ◌∙◌, ap, subst, inl, inr, ◌⊎◌, arith, List, [], ◌∷◌, ◌++◌, Bool, true, false, ◌&&◌, ◌||◌, not, length, length-append}
 use Rattle.std.specs.Prelude.{Option, Some, None, count_by, filter, sum_by, slice_get, option_map}
 use Rattle.std.specs.List.{list_any}
@@ -34,7 +34,7 @@ use Rattle.step_machine.proofs.Regions.{empties, other_edit}
 use Rattle.step_machine.proofs.Sizes.{count_none, no_more}
 use Rattle.step_machine.proofs.Stepping.{bots_rule, first_in, pairs_rule}
 
--- ---- what the groups name is volatile
+-- ---- the coordinates that the groups name are volatile
 
 edits_one : (m : Matrix) (a : Act) → edit_count m true a + edit_count m false a ≡ edit_count m (empties a.command) a
 edits_one m a = by (empties a.command) (other_edit a.bot a.command)
@@ -79,7 +79,7 @@ module _ (s : State) (commands : List Command) (step : ℕ) (ready : IsReady s) 
           let b = by ls (λ d i. h d (inr i)) in
           omega (arith, sum_is, first_of_sum, sum_is_here, volatile_bound, b)
 
-  -- ---- what they list changes
+  -- ---- the listed voxels change
 
   lost_differs : (c : Coord) → In c (edits_of s commands true)
       → differ_at s.matrix (matrix_after s.matrix (acts s.bots commands)) c ≡ true
@@ -120,7 +120,7 @@ module _ (s : State) (commands : List Command) (step : ℕ) (ready : IsReady s) 
       by c (inl i) = in_filter (differ_at s.matrix (matrix_after s.matrix (acts s.bots commands))) c (all_of s.matrix) (in_coordinates s.matrix.resolution c (cell_of s (acts s.bots commands) good true c i).0) (lost_differs c i)
       by c (inr i) = in_filter (differ_at s.matrix (matrix_after s.matrix (acts s.bots commands))) c (all_of s.matrix) (in_coordinates s.matrix.resolution c (cell_of s (acts s.bots commands) good false c i).0) (won_differs c i)
 
-  -- the touches of the list, of what is removed and of what is added
+  -- the touches of listing, removing and adding
   pub refit_touches : (between new : Matrix) (front back : List Coord) (before listed middle after n : ℕ)
       → between ≡ without_voided s.matrix (acts s.bots commands) → new ≡ matrix_after s.matrix (acts s.bots commands)
       → front ≡ edits_of s commands true → back ≡ edits_of s commands false
@@ -140,7 +140,7 @@ module _ (s : State) (commands : List Command) (step : ℕ) (ready : IsReady s) 
 
 -- ---- a step that is broken at its start
 
--- the trace ends within the step only where a bot has no command
+-- the trace ends within the step only if a bot has no command
 ends_early : (s : State) (commands : List Command) (step : ℕ) (b : Broken) → broken s commands step ≡ Some b
     → b.rule ≡ TraceEnds → length commands < length s.bots
 ends_early s commands step b e f = by (slice_get s.bots (length commands)) refl (first_in (judge_trace s commands step ∷ (judge_bots s (acts s.bots commands) step ++ judge_pairs s.matrix (acts s.bots commands) step (leaders (acts s.bots commands)))) b e)

@@ -1,4 +1,4 @@
--- What the groups of a step change in the matrix (docs/FORMATS.md, "Commands").
+-- The changes of the matrix by the groups of a step (docs/FORMATS.md, "Commands").
 use Rattle.std.specs.Prelude.{ℕ, Bool, true, false, cond, not, ◌&&◌, List, count_by, filter, flat_map, sum_by}
 use Rattle.std.specs.List.{list_any}
 use Rattle.vox_geom.specs.declared.coordinate.Coord.{Coord}
@@ -20,7 +20,7 @@ is_edit (GFill d f) = true
 is_edit (GVoid d f) = true
 is_edit _ = false
 
--- whether the command voids something, or else whether it fills something
+-- whether the command voids something (true), or fills something (false)
 abbrev pub is_change : Bool → Command → Bool
 is_change full (Void d) = full
 is_change full (GVoid d f) = full
@@ -28,15 +28,15 @@ is_change full (Fill d) = not full
 is_change full (GFill d f) = not full
 is_change full _ = false
 
--- what an act voids, or else what it fills
+-- the spans that an act voids (true), or fills (false)
 abbrev pub edited : Bool → Act → List Span
 edited full a = cond full (voided (position a) a.command) (filled (position a) a.command)
 
--- whether the coordinate is one that the act voids, or else one that it fills
+-- whether the act voids the coordinate (true), or fills it (false)
 abbrev pub is_edited : Bool → Act → Coord → Bool
 is_edited full a c = list_any (λ s. is_within s (point c)) (edited full a)
 
--- the voxels that the act changes by voiding, or else those that it changes by filling
+-- the voxels that the act changes by voiding (true), or by filling (false)
 abbrev pub cells_of : Matrix → Bool → Act → List Coord
 cells_of m full a = filter (λ c. is_state m full c && is_edited full a c) (all_of m)
 
@@ -44,14 +44,14 @@ cells_of m full a = filter (λ c. is_state m full c && is_edited full a c) (all_
 abbrev pub cells_of_all : Matrix → Bool → List Act → List Coord
 cells_of_all m full leaders = flat_map (cells_of m full) leaders
 
--- the voxels that the commands of a step change by voiding, or else by filling
+-- the voxels that the commands of a step change by voiding (true), or by filling (false)
 abbrev pub edits_of : State → List Command → Bool → List Coord
 edits_of s commands full = cells_of_all s.matrix full (leaders (acts s.bots commands))
 
--- how many coordinates an act voids, or else fills
+-- the number of coordinates that an act voids (true), or fills (false)
 abbrev pub edit_count : Matrix → Bool → Act → ℕ
 edit_count m full a = count_by (is_edited full a) (all_of m)
 
--- how many coordinates the groups of these leaders void, or else fill
+-- the number of coordinates that the groups of these leaders void (true), or fill (false)
 abbrev pub edits_total : Matrix → Bool → List Act → ℕ
 edits_total m full leaders = sum_by (edit_count m full) leaders

@@ -1,4 +1,4 @@
--- What comes of a step that breaks no rule at its start, before its groups act.
+-- The outcome of a step that breaks no rule at its start, before its groups act.
 use Rattle.std.specs.Prelude.{◌≡◌, ◌⊎◌, ℕ, ◌+◌, ◌*◌, ◌≤◌, Bool, List, [], ◌∷◌, None, true, false, length}
 use Rattle.vox_geom.specs.declared.coordinate.Coord.{Coord}
 use Rattle.vox_geom.specs.declared.difference.Diff.{Diff}
@@ -35,8 +35,8 @@ IsPaidBy s commands began ended =
     (n : ℕ) → WorkOfActs s.matrix (acts s.bots commands) n
     → ended + 4 * volatile_total s.matrix (acts s.bots commands) ≤ began + 100 * n
 
--- what the groups of a step change may be listed and made: the turns are those of the leaders, the list has room for
--- all that a step changes, and the forest is one of the state's matrix
+-- the changes of a step may be listed and made: the turns are those of the leaders, the list has room for all changes, and the
+-- forest is one of the state's matrix
 pub record IsPrepared (s : State) (all : List Command) (taken : List Turn) (list : Changes) (forest : Standing)
     : Type 0 where
   pub commands : AreCommands all
@@ -56,15 +56,15 @@ pub record CanRefit (s : State) (commands : List Command) (forest : Standing) : 
   pub stands : forest.spent ≡ false
   pub tied : forest.matrix ≡ s.matrix
 
--- the step breaks no rule at its start, and what its groups change may be listed and made
+-- the step breaks no rule at its start, and the changes of its groups may be listed and made
 pub record CanBeSettled (s : State) (commands : List Command) (step : ℕ) (taken : List Turn) (list : Changes)
     (forest : Standing) : Type 0 where
   pub judged : broken s commands step ≡ None
   pub few : length commands ≤ length s.bots
   pub prepared : IsPrepared s commands taken list forest
 
--- the step is one of the only bot, which fills the voxel at the coordinate, or else voids it, and the forest is one of
--- the state's matrix
+-- the step is one of the only bot, which fills the voxel (or voids it), and the forest is one of the state's
+-- matrix
 pub record CanEditOne (s : State) (commands : List Command) (d : Diff) (at : Coord) (full : Bool) (forest : Standing)
     : Type 0 where
   pub one : length s.bots ≡ 1
@@ -74,7 +74,7 @@ pub record CanEditOne (s : State) (commands : List Command) (d : Diff) (at : Coo
   pub stands : forest.spent ≡ false
   pub tied : forest.matrix ≡ s.matrix
 
--- the region is what the act voids, and the act fills nothing
+-- the region is the one that the act voids, and the act fills nothing
 pub record IsVoidedRegion (m : Matrix) (a : Act) (k : Corners) : Type 0 where
   pub ordered : IsOrdered k
   pub within : IsInSpace m.resolution k.high
@@ -109,13 +109,13 @@ pub record IsFloating (s : State) (commands : List Command) (step : ℕ) (b : Br
   pub rule : b.rule ≡ Ungrounded
   pub touches : IsPaidBy s commands (began + volume s.matrix.resolution) ended
 
--- the step is not made: it breaks the rule of grounding, or memory was refused
+-- the step is not made: it breaks the rule of grounding, or allocation fails
 abbrev pub IsUnsettled : State → List Command → ℕ → StepFault → ℕ → ℕ → Type 0
 IsUnsettled s commands step (fault.Broken b) began ended = IsFloating s commands step b began ended
 IsUnsettled s commands step fault.Memory began ended = Unit {0}
 IsUnsettled s commands step fault.Spent began ended = ⊥
 
--- a try to make a step at once, that was declined, touched no voxel, or only a few where no rule is broken that is
--- judged at the start
+-- a fast path that was not applicable touched no voxel, or only a few if no rule is broken that is judged at the
+-- start
 abbrev pub IsDeclined : State → List Command → ℕ → ℕ → ℕ → Type 0
 IsDeclined s commands step began ended = (ended ≡ began) ⊎ ((broken s commands step ≡ None) × (ended ≤ began + 9))

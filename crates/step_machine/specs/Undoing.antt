@@ -1,4 +1,4 @@
--- A step that is taken back.
+-- A step that is undone.
 use Rattle.std.specs.Prelude.{◌≡◌, ◌≢◌, ℕ, ◌+◌, ◌*◌, ◌≤◌, ℤ, List, length, Option, true, false, Result, Ok, Err, IsTrue, IsFalse, All, AllPairs}
 use Rattle.vox_geom.specs.declared.coordinate.Coord.{Coord}
 use Rattle.vox_geom.specs.Space.{IsInSpace}
@@ -21,7 +21,7 @@ abbrev pub state_with : Matrix → List Bot → Harmonics → ℤ → Profile �
 state_with matrix bots harmonics energy profile =
     record { matrix = matrix; harmonics = harmonics; bots = bots; energy = energy; profile = profile }
 
--- a machine can stand in the state, after so many steps
+-- a machine can have the state, after `steps` steps
 pub record IsMachineState (s : State) (steps : ℕ) : Type 0 where
   pub well_formed : IsWellFormed s
   pub within : All (λ b. IsInSpace s.matrix.resolution b.pos) s.bots
@@ -37,14 +37,14 @@ without_filled m filled = with_cells m filled false
 abbrev pub matrix_before : Matrix → List Coord → List Coord → Matrix
 matrix_before m filled voided = with_cells (without_filled m filled) voided true
 
--- the state that the note tells, from the state after its step on
+-- the state of the note, computed from the state after its step
 abbrev pub state_before : State → Undo → State
 state_before s undo =
     state_with (matrix_before s.matrix undo.filled.items undo.voided.items) undo.crew undo.harmonics undo.energy
     s.profile
 
--- the voxels of the note have changed as it says: they are in space and all differ, those that became full are full,
--- and those that became void are void
+-- the voxels of the note have changed accordingly: they are in space and all differ, those that became full are full, and those
+-- that became void are void
 pub record HaveChanged (m : Matrix) (undo : Undo) : Type 0 where
   pub filled_within : All (λ c. IsInSpace m.resolution c) undo.filled.items
   pub voided_within : All (λ c. IsInSpace m.resolution c) undo.voided.items
@@ -53,13 +53,13 @@ pub record HaveChanged (m : Matrix) (undo : Undo) : Type 0 where
   pub filled : All (λ c. IsTrue (is_full m c)) undo.filled.items
   pub voided : All (λ c. IsFalse (is_full m c)) undo.voided.items
 
--- the step of the note can be taken back in the state: its voxels have changed, and a machine can stand in the state
--- that it tells
+-- the step of the note can be undone in the state: its voxels have changed, and a machine can have the state of the
+-- note
 pub record MayUndo (s : State) (undo : Undo) : Type 0 where
   pub voxels : HaveChanged s.matrix undo
   pub before : IsMachineState (state_before s undo) undo.steps
 
--- the note of a step: what there was before it, and the voxels that it changes
+-- the note of a step: the state before it, and the voxels that it changes
 pub record IsNote (s : State) (commands : List Command) (step : ℕ) (undo : Undo) : Type 0 where
   pub crew : undo.crew ≡ s.bots
   pub harmonics : undo.harmonics ≡ s.harmonics
@@ -68,7 +68,7 @@ pub record IsNote (s : State) (commands : List Command) (step : ℕ) (undo : Und
   pub filled : undo.filled.items ≡ edits_of s commands false
   pub voided : undo.voided.items ≡ edits_of s commands true
 
--- what a step answers, without its note
+-- the answer to a step, without its note
 abbrev pub without_note : Result (StepOk × Undo) StepFault → Result StepOk StepFault
 without_note (Ok made) = Ok made.0
 without_note (Err fault) = Err fault
@@ -82,12 +82,12 @@ pub record LevelsThrough (old between new : Matrix) : Type 0 where
   pub middle_are : Levels between middle
   pub last_are : Levels new last
 
--- how many voxels change their level by the first of two changes, and how many by the second
+-- the number of voxels whose level changes by the first of two changes, and by the second
 abbrev pub levels_moved : {old between new : Matrix} → LevelsThrough old between new → ℕ
 levels_moved levels = differing levels.first levels.middle + differing levels.middle levels.last
 
--- a step is taken back by at most a hundred touches for each voxel of its note, for each voxel whose level changes by
--- what is made void, and for each whose level changes then by what is made full
+-- an undo takes at most a hundred touches for each voxel of its note, for each voxel whose level changes by voiding, and for
+-- each whose level then changes by filling
 abbrev pub IsUndoneBy : Matrix → List Coord → List Coord → ℕ → ℕ → Type 0
 IsUndoneBy m filled voided began ended =
     (levels : LevelsThrough m (without_filled m filled) (matrix_before m filled voided))

@@ -1,4 +1,4 @@
-//! Which voxels the groups of a step change.
+//! The voxels that the groups of a step change.
 ghost use Rattle.std.specs.Prelude.{◌≡◌, ◌+◌, ◌≤◌, ◌&&◌, ◌++◌, filter, length, IsTrue};
 ghost use Rattle.std.specs.List.{list_any};
 ghost use Rattle.vox_geom.specs.Point.{point};
@@ -18,7 +18,7 @@ use system_state::{System, Turns, edited_region};
 use vox_geom::{Region, Steps};
 use vox_planes::{ChangeList, Planes};
 
-/// Appends the full voxels of a region, or else its void ones.
+/// Appends the full voxels of a region if `full`, its void ones otherwise.
 fn list_region<L: Ledger>(
     matrix: &Planes,
     region: Region,
@@ -41,7 +41,7 @@ fn list_region<L: Ledger>(
     }
 }
 
-/// Appends the voxels that the command of a bot changes by voiding, or else those that it changes by filling.
+/// Appends the voxels that the command of a bot voids if `full`, or those that it fills otherwise.
 fn list_change<L: Ledger>(
     matrix: &Planes,
     bot: &Bot,
@@ -67,7 +67,7 @@ fn list_change<L: Ledger>(
     list_region(matrix, edited.region, full, list, steps);
 }
 
-/// Whether the command voids something, or else whether it fills something.
+/// Returns whether the command voids something if `full`, or fills something otherwise.
 fn is_change(command: &Command, full: bool) -> bool
     ensures { result ≡ is_change full command.now }
 {
@@ -78,14 +78,14 @@ fn is_change(command: &Command, full: bool) -> bool
     }
 }
 
-/// Whether some of the commands voids something, or else whether some fills something.
+/// Returns whether any command voids something if `full`, or fills something otherwise.
 fn some_change(commands: &[Command], full: bool) -> bool
     ensures { result ≡ list_any (is_change full) commands.now }
 {
     commands.iter().any(|command| is_change(command, full))
 }
 
-/// Appends the voxels that the groups of a step change by voiding, or else those that they change by filling.
+/// Appends the voxels that the groups of a step void if `full`, or those that they fill otherwise.
 pub(crate) fn list_changes<L: Ledger>(
     system: &System,
     commands: &[Command],

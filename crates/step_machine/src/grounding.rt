@@ -1,4 +1,4 @@
-//! Whether all full voxels are grounded after a step under Low.
+//! The search for ungrounded voxels after a step under Low.
 ghost use Rattle.std.specs.Prelude.{◌≡◌, ◌+◌, ◌≤◌, ◌%◌, ◌==◌, false, count_by, cond, IfNone, MatchBool, None};
 ghost use Rattle.nano_spec.specs.Act.{is_flip};
 ghost use Rattle.nano_spec.specs.Grounded.{FirstUngrounded};
@@ -11,7 +11,7 @@ use std::sync::ledger::Ledger;
 use support_forest::Forest;
 use vox_geom::{Coord, Steps};
 
-/// The harmonics after a step: the others where the number of Flips is odd.
+/// Returns the harmonics after a step: the opposite if the number of Flips is odd.
 pub(crate) fn harmonics_after(harmonics: Harmonics, commands: &[Command]) -> Harmonics
     ensures { result ≡ cond (count_by is_flip commands.now % 2 == 1) (flipped harmonics) harmonics }
 {
@@ -23,14 +23,14 @@ pub(crate) fn harmonics_after(harmonics: Harmonics, commands: &[Command]) -> Har
     }
 }
 
-/// Whether the command is a Flip.
+/// Returns whether the command is a Flip.
 fn is_flip(command: &Command) -> bool
     ensures { result ≡ is_flip command.now }
 {
     matches!(command, Command::Flip)
 }
 
-/// The least full voxel that is not held up, under Low, where each has to be. Only where there is one are voxels read.
+/// Returns the least full voxel that is not grounded, if Low requires all to be. Reads voxels only if there is one.
 pub(crate) fn find_ungrounded<L: Ledger>(
     forest: &Forest,
     harmonics: Harmonics,

@@ -1,4 +1,4 @@
-//! The machine: it makes the steps of a run, and keeps for each full voxel how it is held up.
+//! The step machine: makes the steps of a run and keeps the level of every full voxel up to date.
 #![tactic(auto)]
 
 mod changes;
@@ -12,5 +12,6 @@ mod undo;
 pub use machine::{Machine, StepFault, StepOk, Tried};
 pub use undo::Undo;
 
-/// The most voxels that the groups of a step change: a group command changes 31 * 31 * 31 at most, and such a one takes 8 of 40 bots.
+/// Bound on the voxels that the groups of a step change: a group command changes at most 31 * 31 * 31, and such a command needs 8
+/// of 40 bots.
 pub(crate) const MOST_CHANGED: u32 = 148_955;

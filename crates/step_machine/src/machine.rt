@@ -40,21 +40,21 @@ use system_state::{System, Turns, recall_all};
 use vox_geom::{Coord, Memory, Steps};
 use vox_planes::{ChangeList, Planes};
 
-/// What a step came to that was accepted: the energy so far, and whether no bot is left.
+/// The result of an accepted step: the energy so far, and whether no bot is left.
 #[derive(Clone, Copy, PartialEq, Eq, Debug)]
 pub struct StepOk {
     pub energy: i64,
     pub halted: bool,
 }
 
-/// Why a step was not made.
+/// The reason why a step was not made.
 #[derive(Clone, Copy, PartialEq, Eq, Debug)]
 pub enum StepFault {
     /// The commands break this rule.
     Broken(Broken),
-    /// Memory was refused: the machine is spent.
+    /// Allocation failed: the machine is poisoned.
     Memory,
-    /// An earlier step broke the rule of grounding, or was refused memory.
+    /// The machine is poisoned: an earlier step broke the rule of grounding or ran out of memory.
     Spent,
 }
 
@@ -66,7 +66,7 @@ impl From<Memory> for StepFault {
     }
 }
 
-/// The machine. Contracts see the state of the system, how many steps were made, and whether the machine is spent.
+/// The machine. Contracts see the state of the system, the number of steps made, and whether the machine is poisoned (`spent`).
 #[derive(Drop)]
 pub struct Machine {
     alloc: Global,
@@ -88,7 +88,7 @@ impl Model for Machine {
     ghost invariant = { λ m. IsConsistent m.system m.forest m.changed m.steps m.spent };
 }
 
-/// What every step keeps: it changes the energy by little, and it leads from a well-formed state to such a state.
+/// Proof aid: every step changes the energy by little and leads from a well-formed state to another. No effect.
 #[inline(always)]
 fn recall_step(system: &System, commands: &[Command])
     ensures commands { AreCommands commands.now }
@@ -103,7 +103,7 @@ fn recall_step(system: &System, commands: &[Command])
     system.recall();
 }
 
-/// What a step answers that leads to the system's state.
+/// Returns the answer to a step that leads to the system's state.
 #[inline(always)]
 fn tell_made(system: &System) -> StepOk
     ensures energy { result.energy ≡ system.now.energy }
@@ -116,7 +116,7 @@ fn tell_made(system: &System) -> StepOk
 }
 
 impl Machine {
-    /// The machine before the first step, in the opening state of a source whose full voxels are grounded.
+    /// Returns the machine before the first step, in the opening state of a source whose full voxels are grounded.
     pub fn start<L: Ledger>(
         alloc: Global,
         source: Planes,
@@ -146,7 +146,7 @@ impl Machine {
         })
     }
 
-    /// The machine in the state of these parts, after so many steps. At most 91 touches for each voxel.
+    /// Returns a machine in the state of these parts, after `steps_done` steps. At most 91 touches for each voxel.
     pub fn at<L: Ledger>(
         alloc: Global,
         matrix: Planes,
@@ -177,7 +177,7 @@ impl Machine {
         })
     }
 
-    /// Another machine in the state of this one, after as many steps, which is not spent. At most 91 touches for each voxel.
+    /// Returns another machine in the same state after as many steps, which is not poisoned. At most 91 touches for each voxel.
     pub fn anew<L: Ledger>(&self, alloc: Global, steps: &mut Steps<L>) -> Result<Machine, Memory>
         requires { IsWellFormed self.now.state }
         ensures value { IfOk result (λ m. m ≡ record self.now { spent = false }) }
@@ -196,7 +196,7 @@ impl Machine {
         )
     }
 
-    /// One step: the i-th command is for the i-th bot. Memory may be refused only where some command fills or voids.
+    /// Makes one step: the i-th command is for the i-th bot. Allocation may fail only if some command fills or voids.
     pub fn step<L: Ledger>(
         &mut self,
         commands: &[Command],
@@ -224,8 +224,8 @@ impl Machine {
         self.make_step(commands, None, steps)
     }
 
-    /// The same step with the same answer, its groups being applied one after another in the order of their leaders that is
-    /// given: some order of [`Machine::leaders`].
+    /// [`Machine::step`] with the groups applied one after another in the given order of their leaders, some order of
+    /// [`Machine::leaders`]. The answer is the same.
     pub fn step_in_order<L: Ledger>(
         &mut self,
         commands: &[Command],
@@ -245,7 +245,7 @@ impl Machine {
         self.make_step(commands, Some(order), steps)
     }
 
-    /// The bids of the leaders of the step's groups, in rising order, also where the step breaks a rule.
+    /// Returns the bids of the leaders of the step's groups, in rising order, even if the step breaks a rule.
     pub fn leaders(&self, commands: &[Command]) -> ArrayVec<u8, MOST_BOTS>
         requires { length commands.now ≡ length self.now.state.bots }
         ensures { result.items ≡ leader_bids (acts self.now.state.bots commands.now) }
@@ -253,7 +253,7 @@ impl Machine {
         leaders(self.system.crew(), commands)
     }
 
-    /// A step whose groups are applied in the order that is given, or else in rising order.
+    /// Makes a step. Its groups are applied in the given order, or in rising order without one.
     pub fn make_step<L: Ledger>(
         &mut self,
         commands: &[Command],
@@ -296,8 +296,8 @@ impl Machine {
         Ok(tell_made(&self.system))
     }
 
-    /// Does nothing: it recalls what the state keeps. Its bots are a crew, it is ready for a step, and its profile gives no more
-    /// seeds than there are bids.
+    /// Proof aid: exposes that the bots are a crew, that the state is ready for a step, and that the profile gives no more seeds
+    /// than there are bids. No effect.
     #[inline(always)]
     pub fn recall(&self)
         ensures crew { IsCrew self.now.state.bots }
@@ -307,14 +307,14 @@ impl Machine {
         self.system.recall();
     }
 
-    /// How many bots are active.
+    /// Returns the number of active bots.
     pub fn active(&self) -> u8
         ensures { result ≡ length self.now.state.bots }
     {
         self.system.crew().count()
     }
 
-    /// The energy spent so far.
+    /// Returns the energy spent so far.
     pub fn energy(&self) -> i64
         ensures value { result ≡ self.now.state.energy }
         ensures paid { IsEnergyBounded self.now.state.energy self.now.steps }
@@ -322,7 +322,7 @@ impl Machine {
         self.system.energy()
     }
 
-    /// The profile.
+    /// Returns the profile.
     pub fn profile(&self) -> Profile
         ensures value { result ≡ self.now.state.profile }
         ensures seeds { self.now.state.profile.seeds ≤ 39 }
@@ -331,14 +331,14 @@ impl Machine {
         self.system.profile()
     }
 
-    /// The state of the system, in which the commands of a step can be judged without being made.
+    /// Returns the state of the system, in which a caller can judge the commands of a step without making it.
     pub fn system(&self) -> &System
         ensures { result.now ≡ self.now.state }
     {
         &self.system
     }
 
-    /// How many steps were made, at most 2 to the power of 30.
+    /// Returns the number of steps made, at most 2 to the power of 30.
     pub fn steps_done(&self) -> u32
         ensures value { result ≡ self.now.steps }
         ensures most { result ≤ 1073741824 }
@@ -346,14 +346,14 @@ impl Machine {
         self.steps
     }
 
-    /// The harmonics.
+    /// Returns the harmonics.
     pub fn harmonics(&self) -> Harmonics
         ensures { result ≡ self.now.state.harmonics }
     {
         self.system.harmonics()
     }
 
-    /// The active bots, in rising order of their bids.
+    /// Returns the active bots, in rising order of their bids.
     pub fn crew(&self) -> &Crew
         ensures value { result.now ≡ self.now.state.bots }
         ensures crew { IsCrew self.now.state.bots }
@@ -362,7 +362,7 @@ impl Machine {
         self.system.crew()
     }
 
-    /// The matrix.
+    /// Returns the matrix.
     pub fn matrix(&self) -> &Planes
         ensures value { result.now ≡ self.now.state.matrix }
         ensures whole { IsWhole self.now.state.matrix }
@@ -370,7 +370,7 @@ impl Machine {
         self.system.matrix()
     }
 
-    /// The level of a voxel, or `None` where it is void or not grounded. At most two touches.
+    /// Returns the level of a voxel, or `None` if it is void or not grounded. At most two touches.
     pub fn level<L: Ledger>(&self, c: Coord, steps: &mut Steps<L>) -> Option<u32>
         requires stands { self.now.spent ≡ false }
         requires within { IsInSpace self.now.state.matrix.resolution c }
@@ -380,7 +380,7 @@ impl Machine {
         self.forest.level(c, steps)
     }
 
-    /// The levels of the matrix.
+    /// Returns the levels of the matrix.
     pub fn forest(&self) -> &Forest
         requires { self.now.spent ≡ false }
         ensures matrix { result.now.matrix ≡ self.now.state.matrix }
@@ -389,7 +389,7 @@ impl Machine {
         &self.forest
     }
 
-    /// Whether an earlier step broke the rule of grounding, or was refused memory.
+    /// Returns whether the machine is poisoned: an earlier step broke the rule of grounding or ran out of memory.
     pub fn spent(&self) -> bool
         ensures { result ≡ self.now.spent }
     {

@@ -1,4 +1,4 @@
-//! A step whose bots are all of one group, which voids a region: nothing else changes, and no voxel is listed.
+//! A step with one group that voids a region: nothing else changes, and no voxel is listed.
 ghost use Rattle.std.specs.Prelude.{◌≤◌, IsTrue, IfOk, IfErr, IfSome, count_by};
 ghost use Rattle.vox_geom.specs.Space.{IsInSpace};
 ghost use Rattle.nano_spec.specs.Act.{stays_in_space};
@@ -13,7 +13,7 @@ use system_state::{System, Turns, edited_region};
 use vox_geom::{Memory, Region, Steps};
 use vox_planes::Planes;
 
-/// The region that the command of a bot voids, where it voids one.
+/// Returns the region that the command of a bot voids, if it voids one.
 fn voided_region(matrix: &Planes, bot: &Bot, command: &Command) -> Option<Region>
     requires within { IsInSpace matrix.now.resolution bot.now.pos }
     requires stays { IsTrue (stays_in_space matrix.now.resolution (act bot.now command.now)) }
@@ -28,7 +28,7 @@ fn voided_region(matrix: &Planes, bot: &Bot, command: &Command) -> Option<Region
     Some(edited.region)
 }
 
-/// The region that the only group of a step voids, where there is one group and it voids one.
+/// Returns the region that the only group of a step voids, if there is one group and it voids one.
 pub(crate) fn only_region(system: &System, commands: &[Command], turns: &Turns) -> Option<Region>
     requires { CanTakeTurns system.now commands.now turns.now }
     ensures { IfSome result (IsOnlyRegion system.now commands.now) }
@@ -43,7 +43,7 @@ pub(crate) fn only_region(system: &System, commands: &[Command], turns: &Turns) 
     voided_region(matrix, &bots[place], &commands[place])
 }
 
-/// The forest after the only group of a step voided a region. Memory may be refused.
+/// Updates the forest after the only group of a step voided a region. Allocation may fail.
 pub(crate) fn refit_region<L: Ledger>(
     system: &System,
     commands: &[Command],

@@ -1,4 +1,4 @@
-//! In which order the groups of a step are applied.
+//! The order in which the groups of a step are applied.
 ghost use Rattle.std.specs.Prelude.{◌≡◌, ◌+◌, ◌≤◌, length, IfSome, IsPermutation};
 ghost use Rattle.nano_spec.specs.Act.{acts};
 ghost use Rattle.nano_spec.specs.Serial.{leader_bids};
@@ -12,7 +12,7 @@ use std::sync::ledger::Ledger;
 use system_state::{System, Turns};
 use vox_geom::Steps;
 
-/// The groups of a step take their turns, in the order of their leaders that is given, or else in rising order.
+/// Applies the groups of a step in the given order of their leaders, or in rising order without one.
 pub(crate) fn take_turns<L: Ledger>(
     system: &mut System,
     commands: &[Command],

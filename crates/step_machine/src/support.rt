@@ -1,4 +1,4 @@
-//! How the full voxels are held up.
+//! The support forest before and after a step.
 ghost use Rattle.std.specs.Prelude.{◌≡◌, ℕ, ◌+◌, ◌≤◌, ◌==◌, [], ◌∷◌, ◌++◌, true, false, length, count_by, IfOk, IfErr, IfSome, IfNone, MatchBool, None, Err};
 ghost use Rattle.nano_spec.specs.declared.system.Harmonics.TheVariants.{Low};
 ghost use Rattle.nano_spec.specs.Act.{acts};
@@ -27,7 +27,7 @@ use system_state::{System, Turns};
 use vox_geom::{Coord, Memory, Near, Steps};
 use vox_planes::ChangeList;
 
-/// Cells that become void. Memory may be refused only where there are some.
+/// Removes cells from the forest. Allocation may fail only if there are some.
 #[inline(always)]
 fn remove<L: Ledger>(
     forest: &mut Forest,
@@ -51,7 +51,7 @@ fn remove<L: Ledger>(
     }
 }
 
-/// Cells that become full. Memory may be refused only where there are some.
+/// Adds cells to the forest. Allocation may fail only if there are some.
 #[inline(always)]
 fn add<L: Ledger>(forest: &mut Forest, cells: &[Coord], steps: &mut Steps<L>) -> Result<(), Memory>
     requires cells { MayAdd forest.old.matrix cells.now }
@@ -71,8 +71,8 @@ fn add<L: Ledger>(forest: &mut Forest, cells: &[Coord], steps: &mut Steps<L>) ->
     Ok(())
 }
 
-/// Lists the voxels that the groups of a step change: first those that they void, as many as the answer says, and then
-/// those that they fill.
+/// Lists the voxels that the groups of a step change: first those that they void, whose number it returns, then those that they
+/// fill.
 fn list_edits<L: Ledger>(
     system: &System,
     commands: &[Command],
@@ -96,8 +96,8 @@ fn list_edits<L: Ledger>(
     voided
 }
 
-/// The forest after the groups of a step: it loses what they void, and then gains what they fill. Memory may be refused only
-/// where some command fills or voids.
+/// Updates the forest after the groups of a step: it loses the voided voxels, then gains the filled ones. Allocation may fail only
+/// if some command fills or voids.
 #[inline(always)]
 fn refit_cells<L: Ledger>(
     system: &System,
@@ -121,7 +121,7 @@ fn refit_cells<L: Ledger>(
     Ok(())
 }
 
-/// The same, where these voxels are still to be listed: first those that are voided, as many as the answer says.
+/// [`refit_cells`] that first lists the voxels: the voided ones, whose number it returns, then the filled ones.
 fn refit<L: Ledger>(
     system: &System,
     commands: &[Command],
@@ -144,7 +144,7 @@ fn refit<L: Ledger>(
     Ok(voided)
 }
 
-/// The same, where no list is asked for: a region that is all that changes is not listed.
+/// [`refit`] without a list for the caller: a region that is the only change is not listed.
 fn refit_unlisted<L: Ledger>(
     system: &System,
     commands: &[Command],
@@ -166,7 +166,7 @@ fn refit_unlisted<L: Ledger>(
     Ok(())
 }
 
-/// One cell becomes full, or else void.
+/// Fills one cell of the forest, or voids it.
 #[inline(always)]
 fn change_cell<L: Ledger>(
     forest: &mut Forest,
@@ -195,8 +195,8 @@ fn change_cell<L: Ledger>(
     }
 }
 
-/// The forest after the only bot filled the voxel at the coordinate, or else voided it, and whether that was full. A few touches may
-/// have been made for the step before.
+/// Updates the forest after the only bot filled the voxel (or voided it), and returns whether it was full. The fast path may
+/// already have spent a few touches.
 #[inline(always)]
 fn refit_one<L: Ledger>(
     system: &System,
@@ -222,7 +222,7 @@ fn refit_one<L: Ledger>(
     Ok(was)
 }
 
-/// One cell becomes full, or else void, where no other level changes by it: whether it did. Otherwise all stays.
+/// Fills one cell (or voids it) if that changes no other level, and returns whether it did. Changes nothing otherwise.
 #[inline(always)]
 fn change_at_once<L: Ledger>(
     forest: &mut Forest,
@@ -246,8 +246,8 @@ fn change_at_once<L: Ledger>(
     forest.clear(cell, steps)
 }
 
-/// [`settle_one`] where no other level changes, and each voxel is held up as before, `None` where others do: then all stays.
-/// `bit` is the index of the voxel's bit.
+/// [`settle_one`] if no other level changes and each voxel stays grounded; otherwise returns `None` and changes nothing. `bit` is
+/// the index of the voxel's bit.
 #[inline(always)]
 pub(crate) fn settle_at_once<L: Ledger>(
     system: &System,
@@ -280,7 +280,7 @@ pub(crate) fn settle_at_once<L: Ledger>(
     None
 }
 
-/// The forest before a step that is taken back: it loses what became full, and then gains what became void.
+/// Restores the forest from before an undone step: it loses the filled voxels, then gains the voided ones.
 pub(crate) fn refit_back<L: Ledger>(
     forest: &mut Forest,
     filled: &[Coord],
@@ -299,7 +299,7 @@ pub(crate) fn refit_back<L: Ledger>(
     Ok(())
 }
 
-/// What comes of a step whose forest is that after it: no voxel may float in it under Low.
+/// Returns the outcome of a step whose forest is already updated: under Low no voxel may float in it.
 fn settle_refitted<L: Ledger>(
     system: &System,
     commands: &[Command],
@@ -331,9 +331,8 @@ fn settle_refitted<L: Ledger>(
     }
 }
 
-/// What comes of a step that breaks no rule at its start, before its groups act: the forest after it, in which no voxel may
-/// float under Low, and a list of the voxels that change: first those that are voided, as many as the answer says, and then
-/// those that are filled.
+/// Returns the outcome of a step that breaks no rule at its start, before its groups act: the updated forest, in which no voxel may
+/// float under Low. Lists the changed voxels: first the voided ones, whose number it returns, then the filled ones.
 pub(crate) fn settle<L: Ledger>(
     system: &System,
     commands: &[Command],
@@ -356,7 +355,7 @@ pub(crate) fn settle<L: Ledger>(
     Ok(voided)
 }
 
-/// The same, where no list is asked for.
+/// [`settle`] without a list for the caller.
 pub(crate) fn settle_unlisted<L: Ledger>(
     system: &System,
     commands: &[Command],
@@ -377,8 +376,8 @@ pub(crate) fn settle_unlisted<L: Ledger>(
     Ok(())
 }
 
-/// The same for a step of the only bot that fills the voxel at the coordinate, or else voids it. The answer is whether that
-/// was full. A few touches may have been made for the step before.
+/// [`settle`] for a step of the only bot that fills the voxel (or voids it). Returns whether it was full. The fast path may already
+/// have spent a few touches.
 #[inline(always)]
 pub(crate) fn settle_one<L: Ledger>(
     system: &System,

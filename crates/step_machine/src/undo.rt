@@ -1,4 +1,4 @@
-//! Notes of steps, by which they are taken back.
+//! The notes of steps, used to undo them.
 ghost use Rattle.std.specs.Prelude.{◌≡◌, ◌+◌, ◌≤◌, length, take, drop, IfOk, IfErr};
 ghost use Rattle.step_machine.specs.Settling.{CanBeSettled, IsSettled, IsUnsettled};
 ghost use Rattle.step_machine.specs.Undoing.{IsNote};
@@ -16,7 +16,7 @@ use system_state::{System, Turns};
 use vox_geom::{Coord, Memory, Steps};
 use vox_planes::ChangeList;
 
-/// The note of a step: what there was before it, and the voxels that became full and void.
+/// The note of a step: the state before it, and the voxels that became full and void.
 #[derive(Drop)]
 pub struct Undo {
     pub crew: Crew,
@@ -27,7 +27,7 @@ pub struct Undo {
     pub voided: ChangeList,
 }
 
-/// A list of the same coordinates.
+/// Returns a list of the same coordinates.
 fn list_of(alloc: Global, cells: &[Coord]) -> Result<ChangeList, Memory>
     requires { length cells.now ≤ 64000000 }
     ensures { IfOk result (λ l. l.items ≡ cells.now) }
@@ -39,8 +39,7 @@ fn list_of(alloc: Global, cells: &[Coord]) -> Result<ChangeList, Memory>
     Ok(list)
 }
 
-/// The note of a step of a system that changes these voxels: first those that it voids, as many as is said, and then those
-/// that it fills.
+/// Returns the note of a step: the first `voided` of the `changed` voxels became void, the others full.
 fn note(
     alloc: Global,
     system: &System,
@@ -70,7 +69,7 @@ fn note(
     })
 }
 
-/// As [`settle`], with the note of the step. Memory may be refused to every step.
+/// [`settle`] with the note of the step. Allocation may fail in every step.
 pub(crate) fn settle_noted<L: Ledger>(
     alloc: Global,
     system: &System,

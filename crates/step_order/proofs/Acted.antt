@@ -1,4 +1,4 @@
--- What bots have made that break no rule.
+-- The effects of bots that break no rule.
 use Rattle.std.proofs.Common.{◌≡◌, ℕ, zero, suc, ◌*◌, ◌%◌, ◌^◌, ◌<◌, refl, sym, ◌∙◌, ap, subst, inl, inr, ◌⊎◌, arith, List, [], ◌∷◌, Bool, true, false, cond, ◌&&◌, ◌||◌, not, ◌==◌, map, length, lit<, pow-suc}
 use Rattle.std.specs.Prelude.{Some, Option, IsTrue, count_by, find}
 use Rattle.std.specs.List.{AllByRecursion, list_any}
@@ -27,7 +27,7 @@ use Rattle.step_order.proofs.Lists.{In, flat_same, in_map, map_in, map_same}
 use Rattle.step_order.proofs.Together.{AreApart, one_partner}
 use Rattle.step_order.proofs.Voxels.{as_it_is, matrix_same}
 
--- what holds of each that is in a list
+-- a property of each element that is in a list
 all_from : {X : Type 0} (P : X → Type 0) (xs : List X) → ((x : X) → In x xs → P x) → AllByRecursion P xs
 all_from P [] h = tt
 all_from P (x ∷ xs) h = (h x (inl refl), all_from P xs (λ y i. h y (inr i)))

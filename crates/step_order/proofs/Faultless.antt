@@ -1,4 +1,4 @@
--- Bots that have what they need break no rule by themselves.
+-- Bots that meet the conditions of their commands break no rule that is judged bot by bot.
 use Rattle.std.proofs.Common.{◌≡◌, ℕ, ◌+◌, ◌<◌, ◌^◌, refl, sym, ◌∙◌, ap, subst, inl, inr, ◌⊎◌, arith, List, [], ◌∷◌, Bool, true, false, cond, ◌&&◌, ◌||◌, not, nat_le, ◌==◌, eq-eqb, length}
 use Rattle.std.specs.Prelude.{ℤ, Some, None, IsTrue, int_le, find, flat_map}
 use Rattle.std.specs.List.{AllByRecursion}
@@ -31,12 +31,12 @@ use Rattle.step_order.proofs.Together.{extent_is, is_together, partners, region_
 abbrev act : Bot → Command → Act
 act bot command = record { bot = bot; command = command }
 
--- ---- regions that lie apart
+-- ---- disjoint regions
 
 axis_apart : (a b c d v : ℤ) → AreBelow a b c d → is_between a b v ≡ true → is_between c d v ≡ true → ⊥
 axis_apart a b c d v h i j = grind (arith, ints)
 
--- a point of a region lies between its ends on each axis
+-- a point of a region lies between the region's ends on each axis
 module _ (s : Span) (p : Point) (h : is_within s p ≡ true) where
   within_x : is_between s.from.x s.to.x p.x ≡ true
   within_x = first_of_two (is_between s.from.x s.to.x p.x) (is_between s.from.y s.to.y p.y) (first_of_two (is_between s.from.x s.to.x p.x && is_between s.from.y s.to.y p.y) (is_between s.from.z s.to.z p.z) h)
@@ -55,7 +55,7 @@ none_shared s t p (after_x h) i j = axis_apart t.from.x t.to.x s.from.x s.to.x p
 none_shared s t p (after_y h) i j = axis_apart t.from.y t.to.y s.from.y s.to.y p.y h (within_y t p j) (within_y s p i)
 none_shared s t p (after_z h) i j = axis_apart t.from.z t.to.z s.from.z s.to.z p.z h (within_z t p j) (within_z s p i)
 
--- what holds of each element holds of one that is in the list
+-- a property of all elements of a list is one of each that is in it
 pub all_by : {X : Type 0} (P : X → Type 0) (xs : List X) (x : X) → AllByRecursion P xs → In x xs → P x
 all_by P [] x h i = absurd i
 all_by P (y ∷ ys) x h (inl e) = subst P (sym e) h.0
@@ -242,7 +242,7 @@ between_as a b c d v h = by (extent_is a b c d h)
     by (inl e) = λ i. is_between (e.0 i) (e.1 i) v
     by (inr e) = (λ i. is_between (e.0 i) (e.1 i) v) ∙ or_turned (int_le d v && int_le v c) (int_le c v && int_le v d)
 
--- a point is in both of two regions that are the same, or in neither
+-- equal regions contain the same points
 pub within_as : (s t : Span) (p : Point) → same_region s t ≡ true → is_within s p ≡ is_within t p
 within_as s t p h =
     let same_extents = region_parts s t h in
@@ -256,7 +256,7 @@ abbrev word : Bool → Diff → Diff → Command
 word true d f = GFill d f
 word false d f = GVoid d f
 
--- a command by which a bot joins
+-- the command by which a bot takes part in filling or voiding the region
 record IsJoining (r : ℕ) (region : Span) (full : Bool) (p : Point) (c : Command) : Type 0 where
   near : Diff
   far : Diff

@@ -1,4 +1,4 @@
--- No rule is broken where no bot breaks one by itself and no two groups interfere.
+-- No rule is broken if no bot breaks one by itself and no two groups interfere.
 use Rattle.std.proofs.Common.{◌≡◌, ℕ, refl, sym, ◌∙◌, ap, subst, inl, inr, ◌⊎◌, arith, List, [], ◌∷◌, ◌++◌, true, ◌&&◌, map, length, get_or}
 use Rattle.std.specs.Prelude.{Some, None, Option, option_map, slice_get}
 use Rattle.std.specs.List.{Contains}
@@ -22,7 +22,7 @@ use Rattle.step_order.proofs.Groups.{Differ, differ_acts, differ_filter, only_le
 use Rattle.step_order.proofs.Lists.{In, any_in, filter_in, flat_in, in_either, in_place, map_in, none_find, place_in}
 use Rattle.step_order.proofs.Together.{AreApart, together_back, together_on}
 
--- what is contained in a list is in it
+-- a contained element is in the list
 pub contained : {X : Type 0} (xs : List X) (x : X) → Contains xs x → In x xs
 contained {X} xs x c = by c.2
   where
@@ -43,7 +43,7 @@ nobody_left [] commands e = refl
 nobody_left (b ∷ bots) [] e = absurd (omega arith)
 nobody_left (b ∷ bots) (k ∷ commands) e = nobody_left bots commands (omega arith)
 
--- the bots of the acts, where there are as many commands
+-- the bots of the acts, if there are as many commands
 pub all_bots : (bots : List Bot) (commands : List Command) → length commands ≡ length bots
     → map (λ (a : Act). a.bot) (acts bots commands) ≡ bots
 all_bots bots commands lengths = commanded bots commands (nobody_left bots commands lengths)

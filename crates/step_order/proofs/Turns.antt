@@ -1,4 +1,4 @@
--- The groups of a step take their turns: what each meets, and what it leaves.
+-- The groups of a step act one after another: the state that each finds, and the state that it leaves.
 use Rattle.std.proofs.Common.{◌≡◌, ℕ, ◌+◌, ◌≤◌, ◌≢◌, refl, sym, ◌∙◌, ap, subst, arith, inl, inr, List, [], ◌∷◌, ◌++◌, Bool, true, false, cond}
 use Rattle.std.specs.Prelude.{None, flat_map, sum_by, IsPermutation, IsTrue, IsFalse}
 use Rattle.std.specs.List.{Contains}
@@ -86,7 +86,7 @@ module _ (s : State) (all : List Act) (good : IsGood s all) (before rest : List 
       ∙ (ap (after_some s all) (sym (one_onto l before []))
       ∙ in_any_order s all good (before ++ l ∷ []) rest (subst (λ (xs : List Act). AreLeaders all xs) (sym (moved_over l before rest)) perm)))
 
-  -- a bot where one that comes of the leader is to stand is the leader's
+  -- a bot at a position that a successor of the leader takes is the leader's
   pub stands_apart : (x y : Bot) → In x (successors (members all l) l l.command) → In y (after_some s all before).bots
       → x.pos ≡ y.pos → y ≡ l.bot
   stands_apart x y i j e = by (subst (λ (bots : List Bot). In y bots) (sym (ap (λ (t : State). t.bots) so_far)) j)

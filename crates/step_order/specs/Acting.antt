@@ -1,4 +1,4 @@
--- What a step that breaks no rule makes of the bots and of the matrix, by kinds of commands (docs/FORMATS.md,
+-- The effect of a step that breaks no rule on the bots and on the matrix, by kinds of commands (docs/FORMATS.md,
 -- "Commands").
 use Rattle.std.specs.Prelude.{Bool, true, false, cond}
 use Rattle.vox_geom.specs.Point.{Point, point, plus}
@@ -25,7 +25,7 @@ stays_one (Void d) = true
 stays_one (GFill d f) = true
 stays_one (GVoid d f) = true
 
--- where it stands then
+-- its position then
 abbrev pub goal_of : Point → Command → Point
 goal_of p (SMove d) = plus p d
 goal_of p (LMove d e) = plus (plus p d) e

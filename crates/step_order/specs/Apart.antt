@@ -1,4 +1,4 @@
--- Regions that lie apart, and bots whose volatile regions do.
+-- Disjoint regions, and bots whose volatile regions are disjoint.
 use Rattle.std.specs.Prelude.{ℤ, ◌<ℤ◌, ◌⊎◌, List, [], ◌∷◌, IsTrue}
 use Rattle.std.specs.List.{AllByRecursion}
 use Rattle.vox_geom.specs.Region.{Span}
@@ -22,17 +22,17 @@ pub data LieApart (s t : Span) : Type 0 where
   after_y : AreBelow t.from.y t.to.y s.from.y s.to.y → LieApart s t
   after_z : AreBelow t.from.z t.to.z s.from.z s.to.z → LieApart s t
 
--- each region that is volatile for the one bot lies apart from each that is so for the other
+-- each region that is volatile for the one bot is disjoint from each that is volatile for the other
 abbrev pub AreApart : Act → Act → Type 0
 AreApart a b =
     AllByRecursion (λ s. AllByRecursion (λ t. LieApart s t) (volatile_regions (position b) b.command))
     (volatile_regions (position a) a.command)
 
--- the two bots fuse, or are apart
+-- the two bots fuse, or have disjoint volatile regions
 abbrev pub MayMeet : Act → Act → Type 0
 MayMeet a b = IsTrue (are_partners a b) ⊎ AreApart a b
 
--- any two bots fuse, or are apart
+-- any two bots fuse, or have disjoint volatile regions
 abbrev pub AreUntangled : List Act → Type 0
 AreUntangled [] = Unit {0}
 AreUntangled (a ∷ more) = AllByRecursion (λ b. MayMeet a b) more × AreUntangled more

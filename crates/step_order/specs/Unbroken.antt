@@ -1,4 +1,4 @@
--- What bots need so that a step breaks no rule, by kinds of commands (docs/FORMATS.md, "Commands" and "Rules").
+-- The needs of bots so that a step breaks no rule, by kinds of commands (docs/FORMATS.md, "Commands" and "Rules").
 use Rattle.std.specs.Prelude.{◌≡◌, ℕ, ◌<◌, ◌^◌, Bool, true, false, List, length, flat_map, IsTrue, IsFalse}
 use Rattle.std.specs.List.{AllByRecursion, Contains}
 use Rattle.vox_geom.specs.declared.coordinate.Coord.{Coord}
@@ -20,7 +20,7 @@ use Rattle.step_order.specs.Apart.{AreUntangled}
 abbrev pub IsVoid : Matrix → Span → Type 0
 IsVoid m s = (c : Coord) → IsTrue (is_within s (point c)) → is_full m c ≡ false
 
--- the way from one point to another ends in space and is void
+-- the path from one point to another ends in space and is void
 pub record IsFreeWay (m : Matrix) (p q : Point) : Type 0 where
   pub within : IsTrue (in_space m.resolution q)
   pub void : IsVoid m (between p q)
@@ -31,14 +31,14 @@ pub record MayHalt (s : State) (a : Act) : Type 0 where
   pub home : position a ≡ point origin
   pub low : s.harmonics ≡ Low
 
--- the other bot of the fusion stands where the difference leads to, in space
+-- the other bot of the fusion is at the end of the difference, in space
 pub record HasPartner (r : ℕ) (all : List Act) (a : Act) (q : Point) : Type 0 where
   pub within : IsTrue (in_space r q)
   pub other : Act
   pub here : Contains all other
   pub partners : IsTrue (are_partners a other)
 
--- what a bot needs for a command that is no group command
+-- the needs of a bot for a command that is no group command
 abbrev pub MayAct : State → List Act → Act → Command → Type 0
 MayAct s all a Halt = MayHalt s a
 MayAct s all a Wait = Unit {0}
@@ -61,14 +61,14 @@ pub record IsFree (s : State) (all : List Act) (a : Act) : Type 0 where
   pub allowed : IsTrue (is_allowed s.profile a.command)
   pub may : MayAct s all a a.command
 
--- no bot has a group command, each has what it needs, and any two fuse or are apart
+-- no bot has a group command, each has what it needs, and any two fuse or have disjoint volatile regions
 pub record AreFree (s : State) (all : List Act) : Type 0 where
   pub each : AllByRecursion (IsFree s all) all
   pub untangled : AreUntangled all
 
 -- ---- one group
 
--- the region between two corners is this one, in space, and the bot stands outside
+-- the region between two corners is this one, in space, and the bot is outside
 pub record IsCornered (r : ℕ) (region : Span) (p near far : Point) : Type 0 where
   pub near_within : IsTrue (in_space r near)
   pub far_within : IsTrue (in_space r far)
@@ -81,12 +81,12 @@ MayJoin r region true p (GFill d f) = IsCornered r region p (plus p d) (plus (pl
 MayJoin r region false p (GVoid d f) = IsCornered r region p (plus p d) (plus (plus p d) f)
 MayJoin r region full p _ = ⊥
 
--- the profile allows the bot's command, which makes the region full or void together with others
+-- the profile allows the bot's command, which fills or voids the region together with others
 pub record IsMember (s : State) (region : Span) (full : Bool) (a : Act) : Type 0 where
   pub allowed : IsTrue (is_allowed s.profile a.command)
   pub joins : MayJoin s.matrix.resolution region full (position a) a.command
 
--- all bots make the region full or void together, one at each of its corners
+-- all bots fill or void the region together, one at each of its corners
 pub record AreOneGroup (s : State) (region : Span) (full : Bool) (all : List Act) : Type 0 where
   pub each : AllByRecursion (IsMember s region full) all
   pub many : length all ≡ 2 ^ dimension region

@@ -1,4 +1,4 @@
--- Worked examples of orders: where a rule is broken the order of the groups matters, and where none is it does not.
+-- Worked examples of orders: if a rule is broken the order of the groups matters, and if none is it does not.
 use Rattle.std.specs.Prelude.{◌≡◌, ℕ, pos, List, [], ◌∷◌, Some, None}
 use Rattle.nano_spec.specs.declared.commands.Command.{Command}
 use Rattle.nano_spec.specs.declared.commands.Command.TheVariants.{SMove, Fill, Fission}
@@ -29,8 +29,8 @@ two_bots =
     record
     { matrix = empty 3; harmonics = Low; bots = worked_bot ∷ second_bot ∷ []; energy = pos 0; profile = full_profile }
 
--- the first fills (0,0,1), and the second goes there: the groups interfere.
--- In the order of their bids the second meets a blocked way, and in the other it does not
+-- the first fills (0,0,1), and the second goes there: the groups interfere. In the order of their bids the second finds
+-- a blocked path, and in the other it does not
 abbrev pub into_one_place : List Command
 into_one_place = Fill (diff (pos 0) (pos 0) (pos 1)) ∷ SMove (diff (pos 0) (pos 0) (below_zero 1)) ∷ []
 

@@ -1,4 +1,4 @@
-//! When the commands of a step break no rule, by what each bot needs and by regions that lie apart, and what such a step makes.
+//! Conditions under which a step breaks no rule, by the needs of each bot and by disjoint regions, and the effect of such a step.
 ghost use Rattle.std.specs.Prelude.{◌≡◌, ℕ, ◌&&◌, ◌||◌, [], ◌∷◌, Bool, IsFalse, IsTrue, List, None, length, map, not};
 ghost use Rattle.std.specs.List.{AllByRecursion, Contains};
 ghost use Rattle.vox_geom.specs.declared.coordinate.Coord.{Coord};
@@ -18,7 +18,8 @@ ghost use Rattle.nano_spec.specs.Volatile.{is_volatile_of};
 ghost use Rattle.step_order.specs.Acting.{gone, leaves_voxels, stays_one, with_region};
 ghost use Rattle.step_order.specs.Unbroken.{AreFree, AreOneGroup};
 
-/// Where no bot breaks a rule of single bots, and no coordinate is volatile for two bots that do not act together, a step breaks no rule.
+/// A step breaks no rule if no bot breaks a rule of single bots, and no coordinate is volatile for two bots that do not act
+/// together.
 pub fn nothing_is_broken()
     ensures { (s : State) (commands : List Command) (step : ℕ) → IsReady s → length commands ≡ length s.bots
         → ((a : Act) (rule : Rule) → Contains (acts s.bots commands) a → fault s (acts s.bots commands) a rule ≡ None)
@@ -29,21 +30,24 @@ pub fn nothing_is_broken()
         → broken s commands step ≡ None }
 {}
 
-/// Where no bot has a group command, each has what it needs for its command, and any two fuse or have volatile regions that lie apart, a step breaks no rule.
+/// A step breaks no rule if no bot has a group command, each has what it needs for its command, and any two fuse or have disjoint
+/// volatile regions.
 pub fn free_bots_break_no_rule()
     ensures { (s : State) (commands : List Command) (step : ℕ) → IsReady s → length commands ≡ length s.bots
         → AreFree s (acts s.bots commands) → broken s commands step ≡ None }
 {}
 
-/// Where all bots make one region full or void together, a step breaks no rule.
+/// A step breaks no rule if all bots fill or void one region together.
 pub fn one_group_breaks_no_rule()
     ensures { (s : State) (commands : List Command) (step : ℕ) (region : Span) (full : Bool) → IsReady s
         → length commands ≡ length s.bots → AreOneGroup s region full (acts s.bots commands)
         → broken s commands step ≡ None }
 {}
 
-/// What a step makes: which voxels are full, and that all stay where no bot fills or voids; the bots, where each stays one, and what becomes of two that
-/// fuse; and that the harmonics stay where no bot flips them.
+/// The effect of a step on the voxels, the bots and the harmonics.
+///
+/// All voxels stay if no bot fills or voids, and the harmonics if no bot flips them. The bots are given if each stays one bot,
+/// and for a pair that fuses.
 pub fn bots_act()
     ensures voxels { (s : State) (commands : List Command) (c : Coord) → IsInSpace s.matrix.resolution c
         → is_full (after s commands).matrix c
@@ -63,7 +67,7 @@ pub fn bots_act()
         → (after s commands).harmonics ≡ s.harmonics }
 {}
 
-/// A group of all bots makes its region full or void; all else, the bots and the harmonics stay.
+/// A group of all bots fills or voids its region; all other voxels, the bots and the harmonics stay.
 pub fn one_group_acts()
     ensures matrix { (s : State) (commands : List Command) (region : Span) (full : Bool)
         → AreOneGroup s region full (acts s.bots commands)

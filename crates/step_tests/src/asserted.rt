@@ -1,11 +1,11 @@
-//! Steps of a machine of `step_machine`, and what is asserted of them.
+//! Assertions on the steps of a machine of `step_machine`.
 use nano_spec::{Broken, Command, Rule};
 use std::process::Abort;
 use std::sync::ledger::Ledger;
 use step_machine::{Machine, StepFault, StepOk};
 use vox_geom::{Coord, Steps};
 
-/// A step whose conditions the test looks after.
+/// Makes a step whose conditions the test ensures.
 fn step<L: Ledger>(
     rt: &impl Abort,
     machine: &mut Machine,
@@ -19,7 +19,7 @@ fn step<L: Ledger>(
     machine.step(commands, steps)
 }
 
-/// The step is accepted, and some bot is left: so much energy is spent after it.
+/// Asserts that the step is accepted, some bot is left, and this energy is spent after it.
 pub(crate) fn assert_goes<L: Ledger>(
     rt: &impl Abort,
     machine: &mut Machine,
@@ -34,7 +34,7 @@ pub(crate) fn assert_goes<L: Ledger>(
     assert_eq!(rt; step(rt, machine, commands, steps), Ok(ok));
 }
 
-/// The step is refused.
+/// Asserts that the step is refused.
 pub(crate) fn assert_refused<L: Ledger>(
     rt: &impl Abort,
     machine: &mut Machine,
@@ -45,7 +45,7 @@ pub(crate) fn assert_refused<L: Ledger>(
     assert_eq!(rt; step(rt, machine, commands, steps), Err(fault));
 }
 
-/// The step is accepted.
+/// Asserts that the step is accepted.
 pub(crate) fn assert_made<L: Ledger>(
     rt: &impl Abort,
     machine: &mut Machine,
@@ -55,7 +55,7 @@ pub(crate) fn assert_made<L: Ledger>(
     assert!(rt; step(rt, machine, commands, steps).is_ok());
 }
 
-/// The level of a voxel, or that it has none.
+/// Asserts the level of a voxel, or that it has none.
 pub(crate) fn assert_level<L: Ledger>(
     rt: &impl Abort,
     machine: &Machine,
@@ -71,7 +71,7 @@ pub(crate) fn assert_level<L: Ledger>(
     assert_eq!(rt; machine.level(c, steps), expected);
 }
 
-/// The rule of grounding is broken.
+/// Returns the fault of the broken rule of grounding.
 pub(crate) fn ungrounded(step: u32, at: Coord) -> StepFault {
     StepFault::Broken(Broken {
         step,

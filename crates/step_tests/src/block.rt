@@ -13,7 +13,7 @@ use std::test::Fail;
 use step_machine::Machine;
 use vox_geom::{Coord, Memory, Steps};
 
-/// A move along y, or else along z.
+/// Returns a move along y if `up`, along z otherwise.
 fn move_by_one(rt: &impl Abort, up: bool) -> Command {
     let d = if up {
         long(rt, 0, 1, 0)
@@ -23,7 +23,7 @@ fn move_by_one(rt: &impl Abort, up: bool) -> Command {
     Command::SMove(d)
 }
 
-/// One bot becomes five, at their places round a block: four by four, one side of it and the other.
+/// One bot becomes five, in their positions around a block: four by four, one side of it and the other.
 fn five_bots<L: Ledger>(rt: &impl Abort, machine: &mut Machine, steps: &mut Steps<L>) {
     let split = [Command::Fission(near(rt, 1, 0, 0), 3)];
     assert_made(rt, machine, &split, steps);
@@ -42,7 +42,7 @@ fn five_bots<L: Ledger>(rt: &impl Abort, machine: &mut Machine, steps: &mut Step
     assert_made(rt, machine, &more, steps);
 }
 
-/// Five bots become eight, which take their places.
+/// Five bots become eight, in their positions.
 fn eight_bots<L: Ledger>(rt: &impl Abort, machine: &mut Machine, steps: &mut Steps<L>) {
     let five = [
         Command::Wait,
@@ -75,7 +75,7 @@ fn eight_bots<L: Ledger>(rt: &impl Abort, machine: &mut Machine, steps: &mut Ste
     assert_made(rt, machine, &last, steps);
 }
 
-/// A block of 3 by 3 by 3 on the floor, in the middle of a matrix of resolution 5.
+/// Returns a block of 3 by 3 by 3 on the floor, in the middle of a matrix of resolution 5.
 fn cube(alloc: Global) -> Result<Vec<Coord>, Memory> {
     let mut full = Vec::new(alloc);
     for x in 1..4 {

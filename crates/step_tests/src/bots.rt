@@ -1,4 +1,4 @@
-//! One bot, or two, and whether all stand in space.
+//! One bot, or two, and whether all are in space.
 ghost use Rattle.std.specs.Prelude.{◌≡◌, All, true};
 ghost use Rattle.vox_geom.specs.Space.{IsInSpace};
 
@@ -7,7 +7,7 @@ use nano_spec::{Bot, Profile};
 use std::process::Abort;
 use vox_geom::Coord;
 
-/// Whether all bots stand in space.
+/// Returns whether all bots are in space.
 pub(crate) fn are_within(bots: &[Bot], side: u16) -> bool
     ensures { result ≡ true → All (λ b. IsInSpace side b.pos) bots.now }
 {
@@ -26,7 +26,7 @@ pub(crate) fn are_within(bots: &[Bot], side: u16) -> bool
     true
 }
 
-/// The bot with bid 1, moved to a coordinate.
+/// Returns the bot with bid 1, moved to a coordinate.
 pub(crate) fn one_bot(rt: &impl Abort, profile: Profile, to: Coord) -> Crew {
     assert!(rt; profile.seeds <= 39);
     let mut crew = Crew::opening(profile);
@@ -37,7 +37,7 @@ pub(crate) fn one_bot(rt: &impl Abort, profile: Profile, to: Coord) -> Crew {
     crew
 }
 
-/// The bot with bid 1 at the origin, and its child.
+/// Returns the bot with bid 1 at the origin, and its child.
 pub(crate) fn two_bots(rt: &impl Abort, to: Coord) -> Crew {
     let mut crew = Crew::opening(Profile::full());
     let bot = crew.bot(1).expect(rt, "the bot is active");

@@ -1,4 +1,4 @@
-//! What several modules need: coordinates, differences, and matrices to begin with.
+//! Shared helpers: coordinates, differences, and initial matrices.
 ghost use Rattle.std.specs.Prelude.{◌≡◌, ◌≤◌, IfOk, IsFalse, None};
 ghost use Rattle.nano_spec.specs.Grounded.{FirstUngrounded};
 ghost use Rattle.nano_spec.specs.Matrix.{is_full};
@@ -11,7 +11,7 @@ use support_forest::Forest;
 use vox_geom::{Coord, Diff, Far, Long, Memory, Near, Steps};
 use vox_planes::Planes;
 
-/// The coordinate with these components.
+/// Returns the coordinate with these components.
 pub(crate) fn at(x: u16, y: u16, z: u16) -> Coord
     ensures x { result.x ≡ x }
     ensures y { result.y ≡ y }
@@ -20,22 +20,22 @@ pub(crate) fn at(x: u16, y: u16, z: u16) -> Coord
     Coord { x, y, z }
 }
 
-/// The near difference with these components.
+/// Returns the near difference with these components.
 pub(crate) fn near(rt: &impl Abort, dx: i16, dy: i16, dz: i16) -> Near {
     Near::of(Diff { dx, dy, dz }).expect(rt, "near")
 }
 
-/// The far difference with these components.
+/// Returns the far difference with these components.
 pub(crate) fn far(rt: &impl Abort, dx: i16, dy: i16, dz: i16) -> Far {
     Far::of(Diff { dx, dy, dz }).expect(rt, "far")
 }
 
-/// The long difference with these components.
+/// Returns the long difference with these components.
 pub(crate) fn long(rt: &impl Abort, dx: i16, dy: i16, dz: i16) -> Long {
     Long::of(Diff { dx, dy, dz }).expect(rt, "long")
 }
 
-/// The empty matrix of a resolution.
+/// Returns the empty matrix of a resolution.
 pub(crate) fn empty(alloc: Global, r: u16) -> Result<Planes, Memory>
     requires some { 1 ≤ r }
     requires most { r ≤ 400 }
@@ -46,7 +46,7 @@ pub(crate) fn empty(alloc: Global, r: u16) -> Result<Planes, Memory>
     Planes::empty(alloc, r)
 }
 
-/// The matrix of a resolution in which these voxels are full, each of which is held up.
+/// Returns the matrix of a resolution in which these voxels are full, each of which is grounded.
 pub(crate) fn source<L: Ledger>(
     rt: &impl Abort,
     alloc: Global,

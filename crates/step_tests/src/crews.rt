@@ -1,4 +1,4 @@
-//! Crews of `bot_crew`: seeds that are given out and come back, and the places of bots.
+//! Crews of `bot_crew`: seeds that are given out and returned, and the positions of bots.
 use bot_crew::{Crew, seeds_of};
 use nano_spec::{Bot, Profile};
 use std::process::Abort;
@@ -16,7 +16,7 @@ fn bot(bid: u8, pos: Coord, seeds: u64) -> Bot {
     Bot { bid, pos, seeds }
 }
 
-/// A bot gives `m` seeds to a new bot at a coordinate where nobody stands.
+/// A bot gives `m` seeds to a new bot at a free coordinate.
 fn split(rt: &impl Abort, crew: &mut Crew, bid: u8, c: Coord, m: u8) {
     let bot = crew.bot(bid).expect(rt, "the bot is active");
     assert!(rt; seeds_of(bot) > m);
@@ -24,7 +24,7 @@ fn split(rt: &impl Abort, crew: &mut Crew, bid: u8, c: Coord, m: u8) {
     crew.fission(bid, c, m);
 }
 
-/// One bot takes the other in.
+/// The primary fuses with the secondary.
 fn join(rt: &impl Abort, crew: &mut Crew, primary: u8, secondary: u8) {
     assert!(rt; crew.bot(primary).is_some());
     assert!(rt; crew.bot(secondary).is_some());
@@ -32,7 +32,7 @@ fn join(rt: &impl Abort, crew: &mut Crew, primary: u8, secondary: u8) {
     crew.fusion(primary, secondary);
 }
 
-/// A bot moves to a coordinate where nobody stands.
+/// A bot moves to a free coordinate.
 fn go(rt: &impl Abort, crew: &mut Crew, bid: u8, c: Coord) {
     assert!(rt; crew.bot(bid).is_some());
     assert!(rt; crew.at(c).is_none());
@@ -46,23 +46,23 @@ fn halt(rt: &impl Abort, crew: &mut Crew) {
     assert!(rt; crew.count() == 0);
 }
 
-/// The bots are these, also in a copy.
+/// Asserts the bots, also of a copy.
 fn assert_bots(rt: &impl Abort, crew: &Crew, bots: &[Bot]) {
     assert_eq!(rt; crew.bots(), bots);
     assert_eq!(rt; crew.copy().bots(), bots);
 }
 
-/// The bot with this bid stands at a coordinate, or else nobody does.
+/// Asserts that the bot with this bid, or none, is at a coordinate.
 fn assert_stands(rt: &impl Abort, crew: &Crew, c: Coord, bid: Option<u8>) {
     assert_eq!(rt; crew.at(c), bid);
 }
 
-/// The bot with a bid, or that there is none.
+/// Asserts the bot with a bid, or that there is none.
 fn assert_bot(rt: &impl Abort, crew: &Crew, bid: u8, bot: Option<Bot>) {
     assert_eq!(rt; crew.bot(bid), bot);
 }
 
-/// All seeds of the only bot go to a new one, which moves, and come back.
+/// All seeds of the only bot go to a new one, which moves, and are returned.
 fn lend_all(rt: &impl Abort, crew: &mut Crew, all: Bot) {
     assert_bots(rt, crew, &[all]);
     split(rt, crew, 1, BESIDE, 38);
@@ -84,7 +84,7 @@ fn all_seeds_go_and_come_back(rt: HostRuntime) {
     lend_all(&rt, &mut crew, bot(1, ORIGIN, 0x01FF_FFFF_FFFC));
 }
 
-/// One bot becomes four, of which two join.
+/// One bot becomes four, of which two fuse.
 fn grow(rt: &impl Abort, crew: &mut Crew) {
     split(rt, crew, 1, BESIDE, 5);
     split(rt, crew, 1, ABOVE, 0);

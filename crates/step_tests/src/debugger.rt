@@ -13,7 +13,7 @@ use step_debugger::{DebugFault, Debugger};
 use step_machine::StepOk;
 use vox_geom::{Coord, Memory, Steps};
 
-/// The debugger of these commands over the empty matrix of resolution 5.
+/// Returns the debugger of these commands over the empty matrix of resolution 5.
 fn debugger<L: Ledger>(
     rt: &impl Abort,
     alloc: Global,
@@ -29,7 +29,7 @@ fn debugger<L: Ledger>(
     Debugger::start(alloc, source, Profile::full(), list, steps)
 }
 
-/// The next step of a debugger to which memory was not refused comes to this.
+/// Asserts the result of the next step of a debugger that is not poisoned.
 fn assert_step<L: Ledger>(
     rt: &impl Abort,
     debugger: &mut Debugger,
@@ -40,7 +40,7 @@ fn assert_step<L: Ledger>(
     assert_eq!(rt; debugger.step(steps), expected);
 }
 
-/// A group of the next step comes to this.
+/// Asserts the result of a group of the next step.
 fn assert_group<L: Ledger>(
     rt: &impl Abort,
     debugger: &mut Debugger,
@@ -52,7 +52,7 @@ fn assert_group<L: Ledger>(
     assert_eq!(rt; debugger.group(leader, steps), expected);
 }
 
-/// The way back comes to this.
+/// Asserts the result of a step back.
 fn assert_back<L: Ledger>(
     rt: &impl Abort,
     debugger: &mut Debugger,
@@ -63,7 +63,7 @@ fn assert_back<L: Ledger>(
     assert_eq!(rt; debugger.back(steps), expected);
 }
 
-/// The bot at a place of the crew after the begun groups.
+/// Asserts the bot at an index of the crew after the begun groups.
 fn assert_middle_bot(rt: &impl Abort, debugger: &Debugger, place: usize, bot: Bot) {
     assert!(rt; !debugger.spent());
     let bots = debugger.middle_crew().bots();
@@ -71,7 +71,7 @@ fn assert_middle_bot(rt: &impl Abort, debugger: &Debugger, place: usize, bot: Bo
     assert_eq!(rt; bots[place], bot);
 }
 
-/// Whether a voxel is full after the begun groups.
+/// Asserts whether a voxel is full after the begun groups.
 fn assert_middle_full<L: Ledger>(
     rt: &impl Abort,
     debugger: &Debugger,
@@ -87,7 +87,7 @@ fn assert_middle_full<L: Ledger>(
     assert!(rt; debugger.middle_full(c, steps) == full);
 }
 
-/// The leaders of the begun groups, the energy before the step, and how many steps can be taken back.
+/// Asserts the leaders of the begun groups, the energy before the step, and the number of steps that can be undone.
 fn assert_stands(rt: &impl Abort, debugger: &Debugger, begun: &[u8], energy: i64, history: u16) {
     assert!(rt; !debugger.spent());
     assert_eq!(rt; debugger.begun(), begun);
@@ -95,7 +95,7 @@ fn assert_stands(rt: &impl Abort, debugger: &Debugger, begun: &[u8], energy: i64
     assert_eq!(rt; debugger.history(), history);
 }
 
-/// A bot has split. Then the one fills a voxel while the other moves: first the other's group is begun and dropped.
+/// After a fission one bot fills a voxel while the other moves: first the other's group begins and is dropped.
 fn begun_and_dropped<L: Ledger>(rt: &impl Abort, debugger: &mut Debugger, steps: &mut Steps<L>) {
     assert_group(rt, debugger, 2, Ok(None), steps);
     assert_stands(rt, debugger, &[2], 419, 1);
@@ -164,7 +164,7 @@ fn a_trace_is_walked_forwards_and_backwards(rt: HostRuntime) -> Result<(), Fail>
     Ok(())
 }
 
-/// A voxel that floats breaks the step, and the debugger stands where it stood.
+/// A floating voxel breaks the step, and the debugger is as before.
 fn floating<L: Ledger>(rt: &impl Abort, blank: Blank, alloc: Global) -> Result<(), Memory>
     requires blank { IsBlankOf blank L.name L.parts }
 {

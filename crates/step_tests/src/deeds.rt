@@ -1,5 +1,5 @@
-//! What a bot does in a step, in coordinates, by `step_groups`. That it is what the contract says is proved; that it is what the
-//! formats say is shown by these rows.
+//! A bot's action in a step, in coordinates, by `step_groups`. That it follows the contract is proved; these rows show that it
+//! follows the formats.
 use crate::common::{at, far, long, near};
 use nano_spec::{Bot, Command};
 use std::process::Abort;
@@ -7,12 +7,12 @@ use std::test::Fail;
 use step_groups::{Deed, deed_of};
 use vox_geom::{Diff, Short};
 
-/// The short difference along x.
+/// Returns the short difference along x.
 fn along_x(rt: &impl Abort, dx: i16) -> Short {
     Short::of(Diff { dx, dy: 0, dz: 0 }).expect(rt, "short")
 }
 
-/// What the bot at 2 1 3 does in a matrix of resolution 5.
+/// Returns the action of the bot at 2 1 3 in a matrix of resolution 5.
 fn does(command: Command) -> Option<Deed> {
     let bot = Bot {
         bid: 1,

@@ -1,10 +1,10 @@
-//! Worked costs of `energy_sum`. That they are what the contracts say is proved; that they are the contest's is shown by these rows.
+//! Worked costs of `energy_sum`. That they follow the contracts is proved; these rows show that they are the contest's.
 use energy_sum::{command_cost, upkeep};
 use nano_spec::{Command, Harmonics};
 use std::test::Fail;
 use vox_geom::{Diff, Far, Long, Near, Short};
 
-/// The command of each kind, along x.
+/// Returns the command of each kind, along x.
 fn commands() -> Option<[(Command, u32, u32, i64); 12]> {
     let one = Diff {
         dx: 1,

@@ -15,7 +15,7 @@ use step_groups::{Group, Groups, Step, judge_single, number_groups};
 use vox_geom::{Memory, Region, Steps};
 use vox_planes::Planes;
 
-/// A step of these commands breaks no rule; the groups are then those of the step.
+/// Asserts that a step of these commands breaks no rule; the groups are then those of the step.
 fn assert_judged<L: Ledger>(
     rt: &impl Abort,
     groups: &mut Groups,
@@ -38,7 +38,7 @@ fn assert_judged<L: Ledger>(
     assert!(rt; groups.judge(&step, numbers.as_slice(), steps).is_ok());
 }
 
-/// A step of one bot breaks no rule.
+/// Asserts that a step of one bot breaks no rule.
 fn assert_judged_single<L: Ledger>(
     rt: &impl Abort,
     crew: &Crew,
@@ -59,14 +59,14 @@ fn assert_judged_single<L: Ledger>(
     assert!(rt; judge_single(&step, steps).is_none());
 }
 
-/// The group has this leader, these members and these boxes.
+/// Asserts the leader, the members and the boxes of a group.
 fn assert_group(rt: &impl Abort, group: &Group, leader: u8, members: &[u8], boxes: &[Region]) {
     assert_eq!(rt; group.leader, leader);
     assert_eq!(rt; group.members.as_slice(), members);
     assert_eq!(rt; group.boxes.as_slice(), boxes);
 }
 
-/// The group of two bots that fill a row between them.
+/// Asserts the group of two bots that fill a row between them.
 fn assert_filling(rt: &impl Abort, groups: &Groups) {
     let boxes = [
         Region::of(at(0, 0, 0), at(0, 0, 0)),
@@ -79,7 +79,7 @@ fn assert_filling(rt: &impl Abort, groups: &Groups) {
     }
 }
 
-/// Two bots that fill a row between them are one group; apart they are two.
+/// Two bots that fill a row between them are one group; while they wait they are two.
 fn of_groups<L: Ledger>(rt: &impl Abort, blank: Blank, alloc: Global) -> Result<(), Memory>
     requires blank { IsBlankOf blank L.name L.parts }
 {

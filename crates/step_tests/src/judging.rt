@@ -1,4 +1,4 @@
-//! Traces that `trace_judge` judges.
+//! Verdicts of `trace_judge`.
 ghost use Rattle.vox_geom.specs.Counting.{IsBlankOf};
 
 use crate::common::{at, empty, long, near, source};
@@ -12,7 +12,7 @@ use std::test::Fail;
 use trace_judge::judge;
 use vox_geom::{Coord, Memory, Steps};
 
-/// The verdict of a trace that breaks a rule.
+/// Returns the verdict of a trace that breaks a rule.
 fn refused(step: u32, bid: u8, rule: Rule, at: Coord) -> Verdict {
     Verdict::Refused(Broken {
         step,
@@ -22,7 +22,7 @@ fn refused(step: u32, bid: u8, rule: Rule, at: Coord) -> Verdict {
     })
 }
 
-/// A trace from the empty matrix of resolution 3 has this verdict.
+/// Asserts the verdict of a trace from the empty matrix of resolution 3.
 fn assert_verdict<L: Ledger>(
     rt: &impl Abort,
     alloc: Global,
@@ -38,7 +38,7 @@ fn assert_verdict<L: Ledger>(
     Ok(())
 }
 
-/// A bot fills the voxel (1,0,1) and comes home.
+/// Judges a trace in which a bot fills the voxel (1,0,1) and comes home: as it is, too short, too long, and for another target.
 fn traces<L: Ledger>(rt: &impl Abort, blank: Blank, alloc: Global) -> Result<(), Memory>
     requires blank { IsBlankOf blank L.name L.parts }
 {

@@ -1,6 +1,6 @@
 //! Tests of the crates of a step: `bot_crew`, `energy_sum`, `step_groups`, `system_state`, `step_machine`, `step_debugger` and
-//! `debug_script`. There is no code here but tests: what the calls answer is proved, and that they succeed, and the worked
-//! examples, are shown here.
+//! `debug_script`. There is no code here but tests: the answers of the calls are proved; these tests show that they succeed, and
+//! worked examples.
 #![tactic(auto)]
 
 #[cfg(test)]

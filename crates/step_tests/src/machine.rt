@@ -1,4 +1,4 @@
-//! Steps of a machine of `step_machine` under Low: levels that are repaired, and voxels that float.
+//! Steps of a machine of `step_machine` under Low: repaired levels and floating voxels.
 ghost use Rattle.vox_geom.specs.Counting.{IsBlankOf};
 
 use crate::asserted::{assert_goes, assert_level, assert_made, assert_refused, ungrounded};
@@ -13,7 +13,7 @@ use std::test::Fail;
 use step_machine::{Machine, StepFault};
 use vox_geom::{Coord, Memory, Steps};
 
-/// What a machine keeps that is spent after two fills.
+/// Asserts the state of a machine that is poisoned after two fills.
 fn assert_kept<L: Ledger>(rt: &impl Abort, machine: &Machine, steps: &mut Steps<L>) {
     assert!(rt; machine.energy() == 448);
     assert!(rt; machine.harmonics() == Harmonics::Low);
@@ -49,7 +49,7 @@ fn a_step_that_breaks_grounding_spends_the_machine(rt: HostRuntime) -> Result<()
     Ok(())
 }
 
-/// A machine over a ring of eight voxels round (2,1,2), with the posts that hold it up.
+/// Returns a machine over a ring of eight voxels around (2,1,2), with the posts that support it.
 fn ring<L: Ledger>(
     rt: &impl Abort,
     alloc: Global,
@@ -71,7 +71,7 @@ fn ring<L: Ledger>(
     Machine::start(alloc, ring, Profile::full(), steps)
 }
 
-/// The levels of the ring: those of three voxels at one of its corners, and of the others.
+/// Asserts the levels of the ring: those of three voxels at one of its corners, and of the others.
 fn ring_levels<L: Ledger>(
     rt: &impl Abort,
     machine: &Machine,
@@ -95,8 +95,8 @@ fn ring_levels<L: Ledger>(
     }
 }
 
-/// Of a ring on two posts the one is voided: the corner above it hangs then on the other. On that post alone a ring floats
-/// without it, and the machine is spent.
+/// A bot voids one of two posts under a ring: the other then supports the corner above it. Without its only post a ring floats, and
+/// the machine is poisoned.
 fn rings<L: Ledger>(rt: &impl Abort, blank: Blank, alloc: Global) -> Result<(), Memory>
     requires blank { IsBlankOf blank L.name L.parts }
 {

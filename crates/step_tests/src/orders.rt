@@ -1,4 +1,4 @@
-//! Steps of a machine of `step_machine` whose groups come in any order, and a step that is taken back.
+//! Steps of a machine of `step_machine` with groups in any order, and an undone step.
 ghost use Rattle.std.specs.Prelude.{◌≡◌, length, IfOk, IsPermutation};
 ghost use Rattle.vox_geom.specs.Counting.{IsBlankOf};
 ghost use Rattle.nano_spec.specs.Act.{acts};
@@ -19,7 +19,7 @@ use std::test::Fail;
 use step_machine::Machine;
 use vox_geom::{Memory, Steps};
 
-/// The leaders of a step of the bots 1 and 2, in rising order or in falling order.
+/// Returns the leaders of a step of the bots 1 and 2, in rising order or in falling order.
 fn order_of(
     rt: &impl Abort,
     machine: &Machine,
@@ -40,8 +40,8 @@ fn order_of(
     order
 }
 
-/// Two bots, of which the second was just born beside the first, make a step whose groups are applied in rising order of
-/// their leaders, or in falling order.
+/// Two bots, the second just born next to the first, make a step whose groups are applied in rising order of their leaders, or in
+/// falling order.
 fn second_step<L: Ledger>(
     rt: &impl Abort,
     alloc: Global,
@@ -62,7 +62,7 @@ fn second_step<L: Ledger>(
     Ok(machine)
 }
 
-/// Two machines are in one state, with this energy.
+/// Asserts that two machines have the same state, with this energy.
 fn assert_same<L: Ledger>(
     rt: &impl Abort,
     one: &Machine,
@@ -112,7 +112,7 @@ fn both_orders_of_two_groups_end_in_one_state(rt: HostRuntime) -> Result<(), Fai
     Ok(())
 }
 
-/// A machine over an empty matrix.
+/// Returns a machine over an empty matrix.
 fn empty_machine<L: Ledger>(alloc: Global, steps: &mut Steps<L>) -> Result<Machine, Memory>
     ensures { IfOk result (λ m. IsWellFormed m.state) }
 {
@@ -120,7 +120,7 @@ fn empty_machine<L: Ledger>(alloc: Global, steps: &mut Steps<L>) -> Result<Machi
     Machine::start(alloc, source, Profile::full(), steps)
 }
 
-/// The leaders of a step.
+/// Returns the leaders of a step.
 fn leaders_of(machine: &Machine, commands: &[Command]) -> ArrayVec<u8, MOST_BOTS>
     requires { length commands.now ≡ length machine.now.state.bots }
     ensures { IsPermutation (leader_bids (acts machine.now.state.bots commands.now)) result.items }
@@ -128,7 +128,7 @@ fn leaders_of(machine: &Machine, commands: &[Command]) -> ArrayVec<u8, MOST_BOTS
     machine.leaders(commands)
 }
 
-/// A step of one bot that fills a voxel, and that is taken back.
+/// Makes and undoes a step of one bot that fills a voxel.
 fn made_and_undone<L: Ledger>(
     rt: &impl Abort,
     machine: &mut Machine,
@@ -151,7 +151,7 @@ fn made_and_undone<L: Ledger>(
     }
 }
 
-/// A bot fills a voxel, and the step is taken back.
+/// A bot fills a voxel, and the step is undone.
 fn noted<L: Ledger>(rt: &impl Abort, blank: Blank, alloc: Global) -> Result<(), Memory>
     requires blank { IsBlankOf blank L.name L.parts }
 {

@@ -1,4 +1,4 @@
-//! Steps of one and of two bots: what each breaks first by `step_groups`.
+//! Steps of one and of two bots: the first rule that each breaks by `step_groups`.
 ghost use Rattle.vox_geom.specs.Counting.{IsBlankOf};
 
 use crate::bots::{are_within, one_bot, two_bots};
@@ -15,7 +15,7 @@ use step_groups::judge_groups;
 use vox_geom::{Coord, Memory, Steps};
 use vox_planes::Planes;
 
-/// What steps have in common.
+/// The common parts of steps.
 #[derive(Clone, Copy)]
 struct Scene<'a> {
     crew: &'a Crew,
@@ -24,7 +24,7 @@ struct Scene<'a> {
     profile: Profile,
 }
 
-/// A step of these commands breaks this first, or nothing.
+/// Asserts the first rule that a step of these commands breaks, or that it breaks none.
 fn assert_judged<L: Ledger>(
     rt: &impl Abort,
     scene: &Scene,
@@ -94,7 +94,7 @@ fn of_one<L: Ledger>(rt: &impl Abort, blank: Blank, alloc: Global) -> Result<(),
     Ok(())
 }
 
-/// A bot is stopped by a full voxel, and halts only at the origin and under Low.
+/// A full voxel stops a bot, and it halts only at the origin and under Low.
 fn assert_stops<L: Ledger>(rt: &impl Abort, corner: &Scene, steps: &mut Steps<L>) {
     let beside = Scene {
         crew: &one_bot(rt, corner.profile, at(1, 0, 0)),

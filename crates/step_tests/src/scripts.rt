@@ -1,4 +1,4 @@
-//! Scripts that `debug_script` reads, and scripts that it refuses.
+//! Valid and refused scripts of `debug_script`.
 use debug_script::{ScriptLine, read_script};
 use std::process::Abort;
 use std::test::Fail;

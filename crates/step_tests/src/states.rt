@@ -1,5 +1,4 @@
-//! Steps of one and of two bots in a state of `system_state` at resolution 3: the first broken rule, and the energy after
-//! the turns.
+//! Steps of one and of two bots in a state of `system_state` at resolution 3: the first broken rule, and the energy after them.
 ghost use Rattle.vox_geom.specs.Counting.{IsBlankOf};
 
 use crate::common::{long, near};
@@ -14,7 +13,7 @@ use system_state::{System, Turns};
 use vox_geom::{Memory, Steps};
 use vox_planes::Planes;
 
-/// Makes a step: the rule that it breaks, if it breaks one.
+/// Makes a step, and returns the rule that it breaks, if it breaks one.
 fn step<L: Ledger>(
     rt: &impl Abort,
     system: &mut System,
@@ -38,7 +37,7 @@ fn step<L: Ledger>(
     }
 }
 
-/// The step is made, and so much energy is spent after it.
+/// Asserts that the step is made, and that this energy is spent after it.
 fn assert_goes<L: Ledger>(
     rt: &impl Abort,
     system: &mut System,
@@ -52,7 +51,7 @@ fn assert_goes<L: Ledger>(
     assert_eq!(rt; system.energy(), energy);
 }
 
-/// The step breaks this rule.
+/// Asserts that the step breaks this rule.
 fn assert_breaks<L: Ledger>(
     rt: &impl Abort,
     system: &mut System,
@@ -65,7 +64,7 @@ fn assert_breaks<L: Ledger>(
     assert_eq!(rt; broken, Some(rule));
 }
 
-/// No bot is left, and so many voxels are full.
+/// Asserts that no bot is left, and the number of full voxels.
 fn assert_ended<L: Ledger>(rt: &impl Abort, system: &System, full: u32, steps: &mut Steps<L>) {
     assert_eq!(rt; system.crew().count(), 0);
     assert_eq!(rt; system.matrix().count(steps), full);
@@ -102,7 +101,7 @@ fn one_bot_takes_its_turns(rt: HostRuntime) -> Result<(), Fail> {
     Ok(())
 }
 
-/// A bot splits, two Flips cancel, and the two fuse again.
+/// A fission, two Flips that cancel, and a fusion.
 fn of_two<L: Ledger>(rt: &impl Abort, blank: Blank, alloc: Global) -> Result<(), Memory>
     requires blank { IsBlankOf blank L.name L.parts }
 {

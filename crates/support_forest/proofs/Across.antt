@@ -1,4 +1,4 @@
--- Neighbours that lie in another brick.
+-- Neighbors that lie in another brick.
 use Rattle.std.proofs.Common.{◌≡◌, ℕ, zero, suc, ◌+◌, ◌-◌, ◌*◌, ◌/◌, ◌%◌, ◌<◌, ◌≤◌, inl, inr, refl, sym, ◌∙◌, ap, arith, Option, None, Some}
 use Rattle.std.specs.Prelude.{MatchOption}
 use Rattle.std.proofs.Math.Nat.{add-mul, mul-le-mul_right, suc-mul}
@@ -67,9 +67,9 @@ pub stands_below : (r number slot_place : ℕ) (c : Coord) → StandsIn r number
 unfolding brick_number
 stands_below r number slot_place c s = let below = place_below (side r) (brick c) s.within in let in_brick = s.in_brick in omega arith
 
--- ---- where the neighbour stands
+-- ---- the index of the neighbor
 
--- so many bricks are before it where it is not in the first of them
+-- as many bricks are before it, unless it is in the first of them
 pub own_below : (r : ℕ) (c : Coord) (number slot_place : ℕ) → IsOwnSpot r c number slot_place → side r ≤ 51
     → number < 132651
 unfolding brick_number
@@ -194,7 +194,7 @@ spot_far r c d own place number slot_place own_spot e last n i =
       stands = record { within = record { x = bricks.x; y = bricks.y; z = omega arith }; in_brick = omega arith; at_place = omega arith };
     }
 
--- ---- no neighbour at the border of space
+-- ---- no neighbor at the border of space
 
 pub none_left : (r : ℕ) (c : Coord) (d : ℕ) → d ≡ 1 → c.x ≡ 0 → NoneToward r c d
 none_left r c d e h = λ q t s. let some = (goes d r c q t s).one e in absurd (omega arith)
@@ -239,7 +239,7 @@ first_row s (suc x) y z own e f k h = absurd (omega arith)
 first_row s zero (suc y) z own e f k h = absurd (omega arith)
 first_row s zero zero z own e f k h = omega arith
 
--- what lies before the first brick of a row, in the wall before: the last of its rows
+-- the brick before the first brick of a row lies in the wall before: it is the last of its rows
 row_around : (s x z number own : ℕ) → 0 < x → 0 < s → number + s ≡ own → own ≡ x * s * s + 0 * s + z
     → (x - 1) * s * s + (s - 1) * s + z ≡ number
 row_around s zero z number own l k n h = absurd (omega arith)
@@ -251,7 +251,7 @@ row_around (suc s) (suc x) z number own l k n h =
     let square : suc s * suc s ≡ s * suc s + suc s = suc-mul s (suc s) in
     ap (λ (k : ℕ). k * suc s * suc s + (suc s - 1) * suc s + z) less ∙ (ap (λ (k : ℕ). x * suc s * suc s + k * suc s + z) last ∙ omega arith)
 
--- what lies before the first brick of a line: the last of the line before
+-- the brick before the first brick of a line is the last of the line before
 line_around : (s x y number own : ℕ) → 0 < y → 0 < s → number + 1 ≡ own → own ≡ x * s * s + y * s + 0
     → x * s * s + (y - 1) * s + (s - 1) ≡ number
 line_around s x zero number own l k n h = absurd (omega arith)
@@ -274,19 +274,19 @@ wall_around (suc s) (suc x) number own l k n h =
 
 -- ---- the word there
 
--- what holds of an option's value or of its lack
+-- a fact about an option's value or about its absence
 pub match_so : {A : Type 0} (o : Option A) (N M : Type 0) (P Q : A → Type 0) → (N → M) → ((a : A) → P a → Q a)
     → MatchOption o N P → MatchOption o M Q
 match_so None N M P Q n k h = n h
 match_so (Some a) N M P Q n k h = k a h
 
--- the word at a place of a brick is that of each voxel that stands there
+-- the word at an offset of a brick is that of each voxel with this offset
 pub reads_in_brick : (g : Grid) (number at word : ℕ) (slot : Option ℕ) → IsStore g → slot ≡ slot_at g.table number
     → word ≡ word_in g.bricks slot (swapped at) → (q : Coord) → StandsIn g.resolution number at q → word_at g q ≡ word
 reads_in_brick g number at word slot h e k q s =
     sym (h.words q s.within) ∙ (ap (λ (n : ℕ). word_in g.bricks (slot_at g.table n) (word_index q)) s.in_brick ∙ (ap (λ (j : ℕ). word_in g.bricks (slot_at g.table number) j) (sym (index_there q at (sym s.at_place))) ∙ (ap (λ (x : Option ℕ). word_in g.bricks x (swapped at)) (sym e) ∙ sym k)))
 
--- where no voxel lies in the direction the word is 0
+-- if no voxel lies in the direction, the word is 0
 pub no_word : (g : Grid) (c : Coord) (d word : ℕ) → ((q : Coord) → 0 < word_at g q → IsInSpace g.resolution q)
     → NoneToward g.resolution c d → word ≡ 0 → IsWordToward (word_at g) c d word
 no_word g c d word space none e = record {
@@ -306,7 +306,7 @@ void_word : (g : Grid) (q : Coord) (word : ℕ) → ((p : Coord) → 0 < word_at
     → (IsInSpace g.resolution q → ⊥) → word_at g q ≡ word → word ≡ 0
 void_word g q word space out e = elim (cases_lt 0 (word_at g q)) [ inl f ↦ absurd (out (space q f)) | inr f ↦ omega arith ]
 
--- ---- what stands over the border
+-- ---- the voxel over the border
 
 -- the number of its brick is in the table
 pub across_below : (r : ℕ) (c : Coord) (d next : ℕ) → IsSpotAcross r c d next
@@ -314,7 +314,7 @@ pub across_below : (r : ℕ) (c : Coord) (d next : ℕ) → IsSpotAcross r c d n
 across_below r c d next (inl s) = stands_below r (next / 512) (next % 512) s.there s.stands
 across_below r c d next (inr s) = stands_below r (next / 512) (next % 512) s.1.there s.1.stands
 
--- the word there is that of the neighbour, and 0 where none lies in space
+-- the word there is that of the neighbor, and 0 if none lies in space
 pub word_there : (g : Grid) (c : Coord) (d next word : ℕ) → ((q : Coord) → 0 < word_at g q → IsInSpace g.resolution q)
     → IsSpotAcross g.resolution c d next
     → ((q : Coord) → StandsIn g.resolution (next / 512) (next % 512) q → word_at g q ≡ word)

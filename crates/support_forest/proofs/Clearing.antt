@@ -1,4 +1,4 @@
--- The voxels of a stretch become void together, or are listed.
+-- The voxels of a segment become void together, or are deferred.
 use Rattle.std.proofs.Common.{◌≡◌, ℕ, zero, suc, ◌+◌, ◌-◌, ◌*◌, ◌%◌, ◌<◌, ◌≤◌, ◌⊎◌, inl, inr, refl, sym, ◌∙◌, ap, subst, arith, List, [], ◌∷◌, ◌++◌}
 use Rattle.std.specs.Prelude.{slice_index_or}
 use Rattle.std.proofs.lemmas.Bool.{cases_lt, cases_eq}
@@ -77,7 +77,7 @@ pub before_left : (old now : Grid) (c : Coord) (k n before steps : ℕ) → 0 < 
     → AreCleared old now c (k - 1 + 1) n before steps
 before_left old now c k n before steps h a = let k_is : k ≡ k - 1 + 1 = omega arith in subst (λ (i : ℕ). AreCleared old now c i n before steps) k_is a
 
--- ---- voxels of the list that were taken or listed
+-- ---- voxels of the list that were voided or deferred
 
 -- the voxel is one of the row, or none
 pub in_row : (d c : Coord) (n : ℕ) → ((j : ℕ) × (j < n) × (d ≡ further c j)) ⊎ ((j : ℕ) → j < n → d ≡ further c j → ⊥)

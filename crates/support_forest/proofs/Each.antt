@@ -1,4 +1,4 @@
--- Voxels that become full or void one after another while the levels of the others stay, and those that are left.
+-- Voxels that become full or void one after another while the levels of the others stay, and the deferred ones.
 use Rattle.std.proofs.Common.{◌≡◌, ◌≢◌, ℕ, zero, suc, ◌+◌, ◌-◌, ◌*◌, ◌/◌, ◌%◌, ◌<◌, ◌≤◌, ◌⊎◌, inl, inr, sym, ◌∙◌, ap, subst, arith, List, [], ◌∷◌, ◌++◌, length, length-append}
 use Rattle.std.specs.Prelude.{slice_index_or, count_by}
 use Rattle.std.specs.List.{AllPairs, Contains}
@@ -27,7 +27,7 @@ no_member xs c e h = let below_length : h.0 < length xs = h.1 in let length_is :
 pub none_differ : (xs : List Coord) → xs ≡ [] → AllPairs ◌≢◌ xs
 none_differ xs e i j d l k = let length_is : length xs ≡ 0 = ap length e in absurd (omega arith)
 
--- what differs from all that is listed may be listed too
+-- a voxel that differs from all that are listed may be listed too
 pub differ_more : (xs : List Coord) (c : Coord) → AllPairs ◌≢◌ xs → ((d : Coord) → Contains xs d → d ≡ c → ⊥)
     → AllPairs ◌≢◌ (xs ++ c ∷ [])
 differ_more xs c h n i j d l k e =
@@ -41,7 +41,7 @@ differ_more xs c h n i j d l k e =
           n (slice_index_or xs i d) (i, omega arith, get_or_default xs i (slice_index_or xs i d) d (omega arith)) (sym before ∙ (e ∙ (ap (λ (k : ℕ). slice_index_or (xs ++ c ∷ []) k d) j_is ∙ last)))
     ]
 
--- a voxel that has a level has one also where more voxels are full
+-- a voxel that has a level has one also if more voxels are full
 still_level : (r s : ℕ) (w v : Coord → ℕ) → AreExact r w → AreExact s v → ((c : Coord) → 0 < w c → 0 < v c) → (n : ℕ)
     (c : Coord) → height w c ≤ n → 8 ≤ w c → 8 ≤ v c
 still_level r s w v e f k zero c l h = absurd (omega arith)
@@ -181,7 +181,7 @@ placed_and_added old now new cells rest before steps after a p h = record {
 
 -- ---- voxels that become void
 
--- before the last of those that are left is looked at
+-- the state before the last voxel that is left
 pub before_last : (old now : Grid) (gone : List Coord) (i : ℕ) (rest : List Coord) (before steps : ℕ) → 0 < i
     → IsTaking old now gone i rest before steps → IsTaking old now gone (i - 1 + 1) rest before steps
 before_last old now gone i rest before steps s p = let i_is : i ≡ i - 1 + 1 = omega arith in subst (λ (k : ℕ). IsTaking old now gone k rest before steps) i_is p

@@ -1,4 +1,4 @@
--- What a list of edits leaves.
+-- The matrix after a list of edits.
 use Rattle.std.proofs.Common.{◌≡◌, zero, suc, inl, inr, refl, sym, ◌∙◌, ap, arith, Bool, true, false, ◌&&◌, ◌||◌, not, List, [], ◌∷◌}
 use Rattle.std.specs.List.{Contains}
 use Rattle.std.proofs.lemmas.Bool.{false≢true}

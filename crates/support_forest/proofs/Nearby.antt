@@ -1,4 +1,4 @@
--- The words beside a voxel.
+-- The words of a voxel's neighbors.
 use Rattle.std.proofs.Common.{◌≡◌, ℕ, ◌+◌, ◌-◌, ◌/◌, ◌%◌, ◌<◌, refl, sym, ◌∙◌, ap, subst, arith, List, Option, Some}
 use Rattle.vox_geom.specs.declared.coordinate.Coord.{Coord}
 use Rattle.vox_geom.specs.Space.{IsInSpace}
@@ -10,7 +10,7 @@ use Rattle.support_forest.specs.Words.{IsWritten}
 use Rattle.support_forest.proofs.Sides.{one_direction}
 use Rattle.support_forest.proofs.Store.{brick_inside, same_brick}
 
--- what holds of each of the six words holds of a neighbour's
+-- a fact about each of the six words is one about a neighbor's
 pub each_beside : (w : Coord → ℕ) (c q : Coord) (b : Beside) (P : ℕ → Type 0) → AreBesideWords w c b → P b.left
     → P b.right → P b.under → P b.over → P b.near → P b.far → AreBeside c q → P (w q)
 each_beside w c q b P k left right under over near far n = by n.direction n.toward
@@ -36,7 +36,7 @@ toward_down c q (lies_far h) = absurd (omega arith)
 pub same_slot : (g : Grid) (c d : Coord) (own : Option ℕ) → brick d ≡ brick c → own ≡ slot_of g c → own ≡ slot_of g d
 same_slot g c d own e h = subst (λ (n : ℕ). own ≡ slot_at g.table n) (sym (same_brick g.resolution d c e)) h
 
--- ---- the place of a neighbour's word in the same brick
+-- ---- the offset of a neighbor's word in the same brick
 
 pub stands_left : (c : Coord) (d slot_place i : ℕ) → d ≡ 1 → slot_place ≡ place_in_slot c → 0 < c.x % 8
     → i + 8 ≡ slot_place → StandsToward c d i
@@ -98,7 +98,7 @@ stands_far c d slot_place i n e h k = record {
   at_place = omega arith;
 }
 
--- a neighbour in the same brick stands in the same slot
+-- a neighbor in the same brick has its word in the same slot
 pub stands_beside : (g : Grid) (c : Coord) (d slot slot_place : ℕ) → IsInSpace g.resolution c → slot_of g c ≡ Some slot
     → (t : StandsToward c d slot_place) → StandsAt g slot slot_place t.there
 stands_beside g c d slot slot_place i e t = record {
@@ -107,14 +107,14 @@ stands_beside g c d slot slot_place i e t = record {
   at_place = t.at_place;
 }
 
--- where the table stays a brick keeps its slot
+-- if the table stays, a brick keeps its slot
 pub slot_stays : (g h : Grid) (c : Coord) (own : Option ℕ) → h.table ≡ g.table → h.resolution ≡ g.resolution
     → own ≡ slot_of g c → own ≡ slot_of h c
 slot_stays g h c own t r e = e ∙ (ap (λ (n : ℕ). slot_at g.table (brick_number n c)) (sym r) ∙ ap (λ (l : List (Option ℕ)). slot_at l (brick_number h.resolution c)) (sym t))
 
--- ---- the words of other neighbours
+-- ---- the words of other neighbors
 
--- where a neighbour's word is written, those of the others stay
+-- if a neighbor's word is written, those of the others stay
 pub stay_after : (w v : Coord → ℕ) (c q : Coord) (d word : ℕ) → Toward d c q → IsWritten w v q word → StayAfter w v c d
 stay_after w v c q d word t n k m l h = record {
   each = λ p u. n.kept p (λ e. let d_is : d ≡ k = one_direction d k c q t (subst (λ (x : Coord). Toward k c x) e u) in absurd (omega arith)) ∙ h.each p u;

@@ -1,4 +1,4 @@
--- The spots of neighbours, where so many bricks lie along an axis.
+-- The indices of neighbors, for n bricks along an axis.
 use Rattle.std.proofs.Common.{◌≡◌, ℕ, ◌+◌, ◌-◌, ◌*◌, ◌/◌, ◌%◌, ◌<◌, ◌≤◌, inl, inr, refl, sym, ◌∙◌, ap, subst, arith, Bool, true, false, nat_lt, leb, MatchBool}
 use Rattle.std.proofs.lemmas.Bool.{cases_lt, leb-true, leb-false}
 use Rattle.vox_geom.specs.declared.coordinate.Coord.{Coord}
@@ -12,7 +12,7 @@ use Rattle.support_forest.proofs.Across.{ends_far, ends_left, ends_near, ends_ov
 use Rattle.support_forest.proofs.Sides.{sums}
 use Rattle.support_forest.proofs.Voxels.{digit_x, digit_y, digit_z, slot_place_at, place_at, voxel_is}
 
--- what a test tells
+-- a conditional, by the value of its test
 by_test : {P Q : Type 0} (t : Bool) → (t ≡ true → P) → (t ≡ false → Q) → MatchBool t P Q
 by_test true k n = k refl
 by_test false k n = n refl
@@ -20,7 +20,7 @@ by_test false k n = n refl
 one_brick : (q c : Coord) → q.x / 8 ≡ c.x / 8 → q.y / 8 ≡ c.y / 8 → q.z / 8 ≡ c.z / 8 → brick q ≡ brick c
 one_brick q c e f g = λ j. record { x = e j; y = f j; z = g j }
 
--- the place of equal components
+-- the index of equal components
 same_place : (s a b c x y z n : ℕ) → a ≡ x → b ≡ y → c ≡ z → x * s * s + y * s + z ≡ n → a * s * s + b * s + c ≡ n
 same_place s a b c x y z n e f g h =
     ap (λ (k : ℕ). k * s * s + b * s + c) e
@@ -126,7 +126,7 @@ fits_near s p d e b h =
     let number = place_at s p in
     omega arith
 
--- ---- the spot of the neighbour
+-- ---- the index of the neighbor
 
 pub next_left : (s p d wall next : ℕ) → d ≡ 1 → wall ≡ s * s → (8 ≤ p % 64 → next + 8 ≡ p)
     → (p % 64 < 8 → next + 512 * wall ≡ p + 56) → (q : Coord) → Toward d (voxel_of s p) q

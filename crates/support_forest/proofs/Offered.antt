@@ -1,4 +1,4 @@
--- The spot of a neighbour that is offered a height, and what lists of offers say of candidates.
+-- The index of a neighbor that is relaxed, and the candidates of a list.
 use Rattle.std.proofs.Common.{◌≡◌, ℕ, ◌<◌, ◌≤◌, sym, ◌∙◌, ap, subst, arith, List}
 use Rattle.std.specs.List.{Contains}
 use Rattle.std.proofs.lemmas.List.{get_or-map, length-map}
@@ -15,19 +15,19 @@ use Rattle.support_forest.specs.Spots.{IsBrickBeside, IsSpotNext, voxel_of}
 use Rattle.support_forest.specs.Spreading.{CanSpread}
 use Rattle.support_forest.specs.Waiting.{Waiting}
 
--- what is listed is listed as a candidate
+-- a listed item is listed as a candidate
 pub listed_offer : (s : ℕ) (offers : List SpotOffer) (y : SpotOffer) → Contains offers y
     → Contains (candidates_at s offers) (candidate_at s y)
 listed_offer s offers y h =
     (h.0, omega (arith, h.1, length-map offers (λ (o : SpotOffer). candidate_at s o)), get_or-map (λ (o : SpotOffer). candidate_at s o) offers h.0 y (candidate_at s y) h.1 ∙ ap (λ (o : SpotOffer). candidate_at s o) h.2)
 
--- no offer of the list is higher
+-- no candidate of the list is higher
 pub no_higher : (s most : ℕ) (offers : List SpotOffer)
     → ((f : Candidate) → Contains (candidates_at s offers) f → f.height ≤ most) → (y : SpotOffer) → Contains offers y
     → y.height ≤ most
 no_higher s most offers h y k = h (candidate_at s y) (listed_offer s offers y k)
 
--- a voxel in hand lies in space, and so do all full ones
+-- the voxel being expanded lies in space, and so do all full ones
 pub lies_in_hand : (now : Grid) (q : Waiting) (x : Candidate) (d steps : ℕ) → CanSpread now q x d steps
     → LieInSpace now x.at
 lies_in_hand now q x d steps can = record {
@@ -35,7 +35,7 @@ lies_in_hand now q x d steps can = record {
   space = λ c f. subst (λ (r : ℕ). IsInSpace r c) (sym can.is.same.resolution) (can.is.settling.space c f);
 }
 
--- ---- the neighbour at the next spot: it is full
+-- ---- the neighbor at the next index: it is full
 
 pub next_toward : (s p d next : ℕ) → (b : IsBrickBeside s p d) → IsSpotNext s p d next
     → Toward d (voxel_of s p) (voxel_of s next)

@@ -1,4 +1,4 @@
--- What the lists of spots that a removal keeps say of the voxels there.
+-- The voxels of the lists of indices that a removal keeps.
 use Rattle.std.proofs.Common.{◌≡◌, ℕ, ◌*◌, ◌/◌, ◌<◌, ◌≤◌, sym, ◌∙◌, ap, subst, arith, List, [], ◌∷◌, ◌++◌, length}
 use Rattle.std.specs.Prelude.{slice_index_or}
 use Rattle.std.proofs.lemmas.List.{get_or-map, length-map, map-append}
@@ -26,7 +26,7 @@ orphans_more s queue new x e = ap (λ (l : List OrphanSpot). orphans_at s l) e �
 pub orphans_length : (s : ℕ) (queue : List OrphanSpot) → length (orphans_at s queue) ≡ length queue
 orphans_length s queue = length-map queue (λ (o : OrphanSpot). orphan_at s o)
 
--- the one at a place
+-- the orphan at an index
 pub orphan_below : (s : ℕ) (queue : List OrphanSpot) (i : ℕ) → i < length queue → i < length (orphans_at s queue)
 orphan_below s queue i l = omega (arith, orphans_length s queue)
 
@@ -38,7 +38,7 @@ orphan_here s queue i x l e =
 pub no_voxels : (s : ℕ) (spots : List ℕ) → spots ≡ [] → listed_voxels s spots ≡ []
 no_voxels s spots e = ap (λ (l : List ℕ). listed_voxels s l) e
 
--- ---- the neighbour that is listed
+-- ---- the neighbor that is listed
 
 pub few_sides : (r s : ℕ) → s ≡ side r → r ≤ 400 → s ≤ 51
 few_sides r s e h = let few = few_bricks r h in omega arith
@@ -47,7 +47,7 @@ pub spot_below : (r s p : ℕ) → s ≡ side r → IsInSpace r (voxel_of s p) �
 spot_below r s p e h =
     subst (λ (k : ℕ). p / 512 < k * k * k) (sym e) (number_below r p (subst (λ (k : ℕ). IsInSpace r (voxel_of k p)) e h))
 
--- a neighbour that is full lies in a brick of the table
+-- a full neighbor lies in a brick of the table
 pub neighbour : (g : Grid) (s p d word : ℕ) → s ≡ side g.resolution → LieInSpace g (voxel_of s p)
     → IsWordToward (word_at g) (voxel_of s p) d word → 0 < word → IsBrickBeside s p d
 neighbour g s p d word e h k some =
@@ -69,7 +69,7 @@ lists_spot w s p above d toward word next queue new k some b n e =
     (subst (λ (q : Coord). Toward d (voxel_of s p) q) (sym next_is) b.toward)
     (orphans_more s queue new (record { spot = next; height = above }) e)
 
--- ---- where the side is that of a store
+-- ---- if the side is that of a store
 
 pub voxels_same : (s r : ℕ) (spots list : List ℕ) → s ≡ side r → list ≡ spots
     → listed_voxels s spots ≡ listed_voxels (side r) list

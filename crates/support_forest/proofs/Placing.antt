@@ -1,4 +1,4 @@
--- A voxel that becomes full beside others whose levels stay as they are.
+-- A voxel that becomes full while the levels of its neighbors stay as they are.
 use Rattle.std.proofs.Common.{◌≡◌, ℕ, ◌+◌, ◌*◌, ◌/◌, ◌%◌, ◌<◌, ◌≤◌, ◌⊎◌, inl, inr, refl, sym, ◌∙◌, ap, subst, arith, Bool, true, false, List, length}
 use Rattle.std.specs.Prelude.{slice_index_or, ◌==◌, MatchBool}
 use Rattle.std.specs.List.{Contains}
@@ -24,12 +24,12 @@ use Rattle.support_forest.proofs.Sides.{back, one_toward, toward_range_seven}
 pub positive : (n : ℕ) → (n ≡ 0 → ⊥) → 0 < n
 positive n h = elim (cases_lt 0 n) [ inl l ↦ l | inr l ↦ absurd (h (omega arith)) ]
 
--- ---- one neighbour more
+-- ---- one neighbor more
 
 the_word : (w : Coord → ℕ) (c q p : Coord) (d k : ℕ) → Toward d c q → Toward k c p → d ≡ k → w p ≡ w q
 the_word w c q p d k t u e = ap w (sym (one_toward k c q p (subst (λ (j : ℕ). Toward j c q) e t) u))
 
--- what was known of the directions below, and what the one more adds
+-- the neighborhood in the directions below, and with the one more
 pub one_more : (w : Coord → ℕ) (c q : Coord) (a b : Around) (d : ℕ) → Toward d c q → IsAround w c a d →
     (c.y ≡ 0 → b.height ≡ 1) →
     ((b.height ≡ 0) ⊎ IsSound w (record { at = c; height = b.height; toward = b.toward })) →
@@ -55,7 +55,7 @@ one_more w c q a b d t i floor sound lower higher looser near loose = record {
   ];
 }
 
--- no neighbour lies in the direction, or it is void
+-- no neighbor lies in the direction, or it is void
 pub around_void : (w : Coord → ℕ) (c : Coord) (a : Around) (d : ℕ) → ((q : Coord) → Toward d c q → w q ≡ 0)
     → IsAround w c a d → IsAround w c a (d + 1)
 around_void w c a d z i = record {
@@ -100,7 +100,7 @@ not_beside d a b e h = apart (ap (λ (c : Coord). c.x) e) (ap (λ (c : Coord). c
     apart x y z (lies_near k) = omega arith
     apart x y z (lies_far k) = omega arith
 
--- what the neighbours allow the voxel's word to be
+-- the conditions of the neighbors on the voxel's word
 pub record Fits (r : ℕ) (w : Coord → ℕ) (c : Coord) (word : ℕ) : Type 0 where
   pub some : 0 < word
   pub form : word < 8 → word ≤ 1
@@ -148,7 +148,7 @@ exact_with r w v c word e s z f k = record {
       | inr p ↦ let still_here = still p.0 p.2 in inr (p.0, subst (λ (x : Coord). Toward (v d % 8) x p.0) (sym m) (subst (λ (j : ℕ). Toward (j % 8) c p.0) (sym at_here) p.1), omega (arith, p.2), omega (arith, p.3))
     ]
 
--- ---- the voxel is offered no height
+-- ---- the voxel has no candidate
 
 fits_alone : (r : ℕ) (w : Coord → ℕ) (c : Coord) (a : Around) → IsAround w c a 7 → a.height ≡ 0 → Fits r w c 1
 fits_alone r w c a i z = record {
@@ -160,7 +160,7 @@ fits_alone r w c a i z = record {
   below = λ b g h n. absurd (omega arith);
 }
 
--- ---- the voxel is offered a height, by which no neighbour improves
+-- ---- the voxel has a candidate, by which no neighbor improves
 
 fits_below : (r : ℕ) (w : Coord → ℕ) (c : Coord) (a : Around) → AreExact r w → r * r * r ≤ 64000000 → IsAround w c a 7
     → (a.height ≡ 0 → ⊥) → a.is_loose ≡ false → a.highest ≤ a.height + 1 → Fits r w c (8 * a.height + a.toward)
@@ -211,7 +211,7 @@ fits_below r w c a e few i z firm calm =
           | inr m ↦ let at_most_highest : height w b ≤ a.highest = i.highest n.direction b toward_range.1 n.toward (omega arith) in (omega arith, omega arith)
         ]
 
--- ---- the voxel stands on the one under it
+-- ---- the voxel is a child of the voxel below
 
 fits_over : (r : ℕ) (w : Coord → ℕ) (c : Coord) (b : Beside) → AreBesideWords w c b → MayStand b
     → Fits r w c (8 * (b.under / 8) + 11)
@@ -238,7 +238,7 @@ fits_over r w c b k m =
 
 -- ---- the voxel is on the floor
 
--- a full neighbour of a voxel on the floor has height 1 too, or lies over it
+-- a full neighbor of a voxel on the floor has height 1 too, or lies above it
 floor_near : (r : ℕ) (w : Coord → ℕ) (c a : Coord) (d over : ℕ) → AreExact r w → c.y ≡ 0 → IsWordToward w c 4 over
     → MayLieUnder over → 0 < w a → Toward d c a → (8 ≤ w a) × (height w a ≤ 8 / 8 + 1)
 floor_near r w c a d over e y k m f (lies_left h) = let w_is : w a ≡ 8 = e.floor a f (omega arith) in (omega arith, omega arith)
@@ -279,7 +279,7 @@ word_small r w c a e few i = elim i.sound [
 pub toward_small : (w : Coord → ℕ) (c : Coord) (a : Around) → IsAround w c a 7 → (a.height ≡ 0 → ⊥) → a.toward ≤ 6
 toward_small w c a i z = elim i.sound [ inl n ↦ absurd (z n) | inr s ↦ (sound_range w (record { at = c; height = a.height; toward = a.toward }) s).1 ]
 
--- ---- nothing is known yet
+-- ---- no neighbor is known yet
 
 pub around_none : (w : Coord → ℕ) (c : Coord) (a : Around)
     → ((c.y ≡ 0) × (a.height ≡ 1)) ⊎ ((c.y ≡ 0 → ⊥) × (a.height ≡ 0)) → a.toward ≡ 0 → IsAround w c a 1
@@ -344,7 +344,7 @@ pub placed_on_floor : (old new : Grid) (c : Coord) (over before mid after : ℕ)
     → HavePlaced old new c before after
 placed_on_floor old new c over before mid after e s z y i m k r l t = placed_with old new c 8 before mid after e s z (fits_on_floor old.resolution (word_at old) c over e y i m) k r (omega arith) t
 
--- a voxel has a small height where one stands on it
+-- a voxel has a small height if one lies above it
 pub under_small : (r : ℕ) (w : Coord → ℕ) (c : Coord) (under : ℕ) → AreExact r w → r * r * r ≤ 64000000
     → IsWordToward w c 3 under → 8 ≤ under → under / 8 ≤ 64000000
 under_small r w c under e few k some =

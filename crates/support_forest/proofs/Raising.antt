@@ -1,4 +1,5 @@
--- Columns of a matrix that are raised from the floor, voxel after voxel, and the full voxels above, which are listed.
+-- Columns of a matrix that are written from the floor up, voxel by voxel, and the full voxels above, which are
+-- deferred.
 use Rattle.std.proofs.Common.{◌≡◌, ℕ, zero, suc, ◌+◌, ◌-◌, ◌*◌, ◌/◌, ◌%◌, ◌^◌, ◌<◌, ◌≤◌, ◌⊎◌, inl, inr, refl, sym, ◌∙◌, ap, subst, arith, Bool, true, false, not, cond, List, [], ◌∷◌, ◌++◌, length, length-append, get_or, Some, bit_and}
 use Rattle.std.proofs.Common.{[], ext_get_or}
 use Rattle.std.specs.Prelude.{◌==◌, ◌&&◌, IsTrue, IsFalse, nat_lt}
@@ -53,7 +54,7 @@ same_scan_index r c d few v w e =
     let cx = v.x in let cy = v.y in let cz = v.z in let dx = w.x in let dy = w.y in let dz = w.z in
     coordinate_by_parts c d (omega arith) (omega arith) (omega arith)
 
--- what comes before a place and passes stays the same where nothing that passes lies between
+-- the voxels before an index that pass stay the same if no voxel between that index and the next passes
 same_before : (t p q : ℕ) (b : Bool) → p ≤ q → (b ≡ true → p ≤ t → t < q → ⊥) → (nat_lt t q && b) ≡ (nat_lt t p && b)
 same_before t p q false l n = no_second (nat_lt t q) false refl ∙ sym (no_second (nat_lt t p) false refl)
 same_before t p q true l n = elim (cases_lt t p) [
@@ -69,7 +70,7 @@ deferred_later m p q c l h =
     let before = less_by_test (scan_index c) p (first_of_two _ _ h) in
     both_true _ _ (test_less (scan_index c) q (omega arith)) (second_of_two _ _ h)
 
--- ---- from a place to a later one
+-- ---- from an index to a later one
 
 pub raised_on : (m : Matrix) (g : Grid) (p q : ℕ) (rest : List Coord) → p ≤ q
     → ((c : Coord) → IsInSpace m.resolution c → IsTrue (is_full m c) → p ≤ scan_index c → scan_index c < q → ⊥)
@@ -265,7 +266,7 @@ pub row_bits : (m : Matrix) (c : Coord) (n read : ℕ) → n ≤ 64
     → ((k : ℕ) → k < n → bit read k ≡ (bit (2 ^ 64 - 1) k && is_full m (further c k))) → AreRowBits m c n read
 row_bits m c n read few h k l = h k l ∙ ap (λ b. b && is_full m (further c k)) (full_bit k (omega arith))
 
--- no voxel of a column is looked at yet
+-- no voxel of a column is scanned yet
 pub columns_begin : (m : Matrix) (x z n : ℕ) → n ≤ 64 → AreSupportedBits m x z n 0 (2 ^ 64 - 1)
 columns_begin m x z n few k l = full_bit k (omega arith)
 
@@ -275,7 +276,7 @@ supported_bits m c n bits supported f s k l =
     let one_more : suc c.y ≡ c.y + 1 = omega arith in
     and_bit supported bits k ∙ ((λ i. s k l i && f k l i) ∙ ap (is_column_full m c.x (c.z + k)) one_more)
 
--- behind the last voxel of a row the next layer comes
+-- after the last voxel of a row comes the next layer
 pub next_layer : (m : Matrix) (g : Grid) (x y z n : ℕ) (rest : List Coord) → m.resolution ≤ 400 → y < m.resolution
     → z < m.resolution → z % 64 ≡ 0 → n ≤ 64 → (n < 64 → z + n ≡ m.resolution)
     → IsScanned m g (262144 * x + 512 * z + 64 * y + n) rest → IsScanned m g (262144 * x + 512 * z + 64 * (y + 1)) rest
@@ -291,7 +292,7 @@ next_layer m g x y z n rest small high far whole few most h = raised_on m g (262
         let last = most some in
         omega arith
 
--- over the last layer, or from one on from which all is void, the next columns come
+-- after the last layer, or the first of only void layers, come the next columns
 pub next_columns : (m : Matrix) (g : Grid) (x y z : ℕ) (rest : List Coord) → m.resolution ≤ 400 → z % 64 ≡ 0 → y ≤ 400
     → ((c : Coord) → y ≤ c.y → is_full m c ≡ false) → IsScanned m g (262144 * x + 512 * z + 64 * y) rest
     → IsScanned m g (262144 * x + 512 * z + 32768) rest
@@ -305,7 +306,7 @@ next_columns m g x y z rest few whole high void h = raised_on m g (262144 * x + 
         let over : y ≤ c.y = omega arith in
         false_and_true (is_full m c) (void c over) f
 
--- no voxel is over the last layer
+-- no voxel is above the last layer
 pub void_over : (m : Matrix) (c : Coord) → m.resolution ≤ c.y → is_full m c ≡ false
 void_over m c l = by_value (is_full m c) refl
   where
@@ -313,7 +314,7 @@ void_over m c l = by_value (is_full m c) refl
     by_value true e = let along_y = (space_of m c e).y in absurd (omega arith)
     by_value false e = e
 
--- behind the last columns of a wall the next wall comes
+-- after the last columns of a wall comes the next wall
 pub next_wall : (m : Matrix) (g : Grid) (x z : ℕ) (rest : List Coord) → m.resolution ≤ 400 → z % 64 ≡ 0
     → m.resolution ≤ z → z ≤ 512 → IsScanned m g (262144 * x + 512 * z) rest → IsScanned m g (262144 * (x + 1)) rest
 next_wall m g x z rest few whole last most h = raised_on m g (262144 * x + 512 * z) (262144 * (x + 1)) rest (omega arith) none h

@@ -19,7 +19,7 @@ use Rattle.support_forest.proofs.Writes.{keeps, sets, still_counted, straight_no
 abbrev pub rowed : Grid → ℕ → ℕ → ℕ → ℕ → Grid
 rowed g slot index word k = record { resolution = g.resolution; table = g.table; bricks = with_row g.bricks slot index k word }
 
--- what is so of the row, the slot and the words
+-- the facts of the row, the slot and the words
 pub record CanRow (g : Grid) (c : Coord) (slot index word : ℕ) : Type 0 where
   pub store : IsStore g
   pub row : LieInRow g c 8
@@ -45,7 +45,7 @@ can_row g q c slot index word same h r o a l ls w = record {
   written = w;
 }
 
--- what is so after k words
+-- the facts after k words
 record IsRowed (g : Grid) (c : Coord) (slot index word k : ℕ) : Type 0 where
   store : IsStore (rowed g slot index word k)
   floating : floating_count (rowed g slot index word k) ≡ floating_count g
@@ -87,7 +87,7 @@ is_rowed g c slot index word (suc k) h l =
       later = λ j m. one_more_here.0.kept (further c j) (λ e. let sum_is : c.z + j ≡ c.z + k = ap (λ (x : Coord). x.z) e in omega arith) ∙ rowed_here.later j (omega arith);
     }
 
--- what a row that is written leaves
+-- the store after a row was written
 pub record WroteRow (g : Grid) (v : Slots) (c : Coord) (word : ℕ) : Type 0 where
   pub store : IsStore (record { resolution = g.resolution; table = g.table; bricks = v })
   pub floating : floating_count (record { resolution = g.resolution; table = g.table; bricks = v }) ≡ floating_count g
@@ -117,7 +117,7 @@ wrote_row g v c slot index word h e =
       };
     })
 
--- ---- what is read of it
+-- ---- reads of the row
 
 -- the voxels of the row have the word, and no others changed
 written_so_far : (old new : Grid) (c : Coord) (word k : ℕ) (w : AreWritten old new c word) → k ≤ 8

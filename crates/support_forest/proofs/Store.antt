@@ -44,7 +44,7 @@ pub slot_place_below : (c : Coord) → place_in_slot c < 512
 unfolding place_in_slot
 slot_place_below c = omega arith
 
--- the index of the word at a voxel's place
+-- the index of the word at a voxel's offset
 pub index_there : (c : Coord) (at : ℕ) → at ≡ place_in_slot c → swapped at ≡ word_index c
 unfolding swapped place_in_slot word_index
 index_there c at e = omega arith
@@ -124,7 +124,7 @@ few_live g h =
     let len_is : len g.bricks ≡ count_by is_some g.table = h.count in
     omega arith
 
--- ---- what the code answers
+-- ---- the results of the code
 
 pub number_is : (r s n : ℕ) (c : Coord) → s ≡ side r → n ≡ place s (brick c) → n ≡ brick_number r c
 unfolding brick_number

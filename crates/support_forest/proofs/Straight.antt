@@ -1,4 +1,4 @@
--- Forests in which each full voxel stands on the floor or hangs on the one under it: each has the level of its y.
+-- Forests without overhangs: each full voxel has the level of its y.
 use Rattle.std.proofs.Common.{◌≡◌, ℕ, zero, suc, ◌+◌, ◌*◌, ◌/◌, ◌%◌, ◌<◌, ◌≤◌, ◌⊎◌, inl, inr, refl, ap, subst, arith, false, not, ◌||◌}
 use Rattle.std.specs.Prelude.{◌==◌}
 use Rattle.std.proofs.lemmas.Bool.{cases_lt, cases_eq}
@@ -15,14 +15,14 @@ use Rattle.support_forest.specs.Words.{AreExact, IsStraight, height, leans}
 use Rattle.support_forest.proofs.Nearby.{toward_down}
 use Rattle.support_forest.proofs.Placing.{Fits}
 
--- what does not lean
+-- a word that is not an overhang
 pub upright : (word : ℕ) → leans word ≡ false → (word % 8 ≡ 0) ⊎ (word % 8 ≡ 3)
 upright word h = elim (cases_eq (word % 8) 0) [
   | inl e ↦ inl e
   | inr n ↦ elim (cases_eq (word % 8) 3) [ inl e ↦ inr e | inr m ↦ absurd (grind (arith, nat_tests)) ]
 ]
 
--- a straight word says no parent but the one under it
+-- a word that is not an overhang has no parent but the voxel below
 pub hangs_on_none : (word toward : ℕ) → leans word ≡ false → 0 < toward → (toward ≡ 3 → ⊥) → HangsNot word toward
 hangs_on_none word toward h some other full e = elim (upright word h) [ inl z ↦ absurd (omega arith) | inr t ↦ other (omega arith) ]
 
@@ -63,7 +63,7 @@ has_height r w c e s f = elim (cases_lt (w c) 8) [
   | inr l ↦ l
 ]
 
--- how high neighbours lie
+-- the y of neighbors
 near_y : (a b : Coord) → AreBeside a b → (a.y ≤ b.y + 1) × (b.y ≤ a.y + 1)
 near_y a b n = by n.toward
   where
@@ -75,7 +75,7 @@ near_y a b n = by n.toward
     by (lies_near d) = (omega (arith, d.2), omega (arith, d.2))
     by (lies_far d) = (omega (arith, d.2), omega (arith, d.2))
 
--- a void voxel that stands on a full one fits
+-- a void voxel above a full one fits
 pub fits_straight : (r : ℕ) (w : Coord → ℕ) (c : Coord) (under : ℕ) → AreExact r w → IsStraight w
     → IsWordToward w c 3 under → 0 < under → Fits r w c (8 * (under / 8) + 11)
 fits_straight r w c under e s k f =
@@ -98,7 +98,7 @@ fits_straight r w c under e s k f =
           (some, omega (arith, near.0));
     }
 
--- where nothing is over a voxel, it is no parent
+-- if no voxel is above a voxel, it is no parent
 pub no_parent_straight : (w : Coord → ℕ) (c : Coord) (over : ℕ) → IsStraight w → IsWordToward w c 4 over → over ≡ 0
     → IsNoParent w c
 no_parent_straight w c over s k z q h t = elim (upright (w q) (s q)) [
@@ -114,11 +114,11 @@ no_parent_straight w c over s k z q h t = elim (upright (w q) (s q)) [
     up (lies_near d) = let is = d.0 in omega arith
     up (lies_far d) = let is = d.0 in omega arith
 
--- a voxel that stands on another does not lean
+-- a voxel whose parent is the voxel below is not an overhang
 pub stands_upright : (h : ℕ) → leans (8 * h + 11) ≡ false
 stands_upright h = let digit : (8 * h + 11) % 8 ≡ 3 = omega arith in ap (λ (d : ℕ). not (d == 0 || d == 3)) digit
 
--- the voxel under another has a height where it is full
+-- the voxel below another has a height if it is full
 pub held_by : (r : ℕ) (w : Coord → ℕ) (c : Coord) (under : ℕ) → AreExact r w → IsStraight w → IsWordToward w c 3 under
     → 0 < under → 8 ≤ under
 held_by r w c under e s k f =
@@ -148,7 +148,7 @@ ends_straight w c n s = record {
   far = λ p x y z. hangs_on_none (w p) 5 (s p) (omega arith) (not_three 5 (inr (omega arith)));
 }
 
--- no word leans where none is counted
+-- there are no overhangs if the count is 0
 pub none_leans : (g : Grid) → count_words leans g ≡ 0
     → IsStraight (word_at g)
 none_leans g h c = elim (cases_lt 0 (word_at g c)) [

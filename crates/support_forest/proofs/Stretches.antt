@@ -1,4 +1,4 @@
--- Voxels that follow one another in a row of a brick, and become void together.
+-- Segments of a row of a brick: voxels that follow one another, and become void together.
 use Rattle.std.proofs.Common.{◌≡◌, ℕ, ◌+◌, ◌-◌, ◌*◌, ◌/◌, ◌%◌, ◌<◌, ◌≤◌, inl, inr, refl, sym, ◌∙◌, ap, subst, arith, List, length, get_or, Option, Some, None}
 use Rattle.std.specs.Prelude.{slice_index_or}
 use Rattle.std.proofs.lemmas.List.{get_or_default}
@@ -17,9 +17,9 @@ use Rattle.support_forest.proofs.Sides.{one_toward}
 use Rattle.support_forest.proofs.Store.{brick_inside, slot_place_below}
 use Rattle.support_forest.proofs.Writes.{reads_place}
 
--- ---- where a stretch begins
+-- ---- the start of a segment
 
--- so many of the last voxels before the end follow one another
+-- as many of the last voxels before the end follow one another
 pub record IsBefore (gone : List Coord) (end : ℕ) (last : Coord) (most count : ℕ) : Type 0 where
   pub some : 0 < count
   pub within : count ≤ end
@@ -73,13 +73,13 @@ pub row_index : (c : Coord) (n k index : ℕ) → c.z % 8 + n ≤ 8 → k < n �
 unfolding word_index
 row_index c n k index r l e = omega arith
 
--- the words of a row stand in the chunk that has its slot
+-- the words of a row are in the chunk that has its slot
 pub row_in_chunk : (g : Grid) (chunk : List ℕ) (slot slot_place from n : ℕ) (c : Coord) → HasSlot g.bricks slot chunk
     → slot_place ≡ place_in_slot c → c.z % 8 + n ≤ 8 → from ≡ start_in_chunk slot + slot_place → from + n ≤ length chunk
 unfolding place_in_slot
 row_in_chunk g chunk slot slot_place from n c h e r f = let full = h.full in omega arith
 
--- what holds of the words of the chunk holds of those of the row, which may lie beyond space
+-- a fact about the words of the chunk is one about those of the row, which may lie beyond space
 pub row_in_slot : (g : Grid) (chunk : List ℕ) (slot slot_place from n : ℕ) (c : Coord) (P : ℕ → Type 0) → IsStore g
     → IsInSpace (side g.resolution) (brick c) → c.z % 8 + n ≤ 8 → slot_of g c ≡ Some slot → HasSlot g.bricks slot chunk
     → slot_place ≡ place_in_slot c → from ≡ start_in_chunk slot + slot_place
@@ -98,12 +98,12 @@ row_in_slot g chunk slot slot_place from n c P s b r e h i f w k l =
     let here : get_or chunk (from + k) 0 ≡ get_or (words_of g.bricks slot) (swapped (slot_place + k)) 0 = ap (λ (j : ℕ). get_or chunk j 0) place ∙ h.each (slot_place + k) below in
     subst P (here ∙ sym read) (w k l)
 
--- the place of a row in its line of a brick, by that in its slot
+-- the offset of a row in its line of a brick, by that in its slot
 pub row_part : (q : Coord) (slot_place n : ℕ) → place_in_slot q ≡ slot_place → slot_place % 8 + n ≤ 8 → q.z % 8 + n ≤ 8
 unfolding place_in_slot
 row_part q slot_place n e r = omega arith
 
--- the words of a row that stands in a brick of the table, which may lie beyond space
+-- the words of a row in a brick of the table, which may lie beyond space
 pub standing_row : (g : Grid) (chunk : List ℕ) (slot number slot_place from n : ℕ) (q : Coord) (P : ℕ → Type 0)
     → IsStore g → StandsIn g.resolution number slot_place q → slot_place % 8 + n ≤ 8
     → Some slot ≡ slot_at g.table number → HasSlot g.bricks slot chunk → from ≡ start_in_chunk slot + slot_place
@@ -112,7 +112,7 @@ standing_row g chunk slot number slot_place from n q P store s r e h f w =
     row_in_slot g chunk slot slot_place from n q P store s.within (row_part q slot_place n s.at_place r)
     (ap (λ (k : ℕ). slot_at g.table k) s.in_brick ∙ sym e) h (sym s.at_place) f w
 
--- a row that stands in a brick without a slot is void
+-- a row in a brick without a slot is void
 pub standing_void : (g : Grid) (number slot_place n toward : ℕ) (q : Coord) → IsStore g
     → StandsIn g.resolution number slot_place q → slot_place % 8 + n ≤ 8 → None ≡ slot_at g.table number
     → RowHangsNot (word_at g) q n toward
@@ -125,7 +125,7 @@ standing_void g number slot_place n toward q store s r e k l f =
 
 -- ---- the words at a side
 
--- what lies beside a voxel lies so, as much later, beside a later one
+-- a neighbor, k further, is the neighbor of the voxel k further
 toward_further : (d k : ℕ) (c q : Coord) → d ≤ 4 → Toward d c q → Toward d (further c k) (further q k)
 toward_further d k c q r (lies_left h) = lies_left (h.0, h.1, h.2, omega arith)
 toward_further d k c q r (lies_right h) = lies_right (h.0, h.1, h.2, omega arith)
@@ -134,7 +134,7 @@ toward_further d k c q r (lies_over h) = lies_over (h.0, h.1, h.2, omega arith)
 toward_further d k c q r (lies_near h) = absurd (omega arith)
 toward_further d k c q r (lies_far h) = absurd (omega arith)
 
--- the neighbour of a later voxel is the later one of the first one's neighbour
+-- the neighbor of a later voxel is the later one of the first one's neighbor
 pub beside_further : (d k : ℕ) (c q p : Coord) → d ≤ 4 → Toward d c q → Toward d (further c k) p → p ≡ further q k
 beside_further d k c q p r h t = one_toward d (further c k) p (further q k) t (toward_further d k c q r h)
 
@@ -166,7 +166,7 @@ side_none g c n d toward own b h none k p l t f m =
     let within_z = h.within.z in
     none (record { x = p.x; y = p.y; z = c.z }) (side_back d k c p b.1 t) (record { x = space_here.x; y = space_here.y; z = within_z })
 
--- a side in the brick at hand
+-- a side in the same brick
 pub side_in_slot : (g : Grid) (chunk : List ℕ) (slot slot_place from n d toward : ℕ) (c : Coord) → (0 < d) × (d ≤ 4)
     → IsStore g → LieInBrick g c slot → c.z % 8 + n ≤ 8 → HasSlot g.bricks slot chunk → StandsToward c d slot_place
     → from ≡ start_in_chunk slot + slot_place → WordsHangNot chunk from n toward → SideHangsNot (word_at g) c n d toward
@@ -183,7 +183,7 @@ side_in_chunk g chunk slot slot_place from n d c r row h t f =
     let same_z : t.there.z ≡ c.z = same_height d c t.there r t.toward in
     row_in_chunk g chunk slot slot_place from n t.there h (sym t.at_place) (omega arith) f
 
--- a side over the border of the brick: what stands at its spot is the row beside, or none lies in space
+-- a side over the border of the brick: the row at its index is the neighbor row, or none lies in space
 pub side_across : (g : Grid) (c : Coord) (n d toward next own : ℕ) → (0 < d) × (d ≤ 4) → LieInBrick g c own
     → IsSpotAcross g.resolution c d next
     → ((q : Coord) → StandsIn g.resolution (next / 512) (next % 512) q → RowHangsNot (word_at g) q n toward)
@@ -202,7 +202,7 @@ pub far_free : (w : Coord → ℕ) (c : Coord) (n : ℕ) → 0 < n → SideHangs
     → p.x ≡ c.x → p.y ≡ c.y → p.z ≡ c.z + n → HangsNot (w p) 5
 far_free w c n s h p x y z = h 0 p (omega arith) (lies_far (refl, omega arith, omega arith, omega arith))
 
--- ---- the voxels of a stretch
+-- ---- the voxels of a segment
 
 pub stretch_full : (g : Grid) (gone : List Coord) (end count k : ℕ) (c : Coord) → IsStretch gone (end - count) count c
     → count ≤ end → ((i : ℕ) (x : Coord) → i < end → x ≡ slice_index_or gone i x → 0 < word_at g x) → k < count
@@ -222,7 +222,7 @@ stretch_in_row g gone end count c e s b full =
       row = s.row;
     }
 
--- the first voxel of a stretch, as it was read
+-- the first voxel of a segment, as it was read
 pub first_of : (gone : List Coord) (end from count : ℕ) (d : Coord) → 0 < count → count ≤ end → end ≤ length gone
     → from ≡ count
     → slice_index_or gone (end - from) d ≡ slice_index_or gone (end - count) (slice_index_or gone (end - from) d)
@@ -251,7 +251,7 @@ part_free w c n r s = record {
 whole_row_brick : (c : Coord) → brick (whole_row_start c) ≡ brick c
 whole_row_brick c = let product_is : c.z / 8 * 8 / 8 ≡ c.z / 8 = omega arith in λ j. record { x = c.x / 8; y = c.y / 8; z = product_is j }
 
--- what holds of the words of the whole row in the chunk holds of those of its voxels, which may lie beyond space
+-- a fact about the words of the whole row in the chunk is one about those of its voxels, which may lie beyond space
 pub whole_row_in_slot : (g : Grid) (chunk : List ℕ) (slot slot_place from : ℕ) (c : Coord) (P : ℕ → Type 0) → IsStore g
     → IsInSpace g.resolution c → slot_of g c ≡ Some slot → HasSlot g.bricks slot chunk
     → slot_place ≡ place_in_slot (whole_row_start c) → from ≡ start_in_chunk slot + slot_place

@@ -60,7 +60,7 @@ taken old new c before mid next after e n w r l m t = taken_by old new c before 
 
 -- ---- the voxel is on the floor
 
--- what stands on the floor beside it hangs on no voxel
+-- a full neighbor on the floor is no voxel's child
 none_hangs_on_floor : (r : ℕ) (w : Coord → ℕ) (c : Coord) (over : ℕ) → AreExact r w → c.y ≡ 0 → IsWordToward w c 4 over
     → HangsNot over 3 → IsNoParent w c
 none_hangs_on_floor r w c over e y k n q h t = by t

@@ -1,4 +1,4 @@
--- The voxels of an area become void or are listed, part by part.
+-- The voxels of an area become void or are deferred, part by part.
 use Rattle.std.proofs.Common.{◌≡◌, ℕ, ◌+◌, ◌-◌, ◌*◌, ◌%◌, ◌<◌, ◌≤◌, ◌⊎◌, inl, inr, refl, sym, ◌∙◌, ap, subst, arith, List, [], ◌∷◌, ◌++◌, length, length-append, None}
 use Rattle.std.specs.List.{Contains}
 use Rattle.std.proofs.lemmas.Bool.{cases_eq, cases_lt}
@@ -49,7 +49,7 @@ voided_listed g area rest more x e f a only m = subst (λ (xs : List Coord). Are
   few = let same_length : length (rest ++ x ∷ []) ≡ length rest + 1 = length-append rest (x ∷ []) in omega arith;
 })
 
--- one area after another, which it does not meet
+-- an area after another, disjoint from it
 pub voided_more : (old mid new : Grid) (A B C : Coord → Type 0) (a b n : ℕ) (rest more most : List Coord)
     → AreVoided old mid A a rest more → AreVoided mid new B b more most → ((c : Coord) → A c → B c → ⊥)
     → ((c : Coord) → C c → A c ⊎ B c) → ((c : Coord) → A c → C c) → ((c : Coord) → B c → C c) → n ≡ a + b
@@ -123,7 +123,7 @@ row_cleared_is old new first n rest before after a = record {
       | inr x ↦ inr (λ h. x h.0)
     ]
 
--- ---- all of the area is void or listed, and what is listed is removed
+-- ---- all of the area is void or deferred, and the deferred voxels are removed
 
 pub can_remove_rest : (old now : Grid) (area : Coord → Type 0) (n : ℕ) (rest more : List Coord) → rest ≡ []
     → AreVoided old now area n rest more → CanRemove now more
@@ -154,7 +154,7 @@ voided_and_removed old now new area n rest more before steps after e p t h = rec
 abbrev pub row_at : Coord → ℕ → Coord
 row_at c z = record { x = c.x; y = c.y; z = z }
 
--- one voxel of a part before those that were looked at
+-- one voxel of a part, before those that were handled
 pub one_before_row : (g : Grid) (first : Coord) (left n : ℕ) (rest more most : List Coord) → left + 1 ≤ n
     → AreVoided g g (IsInRow (further first (left + 1)) (n - (left + 1))) (n - (left + 1)) rest more
     → AreVoided g g (IsInRow (further first left) 1) 1 more most
@@ -167,7 +167,7 @@ one_before_row g first left n rest more most l p q =
     (λ c b. (b.0, b.1, omega arith, omega arith))
     (omega arith)
 
--- a part of a row before those that were looked at
+-- a part of a row, before those that were handled
 pub part_before_row : (old now new : Grid) (first : Coord) (left part end : ℕ) (rest more most : List Coord)
     → left + part ≤ end
     → AreVoided old now (IsInRow (row_at first (left + part)) (end - (left + part))) (end - (left + part)) rest more
@@ -272,7 +272,7 @@ row_none g first c n r e h =
 pub row_one : (x c : Coord) → IsInRow x 1 c → c ≡ x
 row_one x c h = let same_x : c.x ≡ x.x = h.0 in let same_y : c.y ≡ x.y = h.1 in let same_z : c.z ≡ x.z = omega arith in λ j. record { x = same_x j; y = same_y j; z = same_z j }
 
--- all of a part was looked at
+-- all of a part was handled
 pub part_at : (old now : Grid) (first : Coord) (left n : ℕ) (rest more : List Coord) → left ≡ 0
     → AreVoided old now (IsInRow (further first left) (n - left)) (n - left) rest more
     → AreVoided old now (IsInRow first n) n rest more
@@ -282,13 +282,13 @@ part_at old now first left n rest more e p =
     let difference_is : n - left ≡ n = omega arith in
     subst (λ (k : ℕ). AreVoided old now (IsInRow first k) k rest more) difference_is (subst (λ (x : Coord). AreVoided old now (IsInRow x (n - left)) (n - left) rest more) here p)
 
--- all of a row was looked at
+-- all of a row was handled
 pub whole_row_at : (old now : Grid) (first : Coord) (left end : ℕ) (rest more : List Coord) → left ≡ first.z
     → AreVoided old now (IsInRow (row_at first left) (end - left)) (end - left) rest more
     → AreVoided old now (IsInRow first (end - first.z)) (end - first.z) rest more
 whole_row_at old now first left end rest more e p = subst (λ (k : ℕ). AreVoided old now (IsInRow (row_at first k) (end - k)) (end - k) rest more) e p
 
--- a part of a row is void where the whole row is
+-- a part of a row is void if the whole row is
 pub part_void : (g : Grid) (first c : Coord) (n : ℕ) → first.z % 8 + n ≤ 8
     → ((k : ℕ) → k < 8 → word_at g (further (whole_row_start first) k) ≡ 0) → IsInRow first n c → word_at g c ≡ 0
 part_void g first c n r z h =

@@ -1,4 +1,4 @@
--- The voxels at spots.
+-- The voxels at indices.
 use Rattle.std.proofs.Common.{◌≡◌, ℕ, ◌+◌, ◌*◌, ◌/◌, ◌%◌, ◌<◌, ◌≤◌, sym, ◌∙◌, ap, arith, inl, inr, Option, None, Some, rules}
 use Rattle.std.specs.Prelude.{◌==◌, IfSome}
 use Rattle.std.proofs.lemmas.Bool.{cases_eq}
@@ -20,7 +20,7 @@ high b i h = omega arith
 low : (b i : ℕ) → i < 8 → (8 * b + i) % 8 ≡ i
 low b i h = omega arith
 
--- the brick of the voxel at a spot
+-- the brick of the voxel at an index
 pub brick_at : (s p : ℕ) → brick (voxel_of s p) ≡ coordinate_at s (p / 512)
 unfolding voxel_of
 brick_at s p =
@@ -42,7 +42,7 @@ pub digit_z : (s p : ℕ) → (voxel_of s p).z % 8 ≡ p % 512 % 8
 unfolding voxel_of
 digit_z s p = low (p / 512 % s) (p % 512 % 8) (omega arith)
 
--- a spot is a number of a brick and a place in its slot
+-- an index is the number of a brick times 512 plus an offset in its slot
 pub place_at : (s p : ℕ) → place s (brick (voxel_of s p)) ≡ p / 512
 place_at s p = ap (place s) (brick_at s p) ∙ place-coordinate_at s (p / 512)
 
@@ -66,7 +66,7 @@ of_brick c =
     let z_is : 8 * (c.z / 8) + (64 * (c.y % 8) + 8 * (c.x % 8) + c.z % 8) % 8 ≡ c.z = omega arith in
     λ j. record { x = x_is j; y = y_is j; z = z_is j }
 
--- the voxel at a voxel's spot, and at any that has its brick and its place there
+-- the voxel at a voxel's index, and at any index that has its brick and its offset there
 pub voxel_is : (s p : ℕ) (c : Coord) → IsInSpace s (brick c) → place s (brick c) ≡ p / 512 → place_in_slot c ≡ p % 512
     → voxel_of s p ≡ c
 unfolding voxel_of
@@ -111,7 +111,7 @@ spot_small r p few h =
     let cube = cube_of_bricks (side r) (few_bricks r few) in
     omega arith
 
--- the slot of the voxel at a spot
+-- the slot of the voxel at an index
 pub slot_there : (g : Grid) (p : ℕ) (slot : Option ℕ) → slot ≡ slot_at g.table (p / 512)
     → slot ≡ slot_of g (voxel_in g p)
 slot_there g p slot e = e ∙ ap (λ (n : ℕ). slot_at g.table n) (sym (number_at g.resolution p))
@@ -155,7 +155,7 @@ voxel_along r line c e h =
     let bricks = brick_inside r c h in
     voxel_there r (line + 512 * (c.z / 8) + c.z % 8) c bricks (omega arith) (omega arith)
 
--- a spot's part in its row of eight is that of its voxel
+-- the part of an index in its row of eight is that of its voxel
 pub part_there : (s p n : ℕ) → (voxel_of s p).z % 8 + n ≤ 8 → p % 8 + n ≤ 8
 part_there s p n h = let digit = digit_z s p in omega arith
 

@@ -1,4 +1,4 @@
--- Neighbours in the same brick, by the parts of a spot.
+-- Neighbors in the same brick, by the parts of an index.
 use Rattle.std.proofs.Common.{◌≡◌, ℕ, ◌+◌, ◌-◌, ◌/◌, ◌%◌, ◌<◌, ◌≤◌, sym, ◌∙◌, ap, subst, arith, List, get_or}
 use Rattle.vox_geom.specs.declared.coordinate.Coord.{Coord}
 use Rattle.vox_geom.specs.Space.{IsInSpace}
@@ -33,7 +33,7 @@ last_near s p d e h = let digit = digit_z s p in ends_near (voxel_of s p) d e (o
 pub last_far : (s p d : ℕ) → d ≡ 6 → 7 ≤ p % 8 → EndsBrick (voxel_of s p) d
 last_far s p d e h = let digit = digit_z s p in ends_far (voxel_of s p) d e (omega arith)
 
--- ---- the place of the neighbour's word
+-- ---- the offset of the neighbor's word
 
 pub place_left : (s p d at place : ℕ) → d ≡ 1 → p % 512 ≤ at → 8 ≤ p % 64 → place + 8 ≡ at
     → IsPlaceToward (voxel_of s p) d (p % 512) at place
@@ -73,7 +73,7 @@ place_far s p d at place e inner is =
 
 -- ---- the word there
 
--- the neighbour's own spot
+-- the neighbor's own index
 pub stands_within : (g : Grid) (p d next : ℕ) → IsInSpace g.resolution (voxel_in g p)
     → (t : IsPlaceToward (voxel_in g p) d (p % 512) p next)
     → StandsIn g.resolution (next / 512) (next % 512) t.toward.there
@@ -96,7 +96,7 @@ word_within g p d next word within t value = record {
   some = λ f. (t.toward.there, t.toward.toward);
 }
 
--- its place in the chunk
+-- its offset in the chunk
 pub place_is : (g : Grid) (p own d at place : ℕ) (words : List ℕ) → IsReadAt g p own words at
     → (t : IsPlaceToward (voxel_in g p) d (p % 512) at place) → place ≡ start_in_chunk own + t.in_slot
 place_is g p own d at place words read t = let moved = t.moved in let start = read.at in omega arith

@@ -1,8 +1,8 @@
--- Voxels that are offered a height, and voxels that lost their parent.
+-- Voxels that have a candidate height, and voxels that lost their parent.
 use Rattle.std.specs.Prelude.{ℕ}
 use Rattle.vox_geom.specs.declared.coordinate.Coord.{Coord}
 
--- a height that is offered to a voxel, and the direction of the parent that offers it
+-- a candidate height for a voxel, and the direction of the parent that it comes from
 pub record Candidate : Type 0 where
   pub at : Coord
   pub height : ℕ

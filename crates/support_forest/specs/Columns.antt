@@ -37,15 +37,15 @@ pub record IsScanned (m : Matrix) (g : Grid) (p : ℕ) (rest : List Coord) : Typ
   pub all : (c : Coord) → IsTrue (is_deferred m p c) → Contains rest c
   pub differ : AllPairs ◌≢◌ rest
 
--- the lowest n bits of a number say which voxels of a row are full
+-- the lowest n bits of a number are 1 for the full voxels of a row
 abbrev pub AreRowBits : Matrix → Coord → ℕ → ℕ → Type 0
 AreRowBits m c n bits = (k : ℕ) → k < n → bit bits k ≡ is_full m (further c k)
 
--- the lowest n bits of a number say which columns are full in their lowest y voxels
+-- the lowest n bits of a number are 1 for the columns whose lowest y voxels are all full
 abbrev pub AreSupportedBits : Matrix → ℕ → ℕ → ℕ → ℕ → ℕ → Type 0
 AreSupportedBits m x z n y bits = (k : ℕ) → k < n → bit bits k ≡ is_column_full m x (z + k) y
 
--- what the scan knows of the n voxels of a row that it is at
+-- the facts about the n voxels of the row that the scan is at
 pub record CanScan (m : Matrix) (g : Grid) (c : Coord) (n bits supported : ℕ) (rest : List Coord) : Type 0 where
   pub within : IsInSpace m.resolution c
   pub row : c.z + n ≤ m.resolution

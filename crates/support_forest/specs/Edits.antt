@@ -1,4 +1,4 @@
--- What a list of edits leaves.
+-- The matrix after a list of edits.
 use Rattle.std.specs.Prelude.{◌≡◌, Bool, false, ◌&&◌, ◌||◌, not, List, [], ◌∷◌}
 use Rattle.vox_geom.specs.declared.coordinate.Coord.{Coord}
 use Rattle.vox_geom.specs.Point.{point, same_point}
@@ -10,7 +10,7 @@ pub data Edit : Type 0 where
   adds : List Coord → Edit
   removes : List Coord → Edit
 
--- the edits lead from one matrix to the other, each as the forest's call says
+-- the edits lead from one matrix to the other, each by the effect of the forest's call
 abbrev pub AreEdited : Matrix → List Edit → Matrix → Type 0
 AreEdited old [] new = new ≡ old
 AreEdited old (adds cells ∷ more) new = (next : Matrix) × AreAdded old next cells × AreEdited next more new
@@ -21,7 +21,7 @@ abbrev pub is_among : Coord → List Coord → Bool
 is_among c [] = false
 is_among c (d ∷ more) = same_point (point c) (point d) || is_among c more
 
--- whether a voxel is full after the edits, by whether it was before: the last that names it says so
+-- whether a voxel is full after the edits, by whether it was before: the last that names it decides
 abbrev pub is_left : List Edit → Coord → Bool → Bool
 is_left [] c full = full
 is_left (adds cells ∷ more) c full = is_left more c (full || is_among c cells)

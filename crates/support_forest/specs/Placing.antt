@@ -1,4 +1,4 @@
--- A voxel that becomes full beside others whose levels stay as they are.
+-- A voxel that becomes full while the levels of its neighbors stay as they are.
 use Rattle.std.specs.Prelude.{◌≡◌, true, ℕ, ◌+◌, ◌*◌, ◌/◌, ◌%◌, ◌<◌, ◌≤◌, ◌⊎◌, Bool, List, MatchBool, Some, length}
 use Rattle.std.specs.List.{Contains}
 use Rattle.vox_geom.specs.declared.coordinate.Coord.{Coord}
@@ -10,7 +10,7 @@ use Rattle.support_forest.specs.Grid.{Grid, StandsIn, brick, brick_number, place
 use Rattle.support_forest.specs.Waiting.{CanAdd}
 use Rattle.support_forest.specs.Words.{height, AreExact, IsSound}
 
--- what lies around a void voxel, as far as the directions below d lead
+-- the neighborhood of a void voxel, in the directions below d
 pub record IsAround (w : Coord → ℕ) (c : Coord) (a : Around) (d : ℕ) : Type 0 where
   pub floor : c.y ≡ 0 → a.height ≡ 1
   pub sound : (a.height ≡ 0) ⊎ IsSound w (record { at = c; height = a.height; toward = a.toward })
@@ -18,29 +18,29 @@ pub record IsAround (w : Coord → ℕ) (c : Coord) (a : Around) (d : ℕ) : Typ
   pub highest : (k : ℕ) (q : Coord) → k < d → Toward k c q → 8 ≤ w q → height w q ≤ a.highest
   pub loose : (k : ℕ) (q : Coord) → k < d → Toward k c q → 0 < w q → w q < 8 → a.is_loose ≡ true
 
--- the least that a voxel is offered, 0 where it is offered nothing
+-- the least candidate of a voxel, 0 if there is none
 pub record IsOffered (w : Coord → ℕ) (c : Coord) (a : Around) : Type 0 where
   pub floor : c.y ≡ 0 → a.height ≡ 1
   pub sound : (a.height ≡ 0) ⊎ IsSound w (record { at = c; height = a.height; toward = a.toward })
   pub least : (q : Coord) → 8 ≤ w q → AreBeside c q → (0 < a.height) × (a.height ≤ height w q + 1)
 
--- the word is that of the neighbour in the direction, 0 where there is none
+-- the word is that of the neighbor in the direction, 0 if there is none
 pub record IsWordToward (w : Coord → ℕ) (c : Coord) (d word : ℕ) : Type 0 where
   pub each : (q : Coord) → Toward d c q → w q ≡ word
   pub some : 0 < word → (q : Coord) × Toward d c q
 
--- the words of the neighbours in later directions stay
+-- the words of the neighbors in later directions stay
 abbrev pub StayAfter : (Coord → ℕ) → (Coord → ℕ) → Coord → ℕ → Type 0
 StayAfter w v c d = (k word : ℕ) → d < k → IsWordToward w c k word → IsWordToward v c k word
 
--- the neighbour in the direction lies in the same brick, and its word stands at that place of the slot
+-- the neighbor in the direction lies in the same brick, and its word is at that offset of the slot
 pub record StandsToward (c : Coord) (d at : ℕ) : Type 0 where
   pub there : Coord
   pub toward : Toward d c there
   pub same_brick : brick there ≡ brick c
   pub at_place : place_in_slot there ≡ at
 
--- the same where the place of the voxel's own word is counted from elsewhere, and so is the neighbour's
+-- the same if the offsets of both words are counted from another origin
 pub record IsPlaceToward (c : Coord) (d own at place : ℕ) : Type 0 where
   pub in_slot : ℕ
   pub toward : StandsToward c d in_slot
@@ -55,34 +55,34 @@ pub record EndsBrick (c : Coord) (d : ℕ) : Type 0 where
   pub near : d ≡ 5 → c.z % 8 ≡ 0
   pub far : d ≡ 6 → c.z % 8 ≡ 7
 
--- the voxel is in space, and its word stands at that place in the slot of the brick of that number
+-- the voxel is in space, and its word is at that offset in the slot of the brick of that number
 pub record IsOwnSpot (r : ℕ) (c : Coord) (number at : ℕ) : Type 0 where
   pub within : IsInSpace r c
   pub in_brick : number ≡ brick_number r c
   pub at_place : at ≡ place_in_slot c
 
--- the neighbour in the direction stands at that place in the slot of the brick of that number
+-- the neighbor in the direction is at that offset in the slot of the brick of that number
 pub record IsSpotToward (r : ℕ) (c : Coord) (d number at : ℕ) : Type 0 where
   pub there : Coord
   pub toward : Toward d c there
   pub stands : StandsIn r number at there
 
--- no neighbour in the direction is in space
+-- no neighbor in the direction is in space
 abbrev pub NoneToward : ℕ → Coord → ℕ → Type 0
 NoneToward r c d = (q : Coord) → Toward d c q → IsInSpace r q → ⊥
 
--- what stands at that place in the slot of the brick of that number lies beyond space
+-- the voxel at that offset in the slot of the brick of that number lies beyond space
 pub record StandsBeyond (r number at : ℕ) : Type 0 where
   pub there : Coord
   pub out : IsInSpace r there → ⊥
   pub stands : StandsIn r number at there
 
--- the neighbour in the direction is at the spot, or none lies in space and what is at the spot neither
+-- the neighbor in the direction is at the index; or none lies in space, and neither does the voxel at the index
 abbrev pub IsSpotAcross : ℕ → Coord → ℕ → ℕ → Type 0
 IsSpotAcross r c d next =
     IsSpotToward r c d (next / 512) (next % 512) ⊎ (NoneToward r c d × StandsBeyond r (next / 512) (next % 512))
 
--- the words are those of the voxel's neighbours
+-- the words are those of the voxel's neighbors
 pub record AreBesideWords (w : Coord → ℕ) (c : Coord) (b : Beside) : Type 0 where
   pub left : IsWordToward w c 1 b.left
   pub right : IsWordToward w c 2 b.right
@@ -95,11 +95,11 @@ pub record AreBesideWords (w : Coord → ℕ) (c : Coord) (b : Beside) : Type 0 
 abbrev pub LeavesRoom : ℕ → ℕ → Type 0
 LeavesRoom word height = (word ≡ 0) ⊎ ((8 * height ≤ word) × (word < 8 * height + 24))
 
--- the word is that of a void voxel, or of one whose height a voxel of the floor under it does not lessen
+-- the word is that of a void voxel, or of one whose height a voxel of the floor below it does not lessen
 abbrev pub MayLieUnder : ℕ → Type 0
 MayLieUnder word = (word ≡ 0) ⊎ ((8 ≤ word) × (word < 24))
 
--- a voxel that stands on the one under it changes no other level
+-- a voxel whose parent is the voxel below changes no other level
 pub record MayStand (b : Beside) : Type 0 where
   pub under : 8 ≤ b.under
   pub left : LeavesRoom b.left (b.under / 8)
@@ -127,17 +127,17 @@ pub record HavePlaced (old new : Grid) (c : Coord) (before after : ℕ) : Type 0
   pub kept : (d : Coord) → (d ≡ c → ⊥) → word_at new d ≡ word_at old d
   pub cost : after ≤ before + 7
 
--- the voxel became full, or all stays
+-- the voxel became full, or nothing changed
 abbrev pub PlacesOrStays : Bool → Grid → Grid → Coord → ℕ → ℕ → Type 0
 PlacesOrStays done old new c before after =
     MatchBool done (HavePlaced old new c before after) ((new ≡ old) × (after ≤ before + 6))
 
--- the same where a voxel that became full has a height
+-- the same, and a voxel that became full has a height
 pub record StandsOrStays (done : Bool) (old new : Grid) (c : Coord) (before after : ℕ) : Type 0 where
   pub placed : PlacesOrStays done old new c before after
   pub held : done ≡ true → 8 ≤ word_at new c
 
--- those of the voxels that change no other level became full, one after another, and the rest may still be added
+-- the voxels that change no other level became full, one after another, and the others may still be added
 pub record ArePlaced (old new : Grid) (cells rest : List Coord) (before after : ℕ) : Type 0 where
   pub resolution : new.resolution ≡ old.resolution
   pub left : CanAdd new rest

@@ -1,4 +1,4 @@
--- The full voxels of a region that become void, row by row, or are listed.
+-- The full voxels of a region that become void, row by row, or are deferred.
 use Rattle.std.specs.Prelude.{◌≡◌, ◌≢◌, ℕ, ◌+◌, ◌*◌, ◌<◌, ◌≤◌, ◌⊎◌, IsTrue, List, length}
 use Rattle.std.specs.List.{AllPairs, Contains}
 use Rattle.vox_geom.specs.declared.coordinate.Coord.{Coord}
@@ -7,7 +7,7 @@ use Rattle.vox_geom.specs.Region.{Corners, is_within, span}
 use Rattle.support_forest.specs.Grid.{Grid, word_at}
 use Rattle.support_forest.specs.Words.{AreExact, changed}
 
--- the voxel is one of so many along z from this one on
+-- the voxel is one of n along z from this one on
 abbrev pub IsInRow : Coord → ℕ → Coord → Type 0
 IsInRow first n c = (c.x ≡ first.x) × (c.y ≡ first.y) × (first.z ≤ c.z) × (c.z < first.z + n)
 
@@ -23,7 +23,7 @@ IsInWalls k x c = (x ≤ c.x) × (c.x ≤ k.high.x) × (k.low.y ≤ c.y) × (c.y
 abbrev pub IsInRegion : Corners → Coord → Type 0
 IsInRegion k c = IsTrue (is_within (span k) (point c))
 
--- the voxels of an area of so many coordinates became void, or were listed as they are, and no others
+-- the voxels of an area of n coordinates became void, or were deferred unchanged, and no others
 pub record AreVoided (old new : Grid) (area : Coord → Type 0) (n : ℕ) (rest more : List Coord) : Type 0 where
   pub resolution : new.resolution ≡ old.resolution
   pub exact : AreExact new.resolution (word_at new)
@@ -35,7 +35,7 @@ pub record AreVoided (old new : Grid) (area : Coord → Type 0) (n : ℕ) (rest 
   pub differ : AllPairs ◌≢◌ rest → ((c : Coord) → Contains rest c → area c → ⊥) → AllPairs ◌≢◌ more
   pub few : length more ≤ length rest + n
 
--- the voxels of an area of so many coordinates are void, and no others
+-- the voxels of an area of n coordinates are void, and no others
 pub record HaveVoided (old new : Grid) (area : Coord → Type 0) (n before after : ℕ) : Type 0 where
   pub resolution : new.resolution ≡ old.resolution
   pub exact : AreExact new.resolution (word_at new)

@@ -1,4 +1,4 @@
--- What holds while the orphans of a removal are handled.
+-- The invariant while the orphans of a removal are handled.
 use Rattle.std.specs.Prelude.{◌≡◌, ℕ, ◌+◌, ◌*◌, ◌<◌, ◌≤◌, List, length}
 use Rattle.std.specs.List.{Contains}
 use Rattle.vox_geom.specs.declared.coordinate.Coord.{Coord}
@@ -7,7 +7,7 @@ use Rattle.support_forest.specs.Grid.{Grid, word_at}
 use Rattle.support_forest.specs.Losing.{AreLosing}
 use Rattle.support_forest.specs.Words.{changed}
 
--- a removal is under way: those that wait are not exact yet, and fresh voxels lost their heights
+-- a removal is under way: the waiting voxels are not exact yet, and dirty voxels lost their heights
 pub record IsRemoving (old now : Grid) (gone : List Coord) (queue : List Orphan) (fresh : List Coord)
     (waits : Coord → ℕ → Type 0) : Type 0 where
   pub resolution : now.resolution ≡ old.resolution

@@ -1,5 +1,4 @@
--- Spots: where the words of voxels stand. In a store a spot is the number of a brick times 512, and a place in its
--- slot.
+-- Indices of voxels' words. In a store an index is the number of a brick times 512, plus an offset in its slot.
 use Rattle.std.specs.Prelude.{◌≡◌, ℕ, ◌+◌, ◌*◌, ◌/◌, ◌%◌, ◌<◌, List, Some}
 use Rattle.brick_arena.specs.Slots.{HasSlot, start_in_chunk}
 use Rattle.vox_geom.specs.declared.coordinate.Coord.{Coord}
@@ -7,25 +6,25 @@ use Rattle.vox_geom.specs.Space.{IsInSpace, coordinate_at}
 use Rattle.support_forest.specs.Directions.{Toward}
 use Rattle.support_forest.specs.Grid.{Grid, brick, brick_number, place_in_slot, side, slot_of, word_at}
 
--- the spot of a voxel
+-- the index of a voxel
 unfoldable pub spot_of : ℕ → Coord → ℕ
 spot_of r c = 512 * brick_number r c + place_in_slot c
 
--- the voxel of a brick whose word has the place
+-- the voxel of a brick whose word has the offset in the brick's slot
 abbrev pub voxel_of_brick : Coord → ℕ → Coord
 voxel_of_brick brick at =
     record { x = 8 * brick.x + at / 8 % 8; y = 8 * brick.y + at / 64; z = 8 * brick.z + at % 8 }
 
--- the voxel at a spot, where so many bricks lie along an axis
+-- the voxel at an index, with `side` bricks along each axis
 unfoldable pub voxel_of : ℕ → ℕ → Coord
 voxel_of side spot = voxel_of_brick (coordinate_at side (spot / 512)) (spot % 512)
 
--- the voxel at a spot of the store
+-- the voxel at an index of the store
 abbrev pub voxel_in : Grid → ℕ → Coord
 voxel_in g spot = voxel_of (side g.resolution) spot
 
--- the spot's voxel lies in space, and so do all full ones, and the chunk has the words of the slot of its brick: its own
--- at that place
+-- the voxel at the index lies in space, and so do all full voxels; the words are those of the chunk with its brick's
+-- slot, and the voxel's word is at the offset in them
 pub record IsReadAt (g : Grid) (spot own : ℕ) (words : List ℕ) (place : ℕ) : Type 0 where
   pub within : IsInSpace g.resolution (voxel_in g spot)
   pub space : (q : Coord) → 0 < word_at g q → IsInSpace g.resolution q
@@ -33,17 +32,17 @@ pub record IsReadAt (g : Grid) (spot own : ℕ) (words : List ℕ) (place : ℕ)
   pub chunk : HasSlot g.bricks own words
   pub at : place ≡ start_in_chunk own + spot % 512
 
--- each neighbour of the spot's voxel in the direction that lies in a brick of the table is at that spot
+-- if the neighbor in the direction of the voxel at the index lies in a brick of the table, it is the voxel at `next`
 abbrev pub IsSpotNext : ℕ → ℕ → ℕ → ℕ → Type 0
 IsSpotNext bricks spot d next =
     (q : Coord) → Toward d (voxel_of bricks spot) q → IsInSpace bricks (brick q) → voxel_of bricks next ≡ q
 
--- a neighbour of the spot's voxel in the direction lies in a brick of the table
+-- the neighbor in the direction of the voxel at the index lies in a brick of the table
 pub record IsBrickBeside (bricks spot d : ℕ) : Type 0 where
   pub there : Coord
   pub toward : Toward d (voxel_of bricks spot) there
   pub within : IsInSpace bricks (brick there)
 
--- the neighbours of the voxel in the direction lie in its brick
+-- the voxel's neighbor in the direction, if there is one, lies in the same brick
 abbrev pub StaysInBrick : Coord → ℕ → Type 0
 StaysInBrick c d = (q : Coord) → Toward d c q → brick q ≡ brick c

@@ -1,4 +1,4 @@
--- What holds while the neighbours of a found voxel are offered the next height.
+-- The invariant while the neighbors of a frontier voxel are relaxed.
 use Rattle.std.specs.Prelude.{◌≡◌, ℕ, ◌+◌, ◌-◌, ◌*◌, ◌<◌, ◌≤◌, ◌⊎◌, List, length}
 use Rattle.std.specs.List.{Contains}
 use Rattle.vox_geom.specs.declared.coordinate.Coord.{Coord}
@@ -9,15 +9,15 @@ use Rattle.support_forest.specs.Grid.{Grid, word_at}
 use Rattle.support_forest.specs.Waiting.{Waiting, number}
 use Rattle.support_forest.specs.Words.{height, AreSettling, IsBeyond, changed}
 
--- what is still to be offered: the seeds, and the next height to each neighbour of what was found
+-- the pending candidates: the sources, and the next height for each neighbor of the frontier
 abbrev pub Ahead : ℕ → List Candidate → List Candidate → Candidate → Type 0
 Ahead r seeds found y = Contains seeds y ⊎ ((f : Candidate) × Contains found f × IsBeyond r f y)
 
--- and in the directions that are left to the neighbours of the voxel at hand
+-- the same, and the remaining directions of the voxel being expanded
 abbrev pub AtHand : ℕ → List Candidate → List Candidate → Candidate → ℕ → Candidate → Type 0
 AtHand r seeds found x d y = Ahead r seeds found y ⊎ ((k : ℕ) × (d ≤ k) × Toward k x.at y.at × IsBeyond r x y)
 
--- no height is above what it was, or what is still to be offered
+-- no height is above what it was, or above a pending candidate
 pub record IsRising (w v : Coord → ℕ) (P : Candidate → Type 0) : Type 0 where
   pub low : (c : Coord) (y : Candidate) → P y → (height v c ≡ height w c) ⊎ (height v c ≤ y.height)
   pub kept : (c : Coord) → 8 ≤ w c → 8 ≤ v c
@@ -28,14 +28,13 @@ pub record AreSame (old now : Grid) : Type 0 where
   pub full : (c : Coord) → 0 < word_at now c → 0 < word_at old c
   pub kept : (c : Coord) → 0 < word_at old c → 0 < word_at now c
 
--- what is left to do
+-- the work that is left
 abbrev pub to_do : Grid → Grid → Waiting → ℕ
 to_do old now q =
     7 * (old.resolution * old.resolution * old.resolution - changed old.resolution (word_at old) (word_at now))
     + number q
 
--- a run of offers is under way, and has the candidate in hand: its neighbours from a direction on are still to be
--- offered the next height
+-- a search is under way, and expands the candidate: its neighbors from a direction on are still to be relaxed
 pub record IsSpreading (old now : Grid) (start q : Waiting) (x : Candidate) (d before steps limit : ℕ) : Type 0 where
   pub same : AreSame old now
   pub settling : AreSettling old.resolution (word_at now) (AtHand old.resolution q.seeds q.found x d)
@@ -50,7 +49,7 @@ pub record IsSpreading (old now : Grid) (start q : Waiting) (x : Candidate) (d b
       ≤ before + number start + 7 * changed old.resolution (word_at old) (word_at now) + d
   pub less : to_do old now q ≤ limit
 
--- some run of offers is under way with the candidate in hand
+-- some search is under way and expands the candidate
 pub record CanSpread (now : Grid) (q : Waiting) (x : Candidate) (d steps : ℕ) : Type 0 where
   pub old : Grid
   pub start : Waiting
@@ -58,7 +57,7 @@ pub record CanSpread (now : Grid) (q : Waiting) (x : Candidate) (d steps : ℕ) 
   pub limit : ℕ
   pub is : IsSpreading old now start q x d before steps limit
 
--- every run of offers goes on from one direction to another
+-- every search goes on from one direction to another
 abbrev pub Spreads : Grid → Grid → Waiting → Waiting → Candidate → ℕ → ℕ → ℕ → ℕ → Type 0
 Spreads now new q p x d e steps after =
     (old : Grid) (start : Waiting) (before limit : ℕ) → IsSpreading old now start q x d before steps limit

@@ -1,4 +1,4 @@
--- Voxels that follow one another along z in a row of a brick, and become void together.
+-- Segments: voxels that follow one another along z in a row of a brick, and become void together.
 use Rattle.std.specs.Prelude.{◌≡◌, ◌≢◌, ℕ, ◌+◌, ◌*◌, ◌/◌, ◌%◌, ◌<◌, ◌≤◌, ◌⊎◌, List, Some, length, slice_index, slice_index_or}
 use Rattle.std.specs.List.{AllPairs, Contains}
 use Rattle.vox_geom.specs.declared.coordinate.Coord.{Coord}
@@ -9,40 +9,39 @@ use Rattle.support_forest.specs.Losing.{CanRemove}
 use Rattle.support_forest.specs.Taking.{HangsNot}
 use Rattle.support_forest.specs.Words.{AreExact, IsWritten}
 
--- the voxel that lies so many further along z
+-- the voxel that lies n further along z
 abbrev pub further : Coord → ℕ → Coord
 further c k = record { x = c.x; y = c.y; z = c.z + k }
 
--- so many voxels from this one on lie in space and in one row of a brick
+-- n voxels from this one on lie in space and in one row of a brick
 pub record LieInRow (g : Grid) (c : Coord) (n : ℕ) : Type 0 where
   pub within : IsInSpace g.resolution c
   pub last : c.z + n ≤ g.resolution
   pub row : c.z % 8 + n ≤ 8
 
--- so many voxels of the list from a place on are those from this one on, in one row of a brick
+-- n voxels of the list from an index on are those from this one on, in one row of a brick
 pub record IsStretch (gone : List Coord) (start n : ℕ) (c : Coord) : Type 0 where
   pub some : 0 < n
   pub within : start + n ≤ length gone
   pub row : c.z % 8 + n ≤ 8
   pub each : (k : ℕ) (d : Coord) → k < n → slice_index_or gone (start + k) d ≡ further c k
 
--- so many voxels from this one on, one at least, are a row of the brick with the slot, and no voxel beyond space is
--- full
+-- n voxels from this one on, at least one, are a row of the brick with the slot, and no voxel beyond space is full
 pub record IsBrickRow (g : Grid) (slot : ℕ) (c : Coord) (n : ℕ) : Type 0 where
   pub some : 0 < n
   pub own : slot_of g c ≡ Some slot
   pub row : LieInRow g c n
   pub space : (q : Coord) → 0 < word_at g q → IsInSpace g.resolution q
 
--- none of so many words of the list from a place on says a parent in that direction
+-- none of n words of the list from an index on has its parent in that direction
 abbrev pub WordsHangNot : List ℕ → ℕ → ℕ → ℕ → Type 0
 WordsHangNot words from n toward = (k : ℕ) → k < n → HangsNot (slice_index words (from + k)) toward
 
--- none of the words of the row says a parent in that direction
+-- none of the words of the row has its parent in that direction
 abbrev pub RowHangsNot : (Coord → ℕ) → Coord → ℕ → ℕ → Type 0
 RowHangsNot w c n toward = (k : ℕ) → k < n → HangsNot (w (further c k)) toward
 
--- no neighbour in the direction has its parent in a voxel of the row
+-- no neighbor in the direction has its parent in a voxel of the row
 abbrev pub SideHangsNot : (Coord → ℕ) → Coord → ℕ → ℕ → ℕ → Type 0
 SideHangsNot w c n d toward = (k : ℕ) (p : Coord) → k < n → Toward d (further c k) p → HangsNot (w p) toward
 
@@ -50,7 +49,7 @@ SideHangsNot w c n d toward = (k : ℕ) (p : Coord) → k < n → Toward d (furt
 abbrev pub whole_row_start : Coord → Coord
 whole_row_start c = record { x = c.x; y = c.y; z = c.z / 8 * 8 }
 
--- no neighbour to a side of the row has its parent in a voxel of the row, and no voxel of the row in the next one
+-- no neighbor to a side has its parent in a voxel of the row, and no voxel of the row in the next one
 pub record SidesAreFree (w : Coord → ℕ) (c : Coord) (n : ℕ) : Type 0 where
   pub left : SideHangsNot w c n 1 2
   pub right : SideHangsNot w c n 2 1
@@ -63,7 +62,7 @@ pub record EndsAreFree (w : Coord → ℕ) (c : Coord) (n : ℕ) : Type 0 where
   pub near : SideHangsNot w c 1 5 6
   pub far : (p : Coord) → p.x ≡ c.x → p.y ≡ c.y → p.z ≡ c.z + n → HangsNot (w p) 5
 
--- no neighbour has its parent in a voxel of the row, but for the next voxel of the row
+-- no neighbor has its parent in a voxel of the row, except the next voxel of the row
 pub record RowIsFree (w : Coord → ℕ) (c : Coord) (n : ℕ) : Type 0 where
   pub left : SideHangsNot w c n 1 2
   pub right : SideHangsNot w c n 2 1
@@ -73,7 +72,7 @@ pub record RowIsFree (w : Coord → ℕ) (c : Coord) (n : ℕ) : Type 0 where
   pub own : RowHangsNot w c n 6
   pub far : (p : Coord) → p.x ≡ c.x → p.y ≡ c.y → p.z ≡ c.z + n → HangsNot (w p) 5
 
--- the row of the brick may become void: the words are exact, and nothing beside it hangs on it
+-- the row of the brick may become void: the words are exact, and the row has no children
 pub record CanClear (g : Grid) (slot : ℕ) (c : Coord) (n : ℕ) : Type 0 where
   pub row : IsBrickRow g slot c n
   pub exact : AreExact g.resolution (word_at g)
@@ -98,11 +97,11 @@ pub record AreCleared (old new : Grid) (c : Coord) (k n before after : ℕ) : Ty
   pub within : k ≤ n
   pub cost : after + 2 * k ≤ before + 2 * n
 
--- the voxel is one of those from a place on
+-- the voxel is one of those from an index on
 abbrev pub IsPast : List Coord → ℕ → Coord → Type 0
 IsPast gone i c = (k : ℕ) × (i ≤ k) × (k < length gone) × (slice_index_or gone k c ≡ c)
 
--- the voxels from a place on are void or listed
+-- the voxels from an index on are void or deferred
 pub record IsTaking (old now : Grid) (gone : List Coord) (i : ℕ) (rest : List Coord) (before steps : ℕ) : Type 0 where
   pub resolution : now.resolution ≡ old.resolution
   pub exact : AreExact now.resolution (word_at now)
@@ -114,7 +113,7 @@ pub record IsTaking (old now : Grid) (gone : List Coord) (i : ℕ) (rest : List 
   pub few : length rest + i ≤ length gone
   pub cost : steps + 2 * length rest + 8 * i ≤ before + 8 * length gone
 
--- whatever was taken before, these were taken too or listed
+-- whatever was handled before, these voxels became void too or were deferred
 abbrev pub TakesMore : Grid → Grid → List Coord → ℕ → ℕ → List Coord → List Coord → ℕ → ℕ → Type 0
 TakesMore now new gone i j rest more steps after =
     (old : Grid) (before : ℕ) → CanRemove old gone → IsTaking old now gone i rest before steps

@@ -1,4 +1,4 @@
--- A voxel that becomes void while the levels of the others stay as they are.
+-- Voiding a voxel that is no other's parent, so that no other level changes.
 use Rattle.std.specs.Prelude.{◌≡◌, ℕ, ◌+◌, ◌*◌, ◌%◌, ◌<◌, ◌≤◌, ◌⊎◌, Bool, false, List, MatchBool, length}
 use Rattle.std.specs.List.{Contains}
 use Rattle.vox_geom.specs.declared.coordinate.Coord.{Coord}
@@ -8,11 +8,11 @@ use Rattle.support_forest.specs.Grid.{Grid, word_at}
 use Rattle.support_forest.specs.Losing.{CanRemove}
 use Rattle.support_forest.specs.Words.{AreExact}
 
--- the word says no parent in that direction
+-- the word has no parent in that direction
 abbrev pub HangsNot : ℕ → ℕ → Type 0
 HangsNot word toward = 8 ≤ word → word % 8 ≡ toward → ⊥
 
--- no neighbour has its parent in the voxel between them
+-- the voxel between these six neighbors is the parent of none
 pub record NoneHangs (b : Beside) : Type 0 where
   pub left : HangsNot b.left 2
   pub right : HangsNot b.right 1
@@ -21,21 +21,21 @@ pub record NoneHangs (b : Beside) : Type 0 where
   pub near : HangsNot b.near 6
   pub far : HangsNot b.far 5
 
--- no voxel has its parent there
+-- the voxel is the parent of none
 abbrev pub IsNoParent : (Coord → ℕ) → Coord → Type 0
 IsNoParent w c = (q : Coord) → 8 ≤ w q → Toward (w q % 8) q c → ⊥
 
--- where no is told, no voxel has its parent there; it takes six touches at most
+-- if the result is false, the voxel is the parent of none; at most six touches
 pub record TellsParent (told : Bool) (g : Grid) (c : Coord) (before after : ℕ) : Type 0 where
   pub parent : told ≡ false → IsNoParent (word_at g) c
   pub touches : after ≤ before + 6
 
--- the words are exact, and the voxel is full
+-- the forest is consistent, and the voxel is full
 pub record CanTake (g : Grid) (c : Coord) : Type 0 where
   pub exact : AreExact g.resolution (word_at g)
   pub full : 0 < word_at g c
 
--- the voxel became void, and the words are exact
+-- the voxel became void, no other word changed, and the forest is consistent
 pub record HaveTaken (old new : Grid) (c : Coord) (before after : ℕ) : Type 0 where
   pub resolution : new.resolution ≡ old.resolution
   pub exact : AreExact new.resolution (word_at new)
@@ -43,12 +43,12 @@ pub record HaveTaken (old new : Grid) (c : Coord) (before after : ℕ) : Type 0 
   pub kept : (d : Coord) → (d ≡ c → ⊥) → word_at new d ≡ word_at old d
   pub cost : after ≤ before + 8
 
--- the voxel became void, or all stays
+-- the voxel became void, or nothing changed
 abbrev pub TakesOrStays : Bool → Grid → Grid → Coord → ℕ → ℕ → Type 0
 TakesOrStays done old new c before after =
     MatchBool done (HaveTaken old new c before after) ((new ≡ old) × (after ≤ before + 6))
 
--- those of the voxels on which no other hangs became void, one after another, and the rest may still be removed
+-- voxels of `gone` became void one after another, each without children; the rest may still be removed
 pub record AreTaken (old new : Grid) (gone rest : List Coord) (before after : ℕ) : Type 0 where
   pub resolution : new.resolution ≡ old.resolution
   pub left : CanRemove new rest

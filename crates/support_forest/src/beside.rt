@@ -1,4 +1,4 @@
-//! The words of all six neighbours of a voxel, and its own.
+//! The words of a voxel and of its six neighbors.
 ghost use Rattle.std.specs.Prelude.{◌≡◌, ◌+◌, ◌%◌, ◌<◌, ◌≤◌, ℕ};
 ghost use Rattle.brick_arena.specs.Slots.{start_in_chunk as start_in_chunk_of};
 ghost use Rattle.vox_geom.specs.Space.{IsInSpace};
@@ -14,7 +14,7 @@ use brick_arena::{Chunk, start_in_chunk};
 use std::sync::ledger::Ledger;
 use vox_geom::Steps;
 
-/// The words of a voxel's six neighbours, in the order of the directions, 0 where there is none.
+/// The words of a voxel's six neighbors, in the order of the directions; 0 if there is none.
 #[derive(Clone, Copy)]
 pub struct Beside {
     pub left: u32,
@@ -25,7 +25,7 @@ pub struct Beside {
     pub far: u32,
 }
 
-/// The place of a spot's word in the chunk that has those of the slot of its brick.
+/// Returns the offset of an index's word in the chunk that contains the slot of its brick.
 #[inline(always)]
 pub fn place_in_chunk(slot: u32, spot: u32) -> usize
     ensures { result ≡ start_in_chunk_of slot + spot % 512 }
@@ -33,8 +33,10 @@ pub fn place_in_chunk(slot: u32, spot: u32) -> usize
     start_in_chunk(slot) + (spot % BRICK_WORDS) as usize
 }
 
-/// The word of the voxel at a spot. `chunk` has the words of the slot of its brick, its own `at` that place: where those beside it are
-/// read too, it is looked for once.
+/// Returns the word of the voxel at an index.
+///
+/// `chunk` contains the slot of its brick, and `at` is the offset of the word there: the chunk is looked up once if neighbors are
+/// read too.
 #[inline(always)]
 pub fn word_here<L: Ledger>(
     cells: &Cells,
@@ -52,7 +54,7 @@ pub fn word_here<L: Ledger>(
     chunk.word(at, steps)
 }
 
-/// The words of the neighbours of the voxel at a spot, whose brick has no slot.
+/// Reads the neighbors of the voxel at an index whose brick has no slot.
 #[inline(never)]
 pub fn words_beyond<L: Ledger>(cells: &Cells, spot: u32, steps: &mut Steps<L>) -> Beside
     requires { LieInSpace cells.now (voxel_in cells.now spot) }
@@ -69,8 +71,9 @@ pub fn words_beyond<L: Ledger>(cells: &Cells, spot: u32, steps: &mut Steps<L>) -
     }
 }
 
-/// The words of the neighbours of the voxel at a spot, whose brick has this slot and this chunk. All six are read before any is looked
-/// at: one call for each is quicker than a loop.
+/// Reads the neighbors of the voxel at an index whose brick has this slot and this chunk.
+///
+/// Reads all six before any is tested; one call each is faster than a loop.
 #[inline(always)]
 pub fn words_in<L: Ledger>(
     cells: &Cells,
@@ -94,7 +97,7 @@ pub fn words_in<L: Ledger>(
     }
 }
 
-/// The words of the neighbours of the voxel at a spot.
+/// Reads the neighbors of the voxel at an index.
 #[inline(always)]
 pub fn words_beside<L: Ledger>(cells: &Cells, spot: u32, steps: &mut Steps<L>) -> Beside
     requires { LieInSpace cells.now (voxel_in cells.now spot) }

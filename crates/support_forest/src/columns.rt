@@ -20,7 +20,7 @@ use vox_planes::Planes;
 /// How many columns are scanned at a time: the bits of one word of a plane.
 const COLUMNS: u16 = 64;
 
-/// Returns the word of a voxel whose level is its y, since all voxels under it are full.
+/// Returns the word of a voxel whose level is its y, since all voxels below it are full.
 #[inline(always)]
 fn word_in_column(y: u16) -> u32
     ensures { result ≡ column_word y }
@@ -30,7 +30,7 @@ fn word_in_column(y: u16) -> u32
 
 /// Writes the supported voxels of a part of a brick's row and appends its other full voxels to `rest`.
 ///
-/// Bit k of `bits` says whether voxel k is full, bit k of `supported` whether all voxels under it are full too; `own` is
+/// Bit k of `bits` says whether voxel k is full, bit k of `supported` whether all voxels below it are full too; `own` is
 /// the slot of the brick.
 fn raise_each<L: Ledger>(
     cells: &mut Cells,
@@ -68,7 +68,7 @@ fn raise_each<L: Ledger>(
     Ok(())
 }
 
-/// Does what [`raise_each`] does, and looks the slot up first; a whole row of supported voxels is written at once.
+/// Like [`raise_each`], but looks the slot up first; a whole row of supported voxels is written at once.
 fn raise_part<L: Ledger>(
     cells: &mut Cells,
     planes: &Planes,
@@ -99,7 +99,7 @@ fn raise_part<L: Ledger>(
     )
 }
 
-/// Does what [`raise_part`] does for up to 64 voxels of a row, brick by brick.
+/// Like [`raise_part`], for up to 64 voxels of a row, brick by brick.
 fn raise_row<L: Ledger>(
     cells: &mut Cells,
     planes: &Planes,
@@ -178,7 +178,7 @@ fn raise_columns<L: Ledger>(
     Ok(())
 }
 
-/// Does what [`raise_columns`] does for all columns of one x.
+/// Like [`raise_columns`], for all columns of one x.
 fn raise_wall<L: Ledger>(
     cells: &mut Cells,
     planes: &Planes,

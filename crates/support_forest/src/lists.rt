@@ -6,7 +6,7 @@ use std::alloc::Global;
 use std::mem;
 use vox_geom::Coord;
 
-/// What calls fill and empty, kept between them, so that a call takes no memory where earlier ones took enough.
+/// The lists that calls fill and empty. They are kept between calls so that their memory is used again.
 #[derive(Drop)]
 pub struct Lists {
     pub orphans: Vec<OrphanSpot>,
@@ -19,7 +19,7 @@ pub struct Lists {
 impl Lists {
     ghost use Rattle.std.specs.Prelude.{◌≡◌, []};
 
-    /// Lists that have taken no memory yet.
+    /// Returns lists without an allocation.
     pub fn new(alloc: Global) -> Lists {
         Lists {
             orphans: Vec::new(alloc),
@@ -39,7 +39,7 @@ impl Lists {
         orphans
     }
 
-    /// Takes the list of the spots of voxels that are to be looked at out, emptied.
+    /// Takes the list of the indices of dirty voxels out, emptied.
     pub fn take_fresh(&mut self, alloc: Global) -> Vec<u32>
         ensures { result.items ≡ [] }
     {
@@ -48,7 +48,7 @@ impl Lists {
         fresh
     }
 
-    /// Takes the list of voxels that are left out, emptied.
+    /// Takes the list of deferred voxels out, emptied.
     pub fn take_rest(&mut self, alloc: Global) -> Vec<Coord>
         ensures { result.items ≡ [] }
     {
@@ -57,7 +57,7 @@ impl Lists {
         rest
     }
 
-    /// Takes the list of seeds out, emptied.
+    /// Takes the list of sources out, emptied.
     pub fn take_seeds(&mut self, alloc: Global) -> Vec<SpotOffer>
         ensures { result.items ≡ [] }
     {
@@ -66,7 +66,7 @@ impl Lists {
         seeds
     }
 
-    /// Takes the queue of offers out, emptied.
+    /// Takes the queue of candidates out, emptied.
     pub fn take_found(&mut self, alloc: Global) -> Queue
         ensures { result ≡ [] }
     {

@@ -1,6 +1,6 @@
-//! What is offered to voxels.
+//! The candidates of a search: a height for a voxel.
 
-/// A height that is offered to the voxel at a spot, and the direction of the parent that offers it.
+/// A candidate: a height for the voxel at an index, and the direction of its parent.
 #[derive(Clone, Copy)]
 pub struct SpotOffer {
     pub spot: u32,
@@ -8,11 +8,11 @@ pub struct SpotOffer {
     pub toward: u8,
 }
 
-/// What is to be looked at next.
+/// The next candidate of a search.
 #[derive(Clone, Copy)]
 pub enum NextOffer {
-    /// An offer.
+    /// A source.
     Seed(SpotOffer),
-    /// An offer whose voxel was written: its neighbours are to be offered the next height.
+    /// A candidate of the frontier: its voxel was written, and its neighbors are still to be relaxed.
     Found(SpotOffer),
 }

@@ -1,4 +1,4 @@
-//! Puts a voxel beside others whose levels stay as they are.
+//! Fills a voxel if all other levels stay as they are.
 ghost use Rattle.std.specs.Prelude.{◌≡◌, ◌==◌, ℕ, ◌+◌, ◌<◌, ◌≤◌, IfOk, true};
 ghost use Rattle.vox_geom.specs.declared.coordinate.Coord.{Coord};
 ghost use Rattle.support_forest.specs.Grid.{word_at};
@@ -15,8 +15,8 @@ use std::alloc::AllocError;
 use std::sync::ledger::Ledger;
 use vox_geom::{Coord, Steps};
 
-/// What lies around a voxel: the least height that it is offered, 0 where it is offered none, with the direction of
-/// the parent; the greatest height of a neighbour; and whether a full neighbour has no height.
+/// The neighborhood of a voxel: the least height that a neighbor or the floor gives it, or 0 if none does, with the direction of
+/// that parent; the greatest height of a neighbor; and whether a full neighbor has no height.
 #[derive(Clone, Copy)]
 pub struct Around {
     pub height: u32,
@@ -25,7 +25,7 @@ pub struct Around {
     pub is_loose: bool,
 }
 
-/// What is known with one more neighbour, of this word.
+/// Returns the neighborhood with one more neighbor, of this word.
 fn with_neighbor(around: Around, d: u8, word: u32) -> Around
     ensures { (w : Coord → ℕ) (c : Coord) → IsWordToward w c d word → IsAround w c around d
         → IsAround w c result (d + 1) }
@@ -52,7 +52,7 @@ fn with_neighbor(around: Around, d: u8, word: u32) -> Around
     }
 }
 
-/// What lies around a voxel before any neighbour is looked at: the floor, where it is one of the floor.
+/// Returns the neighborhood of a voxel before any neighbor is read: the floor alone, if the voxel is on it.
 pub fn nothing_around(is_on_floor: bool) -> Around
     ensures { (w : Coord → ℕ) (c : Coord) → is_on_floor ≡ (c.y == 0) → IsAround w c result 1 }
 {
@@ -64,7 +64,7 @@ pub fn nothing_around(is_on_floor: bool) -> Around
     }
 }
 
-/// What lies around a voxel, by the words beside it.
+/// Returns the neighborhood of a voxel by the words of its neighbors.
 pub fn look_around(is_on_floor: bool, beside: Beside) -> Around
     ensures { (w : Coord → ℕ) (c : Coord) → is_on_floor ≡ (c.y == 0) → AreBesideWords w c beside
         → IsAround w c result 7 }
@@ -78,8 +78,9 @@ pub fn look_around(is_on_floor: bool, beside: Beside) -> Around
     with_neighbor(around, 6, beside.far)
 }
 
-/// What lies around the voxel at a spot, whose brick has this slot and this chunk. Each word is judged as it is read: of six that are
-/// kept side by side the compiler makes one test, which waits for all of them to be stored.
+/// Returns the neighborhood of the voxel at an index, whose brick has this slot and this chunk.
+///
+/// Tests each word as it is read: a test of all six at the end would wait until all are stored.
 #[inline(always)]
 fn look_in<L: Ledger>(
     cells: &Cells,
@@ -128,7 +129,7 @@ fn look_in<L: Ledger>(
     )
 }
 
-/// What lies around the voxel at a spot.
+/// Returns the neighborhood of the voxel at an index.
 #[inline(always)]
 pub fn look_at<L: Ledger>(
     cells: &Cells,
@@ -156,7 +157,7 @@ pub fn look_at<L: Ledger>(
     }
 }
 
-/// Whether the word is that of a void voxel, or of one with a height from the one given up to two above it.
+/// Returns whether the word is that of a void voxel, or of one whose height is at least `height` and at most two above it.
 #[inline(always)]
 fn leaves_room(word: u32, height: u32) -> bool
     requires { height < 536870912 }
@@ -165,7 +166,7 @@ fn leaves_room(word: u32, height: u32) -> bool
     word == 0 || (word >= 8 * height && word - 8 * height < 24)
 }
 
-/// Whether a void voxel may stand on the one under it while all other levels stay.
+/// Returns whether a void voxel can be filled as a child of the voxel below without a change of another level.
 #[inline(always)]
 fn may_stand(beside: Beside) -> bool
     ensures { result ≡ true → MayStand beside }
@@ -179,7 +180,7 @@ fn may_stand(beside: Beside) -> bool
         && leaves_room(beside.far, height)
 }
 
-/// Whether the word is that of a void voxel, or of one that may stay over a voxel of the floor.
+/// Returns whether the word is that of a void voxel, or of one that may stay above a voxel of the floor.
 #[inline(always)]
 fn may_lie_under(word: u32) -> bool
     ensures { result ≡ true → MayLieUnder word }
@@ -187,7 +188,7 @@ fn may_lie_under(word: u32) -> bool
     word == 0 || (word >= 8 && word < 24)
 }
 
-/// [`place`] where neither the floor nor the voxel under it holds the voxel up while the levels around it stay.
+/// Like [`place`], for a voxel that neither the floor nor the voxel below can support without a change of another level.
 #[inline(never)]
 fn place_beside<L: Ledger>(
     cells: &mut Cells,
@@ -213,7 +214,7 @@ fn place_beside<L: Ledger>(
     Ok(true)
 }
 
-/// [`place`] where the voxel's brick has no slot.
+/// Like [`place`], for a voxel whose brick has no slot.
 #[inline(never)]
 fn place_first<L: Ledger>(
     cells: &mut Cells,
@@ -227,7 +228,9 @@ fn place_first<L: Ledger>(
     place_beside(cells, c, beside, steps)
 }
 
-/// [`place`] on the floor, where a full voxel has level 0: that over it is the only one that can get another level.
+/// Like [`place`], on the floor.
+///
+/// There a full voxel has level 0, so only the level of the voxel above can change.
 #[inline(always)]
 fn place_on_floor<L: Ledger>(cells: &mut Cells, c: Coord, slot: u32, steps: &mut Steps<L>) -> bool
     requires place { CanPlaceIn cells.old c slot }
@@ -242,7 +245,7 @@ fn place_on_floor<L: Ledger>(cells: &mut Cells, c: Coord, slot: u32, steps: &mut
     true
 }
 
-/// [`place`] above the floor, where the voxel's brick has this slot.
+/// Like [`place`], above the floor, for a voxel whose brick has this slot.
 #[inline(always)]
 fn place_in<L: Ledger>(
     cells: &mut Cells,
@@ -261,8 +264,9 @@ fn place_in<L: Ledger>(
     place_beside(cells, c, beside, steps)
 }
 
-/// Makes a void voxel full, where no other level changes by it, and tells whether it did: otherwise all stays. Each way has
-/// the words that it reads to itself, so that they stay in registers.
+/// Fills a void voxel if that changes no other level, and returns whether it did; otherwise changes nothing.
+///
+/// Each path reads its own words, so that they stay in registers.
 #[inline(always)]
 pub fn place<L: Ledger>(
     cells: &mut Cells,
@@ -281,8 +285,9 @@ pub fn place<L: Ledger>(
     place_in(cells, c, slot, steps)
 }
 
-/// [`stand`] above the floor, where the voxel's brick has this slot. Each word beside the voxel is judged as it is read, so that none is
-/// kept.
+/// Like [`stand`], above the floor, for a voxel whose brick has this slot.
+///
+/// Tests each word as it is read, so that none is kept.
 #[inline(always)]
 fn stand_by<L: Ledger>(cells: &mut Cells, spot: u32, slot: u32, steps: &mut Steps<L>) -> bool
     requires { CanPlaceIn cells.old (voxel_in cells.old spot) slot }
@@ -320,7 +325,7 @@ fn stand_by<L: Ledger>(cells: &mut Cells, spot: u32, slot: u32, steps: &mut Step
     true
 }
 
-/// [`stand_in`] of a voxel that is the lowest of its brick.
+/// Like [`stand_in`], for a voxel in the lowest layer of its brick.
 #[inline(never)]
 fn stand_lowest<L: Ledger>(cells: &mut Cells, spot: u32, slot: u32, steps: &mut Steps<L>) -> bool
     requires { CanPlaceIn cells.old (voxel_in cells.old spot) slot }
@@ -329,8 +334,7 @@ fn stand_lowest<L: Ledger>(cells: &mut Cells, spot: u32, slot: u32, steps: &mut 
     stand_by(cells, spot, slot, steps)
 }
 
-/// [`stand_by`], in two ways: where the first word that is read lies in the voxel's own brick, the compiler keeps the place of its
-/// chunk for those that follow.
+/// Like [`stand_by`], on two paths: if the first word lies in the voxel's own brick, the chunk is looked up once.
 #[inline(always)]
 fn stand_in<L: Ledger>(cells: &mut Cells, spot: u32, slot: u32, steps: &mut Steps<L>) -> bool
     requires { CanPlaceIn cells.old (voxel_in cells.old spot) slot }
@@ -342,8 +346,9 @@ fn stand_in<L: Ledger>(cells: &mut Cells, spot: u32, slot: u32, steps: &mut Step
     stand_by(cells, spot, slot, steps)
 }
 
-/// [`stand`] above the floor, where each full voxel stands on the floor or hangs on the one under it: then each has the level of its y,
-/// and the one under the voxel is all that is to be read.
+/// Like [`stand`], above the floor in a forest without overhangs.
+///
+/// There each full voxel has the level of its y, so only the voxel below is read.
 #[inline(always)]
 fn stand_straight<L: Ledger>(cells: &mut Cells, spot: u32, slot: u32, steps: &mut Steps<L>) -> bool
     requires can { CanPlaceIn cells.old (voxel_in cells.old spot) slot }
@@ -361,8 +366,9 @@ fn stand_straight<L: Ledger>(cells: &mut Cells, spot: u32, slot: u32, steps: &mu
     true
 }
 
-/// Makes a void voxel full that stands on the floor or on the one under it, where no other level changes by it, and tells whether it
-/// did: otherwise all stays.
+/// Fills a void voxel on the floor or above a full one if that changes no other level, and returns whether it did.
+///
+/// Changes nothing otherwise.
 #[inline(always)]
 pub fn stand<L: Ledger>(cells: &mut Cells, c: Coord, steps: &mut Steps<L>) -> bool
     requires { CanPlace cells.old c }

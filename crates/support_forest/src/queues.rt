@@ -1,4 +1,4 @@
-//! Offers that are taken in the order in which they came.
+//! First-in, first-out queues of candidates.
 ghost use Rattle.std.specs.Prelude.{◌≡◌, ◌<◌, [], length};
 
 use crate::offer::SpotOffer;
@@ -6,7 +6,7 @@ use std::alloc::{AllocError, Global};
 use std::marker::Model;
 use std::mem;
 
-/// A list whose offers are taken from the first on. What was taken stays in memory until the list is filled anew.
+/// A list that is read from the front. What was read stays in memory until the list is filled again.
 #[derive(Drop)]
 pub struct Line {
     items: Vec<SpotOffer>,
@@ -27,19 +27,19 @@ impl Model for Line {
 impl Line {
     ghost use Rattle.std.specs.Prelude.{◌≡◌, ◌==◌, ◌<◌, ◌∷◌, [], MatchOption, length, slice_index_or};
 
-    /// The offers of a list.
+    /// Returns a queue of the candidates of a list.
     pub fn new(items: Vec<SpotOffer>) -> Line
         ensures { result ≡ items.items }
     {
         Line { items, at: 0 }
     }
 
-    /// The list, to be used again.
+    /// Returns the list, to be used again.
     pub fn into_list(self) -> Vec<SpotOffer> {
         self.items
     }
 
-    /// Whether none is left.
+    /// Returns whether it is empty.
     #[inline(always)]
     pub fn is_empty(&self) -> bool
         ensures { result ≡ (length self.now == 0) }
@@ -47,7 +47,7 @@ impl Line {
         self.at == self.items.len()
     }
 
-    /// The first.
+    /// Returns the first candidate.
     #[inline(always)]
     pub fn first(&self) -> &SpotOffer
         requires { 0 < length self.now }
@@ -56,7 +56,7 @@ impl Line {
         &self.items[self.at]
     }
 
-    /// Takes the first.
+    /// Removes and returns the first candidate.
     #[inline(always)]
     pub fn pop_front(&mut self) -> Option<SpotOffer>
         ensures { MatchOption result ((length self.old ≡ 0) × (length self.new ≡ 0)) (λ c. self.old ≡ c ∷ self.new) }
@@ -69,7 +69,7 @@ impl Line {
         Some(c)
     }
 
-    /// Fills it with the offers of another list. Its own list is given back, emptied.
+    /// Fills it with the candidates of another list, and returns its own list, emptied.
     pub fn refill(&mut self, items: Vec<SpotOffer>) -> Vec<SpotOffer>
         ensures filled { self.new ≡ items.items }
         ensures emptied { result.items ≡ [] }
@@ -89,8 +89,9 @@ impl Line {
     }
 }
 
-/// Offers that are taken in the order in which they came: those of `front`, then those of `back`. Where `front` is used up
-/// the two lists change places. A ring would reckon each place modulo its room, which costs more than the rest of a call.
+/// A first-in, first-out queue: the candidates of `front`, then those of `back`.
+///
+/// The two lists are swapped when `front` is empty. A ring buffer was slower: it computes each index modulo the capacity.
 #[derive(Drop)]
 pub struct Queue {
     alloc: Global,
@@ -107,7 +108,7 @@ impl Model for Queue {
     ghost view = { λ q. q.front ++ q.back.items };
 }
 
-/// The offers that came last are those to be taken.
+/// Moves the candidates of `back` to `front`, which is empty.
 #[inline(never)]
 fn turn(alloc: Global, front: &mut Line, back: &mut Vec<SpotOffer>)
     ensures front { front.new ≡ back.old.items }
@@ -120,7 +121,7 @@ fn turn(alloc: Global, front: &mut Line, back: &mut Vec<SpotOffer>)
 impl Queue {
     ghost use Rattle.std.specs.Prelude.{◌≡◌, ◌==◌, ◌<◌, ◌∷◌, ◌++◌, [], IfOk, OnErr, MatchOption, length, slice_index_or};
 
-    /// An empty one. It takes no memory.
+    /// Returns an empty queue. It does not allocate.
     pub fn new(alloc: Global) -> Queue
         ensures { result ≡ [] }
     {
@@ -131,7 +132,7 @@ impl Queue {
         }
     }
 
-    /// Whether none waits.
+    /// Returns whether it is empty.
     #[inline(always)]
     pub fn is_empty(&self) -> bool
         ensures { result ≡ (length self.now == 0) }
@@ -139,7 +140,7 @@ impl Queue {
         self.front.is_empty() && self.back.is_empty()
     }
 
-    /// The first.
+    /// Returns the first candidate.
     #[inline(always)]
     pub fn first(&self) -> &SpotOffer
         requires { 0 < length self.now }
@@ -151,7 +152,7 @@ impl Queue {
         self.front.first()
     }
 
-    /// Adds an offer behind the others.
+    /// Appends a candidate.
     #[inline(always)]
     pub fn push_back(&mut self, c: SpotOffer) -> Result<(), AllocError>
         ensures items { IfOk result (λ _. self.new ≡ self.old ++ c ∷ []) }
@@ -161,7 +162,7 @@ impl Queue {
         Ok(())
     }
 
-    /// Takes the first.
+    /// Removes and returns the first candidate.
     #[inline(always)]
     pub fn pop_front(&mut self) -> Option<SpotOffer>
         ensures { MatchOption result ((length self.old ≡ 0) × (length self.new ≡ 0)) (λ c. self.old ≡ c ∷ self.new) }

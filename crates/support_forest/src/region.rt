@@ -1,4 +1,4 @@
-//! Takes away the full voxels of a region, row by row: only those of rows on which others hang are listed.
+//! Voids the full voxels of a region, row by row: only those of rows with children are deferred.
 ghost use Rattle.std.specs.Prelude.{◌≡◌, ◌+◌, ◌-◌, ◌*◌, ◌/◌, ◌%◌, ◌^◌, ◌<◌, ◌≤◌, ℕ, IfOk, Some, length, slice_index, true};
 ghost use Rattle.vox_geom.specs.Region.{size, span};
 ghost use Rattle.vox_geom.specs.Space.{IsInSpace};
@@ -18,7 +18,7 @@ use std::alloc::AllocError;
 use std::sync::ledger::Ledger;
 use vox_geom::{Coord, Region, Steps};
 
-/// Whether all words of the chunk from one on are 0. All are looked at, so that they can be read at once.
+/// Returns whether `count` words of the chunk from `from` on are all 0. Reads all of them, so that no read waits for a test.
 #[inline(always)]
 fn words_are_void<L: Ledger>(chunk: &Chunk, from: usize, count: u16, steps: &mut Steps<L>) -> bool
     requires within { from + count ≤ length chunk.now }
@@ -36,8 +36,9 @@ fn words_are_void<L: Ledger>(chunk: &Chunk, from: usize, count: u16, steps: &mut
     void
 }
 
-/// Whether the whole row of a brick in which the voxel at a spot lies is void, where a voxel leans. Where none does the row is not read:
-/// what hangs on it is seen in the row over it, and to write it waits for nothing. `own` is the slot of the brick.
+/// Returns whether the forest has overhangs and the whole row of the voxel at an index is void. `own` is the slot of its brick.
+///
+/// Without overhangs it does not read the row: the row above shows its children, and writing it is cheaper than reading it first.
 #[inline(always)]
 fn row_is_void<L: Ledger>(cells: &Cells, own: u32, spot: u32, steps: &mut Steps<L>) -> bool
     requires within { IsInSpace cells.now.resolution (voxel_in cells.now spot) }
@@ -55,7 +56,7 @@ fn row_is_void<L: Ledger>(cells: &Cells, own: u32, spot: u32, steps: &mut Steps<
     words_are_void(chunk, from, BRICK_SIDE, steps)
 }
 
-/// Lists the full voxels of a part of a row, which lies in the brick with this slot.
+/// Appends the full voxels of a part of a row, in the brick with this slot, to the deferred voxels.
 fn list_part<L: Ledger>(
     cells: &Cells,
     own: u32,
@@ -85,7 +86,7 @@ fn list_part<L: Ledger>(
     Ok(())
 }
 
-/// The full voxels of a part of a row, which lies in one brick, become void, or are listed. The first of them is at that spot.
+/// Voids the full voxels of a part of a row in one brick, or defers them. The first of them is at that index.
 #[inline(always)]
 fn take_part<L: Ledger>(
     cells: &mut Cells,
@@ -116,7 +117,7 @@ fn take_part<L: Ledger>(
     list_part(cells, own, first, count, rest, steps)
 }
 
-/// The full voxels of a row from one on, before `end`, become void, or are listed.
+/// Voids the full voxels of a row from one on, before `end`, or defers them.
 fn take_row<L: Ledger>(
     cells: &mut Cells,
     first: Coord,
@@ -145,7 +146,7 @@ fn take_row<L: Ledger>(
     Ok(())
 }
 
-/// The full voxels of a region among those with this x become void, or are listed.
+/// Voids the full voxels of a region with this x, or defers them.
 fn take_wall<L: Ledger>(
     cells: &mut Cells,
     b: &Region,
@@ -172,7 +173,7 @@ fn take_wall<L: Ledger>(
     Ok(())
 }
 
-/// The full voxels of a region become void, or are listed: from the last on, so that what stands on a voxel goes before it.
+/// Voids the full voxels of a region or defers them, from the last to the first, so that children come before their parents.
 pub fn take_region<L: Ledger>(
     cells: &mut Cells,
     b: &Region,

@@ -1,11 +1,11 @@
-//! The spots of a voxel's neighbours, and of those of a line.
+//! The indices of a voxel's neighbors, and of the voxels of a line.
 ghost use Rattle.std.specs.Prelude.{◌≡◌, ℕ, ◌+◌, ◌*◌, ◌/◌, ◌%◌, ◌<◌, ◌≤◌, MatchBool};
 ghost use Rattle.support_forest.specs.Placing.{EndsBrick};
 ghost use Rattle.support_forest.specs.Spots.{IsBrickBeside, IsSpotNext, StaysInBrick, voxel_of};
 
 use crate::cells::{BRICK_SIDE, BRICK_WORDS};
 
-/// Whether the voxel at a spot is the last of its brick in a direction.
+/// Returns whether the voxel at an index is the last of its brick in a direction.
 #[inline(always)]
 pub fn ends_brick<const D: u8>(spot: u32) -> bool
     requires { (0 < D) × (D ≤ 6) }
@@ -21,7 +21,8 @@ pub fn ends_brick<const D: u8>(spot: u32) -> bool
     }
 }
 
-/// The spot a step before one, over the border of the brick where `part` is within the first step: the part of the spot in eight steps.
+/// Returns the index one step lower, in the previous brick if `part` is within the first step. `part` is the index modulo eight
+/// steps.
 #[inline(always)]
 fn spot_before(spot: u32, part: u32, step: u32, bricks: u32) -> u32
     requires fits { (spot < 134217728) × (step ≤ 64) × (bricks < 4096) }
@@ -36,7 +37,7 @@ fn spot_before(spot: u32, part: u32, step: u32, bricks: u32) -> u32
     spot - step
 }
 
-/// The spot a step behind one, over the border of the brick where `part` is within the last step.
+/// Returns the index one step higher, in the next brick if `part` is within the last step.
 #[inline(always)]
 fn spot_behind(spot: u32, part: u32, step: u32, bricks: u32) -> u32
     requires fits { (spot < 134217728) × (step ≤ 64) × (bricks < 4096) }
@@ -50,7 +51,9 @@ fn spot_behind(spot: u32, part: u32, step: u32, bricks: u32) -> u32
     spot + step
 }
 
-/// The spot of the neighbour in a direction, where it lies in a brick of the table: so many bricks lie along an axis.
+/// Returns the index of the neighbor in a direction, which lies in a brick of the table.
+///
+/// `side` is the number of bricks along an axis.
 #[inline(always)]
 pub fn spot_toward<const D: u8>(spot: u32, side: u16) -> u32
     requires direction { (0 < D) × (D ≤ 6) }
@@ -71,7 +74,7 @@ pub fn spot_toward<const D: u8>(spot: u32, side: u16) -> u32
     }
 }
 
-/// The spot so many voxels further along z than the first of a line through space.
+/// Returns the index of the voxel at `z` on a line along z, whose first voxel has the index `line`.
 #[inline(always)]
 pub fn spot_along(line: u32, z: u16) -> u32
     requires fits { line < 67917312 }

@@ -1,6 +1,6 @@
-//! Takes away voxels that follow one another along z in a row of a brick: their slots are looked up once.
+//! Voids segments of voxels along z, within a row of a brick: their slot is looked up once.
 //!
-//! Where a neighbour has its parent among them all of them are listed: to try each alone would read the words beside it again.
+//! If a voxel of a segment has a child outside it, all of them are deferred: to try each alone would read the neighbors again.
 ghost use Rattle.std.specs.Prelude.{◌≡◌, ℕ, ◌+◌, ◌-◌, ◌*◌, ◌/◌, ◌%◌, ◌^◌, ◌<◌, ◌≤◌, IfOk, IfSome, Some, false, true, length, slice_index_or};
 ghost use Rattle.vox_geom.specs.Space.{IsInSpace};
 ghost use Rattle.vox_geom.specs.declared.coordinate.Coord.{Coord};
@@ -19,7 +19,7 @@ use std::alloc::AllocError;
 use std::sync::ledger::Ledger;
 use vox_geom::{Coord, Steps};
 
-/// How many of the last voxels before `end` follow one another along z in one row of a brick.
+/// Returns how many of the last voxels before `end` follow one another along z in one row of a brick.
 #[inline(always)]
 fn stretch_before(gone: &[Coord], end: usize) -> u16
     requires some { 0 < end }
@@ -42,7 +42,9 @@ fn stretch_before(gone: &[Coord], end: usize) -> u16
     count
 }
 
-/// Whether no word of the chunk from one on says a parent in that direction. All are looked at, so that they can be read at once.
+/// Returns whether none of `count` words of the chunk from `from` on has its parent in that direction.
+///
+/// Reads all of them, so that no read waits for a test.
 #[inline(always)]
 fn words_hang_not<L: Ledger>(
     chunk: &Chunk,
@@ -67,7 +69,8 @@ fn words_hang_not<L: Ledger>(
     none
 }
 
-/// Whether no word of the row from a spot on says a parent in that direction. A row of a brick without a slot is void.
+/// Returns whether no word of the row that begins at an index has its parent in that direction. A row of a brick without a slot
+/// is void.
 #[inline(always)]
 fn row_is_free<L: Ledger>(
     cells: &Cells,
@@ -91,8 +94,9 @@ fn row_is_free<L: Ledger>(
     }
 }
 
-/// Whether no neighbour in the direction, to a side of the row from a spot on, has its parent in a voxel of the row. `chunk` has the
-/// words of the slot of its brick, that of the first at that place.
+/// Returns whether no neighbor of the row to one side has its parent in the row, which begins at an index.
+///
+/// `chunk` contains the slot of its brick, and the word of the first voxel is at the offset `at`.
 #[inline(always)]
 fn side_is_free<const D: u8, L: Ledger>(
     cells: &Cells,
@@ -120,8 +124,10 @@ fn side_is_free<const D: u8, L: Ledger>(
     }
 }
 
-/// Whether no neighbour to a side of the row from a spot on has its parent in a voxel of the row, and no voxel of the row in the next
-/// one. The last of them may lie beyond space.
+/// Returns whether no neighbor to a side has its parent in the row that begins at an index, and no voxel of the row in the next
+/// one.
+///
+/// The last voxels of the row may lie beyond space.
 #[inline(always)]
 fn sides_are_free<L: Ledger>(
     cells: &Cells,
@@ -156,7 +162,7 @@ fn sides_are_free<L: Ledger>(
     words_hang_not(chunk, at, count, 6, steps)
 }
 
-/// Whether neither the voxel before the row from a spot on has its parent in the first of the row, nor that behind it in the last.
+/// Returns whether neither end of the row that begins at an index is a parent of the voxel before or after the row.
 #[inline(always)]
 fn ends_are_free<L: Ledger>(
     cells: &Cells,
@@ -185,7 +191,7 @@ fn ends_are_free<L: Ledger>(
     !hangs(far, 5)
 }
 
-/// Whether no neighbour has its parent in a voxel of the row from a spot on, but for the next voxel of the row.
+/// Returns whether the row that begins at an index has no children, except that a voxel may be the child of the next one.
 #[inline(always)]
 fn is_free<L: Ledger>(cells: &Cells, own: u32, spot: u32, count: u16, steps: &mut Steps<L>) -> bool
     requires { IsBrickRow cells.now own (voxel_in cells.now spot) count }
@@ -198,8 +204,7 @@ fn is_free<L: Ledger>(cells: &Cells, own: u32, spot: u32, count: u16, steps: &mu
     ends_are_free(cells, own, spot, count, steps)
 }
 
-/// The spot of the first voxel of the whole row of a brick in which that at a spot lies, said so that the compiler knows where in its
-/// brick it is.
+/// Returns the index of the first voxel of the whole row around an index, as a multiple of 8 that the compiler can see.
 #[inline(always)]
 pub fn start_of_row(spot: u32) -> u32
     ensures first { (side : ℕ) → voxel_of side result ≡ whole_row_start (voxel_of side spot) }
@@ -209,8 +214,9 @@ pub fn start_of_row(spot: u32) -> u32
     spot / 8 * 8
 }
 
-/// Whether no neighbour has its parent in a voxel of the row from a spot on, but for the next voxel of the row. A whole row is read by
-/// steps that the compiler knows.
+/// Returns whether the row that begins at an index has no children, except that a voxel may be the child of the next one.
+///
+/// A whole row is read with constant bounds.
 fn are_free<L: Ledger>(cells: &Cells, own: u32, spot: u32, count: u16, steps: &mut Steps<L>) -> bool
     requires { IsBrickRow cells.now own (voxel_in cells.now spot) count }
     ensures free { result ≡ true → RowIsFree (word_at cells.now) (voxel_in cells.now spot) count }
@@ -222,8 +228,9 @@ fn are_free<L: Ledger>(cells: &Cells, own: u32, spot: u32, count: u16, steps: &m
     is_free(cells, own, spot, count, steps)
 }
 
-/// Whether nothing beside the whole row of the brick has its parent in that row, so that nothing beside these voxels of it
-/// has: a whole row is read by steps that the compiler knows.
+/// Returns whether no neighbor to a side has its parent in the whole row, and so none in these voxels of it.
+///
+/// A whole row is read with constant bounds.
 #[inline(always)]
 fn sides_of_all_are_free<L: Ledger>(
     cells: &Cells,
@@ -242,8 +249,9 @@ fn sides_of_all_are_free<L: Ledger>(
     sides_are_free(cells, own, start_of_row(spot), BRICK_SIDE, steps)
 }
 
-/// Whether no neighbour has its parent in a voxel of the row from a spot on, but for the next voxel of the row. Most parts of rows lie
-/// in whole rows that are free.
+/// Returns whether the row that begins at an index has no children, except that a voxel may be the child of the next one.
+///
+/// Tests the whole row first: most parts of rows lie in whole rows without children.
 #[inline(always)]
 pub fn part_is_free<L: Ledger>(
     cells: &Cells,
@@ -262,7 +270,8 @@ pub fn part_is_free<L: Ledger>(
     are_free(cells, own, spot, count, steps)
 }
 
-/// The slot of the row from a spot on, where no neighbour has its parent in one of its voxels, but for the next voxel of the row.
+/// Returns the slot of the row that begins at an index, if the row has no children, except that a voxel may be the child of the
+/// next one.
 #[inline(always)]
 fn free_slot<L: Ledger>(cells: &Cells, spot: u32, count: u16, steps: &mut Steps<L>) -> Option<u32>
     requires some { 0 < count }
@@ -279,7 +288,7 @@ fn free_slot<L: Ledger>(cells: &Cells, spot: u32, count: u16, steps: &mut Steps<
     Some(own)
 }
 
-/// Makes the voxel at a spot void, whose brick has this slot. Where no voxel leans its word is not read.
+/// Voids the voxel at an index, whose brick has this slot. Its word is not read if there are no overhangs.
 #[inline(always)]
 fn clear_voxel<L: Ledger>(cells: &mut Cells, own: u32, spot: u32, steps: &mut Steps<L>)
     requires within { IsInSpace cells.old.resolution (voxel_in cells.old spot) }
@@ -297,7 +306,7 @@ fn clear_voxel<L: Ledger>(cells: &mut Cells, own: u32, spot: u32, steps: &mut St
     cells.write_at(own, spot, word, 0, steps);
 }
 
-/// Makes the voxels of the row from a spot on void, from the last to the first.
+/// Voids the voxels of the row that begins at an index, from the last to the first.
 #[inline(always)]
 fn clear_voxels<L: Ledger>(cells: &mut Cells, own: u32, spot: u32, count: u16, steps: &mut Steps<L>)
     requires { CanClear cells.old own (voxel_in cells.old spot) count }
@@ -311,8 +320,7 @@ fn clear_voxels<L: Ledger>(cells: &mut Cells, own: u32, spot: u32, count: u16, s
     }
 }
 
-/// Makes the voxels of the row from a spot on void at once, where it is a whole one and no voxel leans: whether it did. Otherwise
-/// all stays.
+/// Voids a whole row at once if there are no overhangs, and returns whether it did; otherwise changes nothing.
 #[inline(always)]
 fn clear_at_once<L: Ledger>(
     cells: &mut Cells,
@@ -336,7 +344,7 @@ fn clear_at_once<L: Ledger>(
     true
 }
 
-/// Makes the voxels of the row from a spot on void.
+/// Voids the voxels of the row that begins at an index.
 #[inline(always)]
 pub fn clear_row<L: Ledger>(
     cells: &mut Cells,
@@ -354,7 +362,7 @@ pub fn clear_row<L: Ledger>(
     clear_voxels(cells, own, spot, count, steps)
 }
 
-/// Lists the voxels from the last before `end` down to `start`.
+/// Appends the voxels from the last before `end` down to `start`.
 fn list_voxels(
     gone: &[Coord],
     start: usize,
@@ -375,8 +383,7 @@ fn list_voxels(
     Ok(())
 }
 
-/// The last voxels before `end` that follow one another in a row of a brick become void, or are listed. Tells where the first of
-/// them stands in `gone`.
+/// Voids or defers the last segment of `gone` before `end`, and returns the index of its first voxel.
 pub fn take_stretch<L: Ledger>(
     cells: &mut Cells,
     gone: &[Coord],

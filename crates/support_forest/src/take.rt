@@ -1,4 +1,4 @@
-//! Takes away a voxel on which no other hangs.
+//! Voids a voxel that has no children.
 ghost use Rattle.std.specs.Prelude.{◌≡◌, Some, false};
 ghost use Rattle.support_forest.specs.Access.{LieInBrick};
 ghost use Rattle.support_forest.specs.Grid.{slot_of, word_at};
@@ -12,7 +12,7 @@ use crate::toward::{word_beside, word_over_floor};
 use std::sync::ledger::Ledger;
 use vox_geom::{Coord, Steps};
 
-/// Whether the word says that the parent lies in that direction. A word without a height is 0 or 1, and says none.
+/// Returns whether the word has its parent in that direction. A word without a height is 0 or 1, and has none.
 #[inline(always)]
 pub fn hangs(word: u32, toward: u32) -> bool
     ensures { result ≡ false → HangsNot word toward }
@@ -20,8 +20,8 @@ pub fn hangs(word: u32, toward: u32) -> bool
     word % 8 == toward && word != 1
 }
 
-/// Whether a neighbour has its parent in a voxel whose brick has this slot. Each word beside the voxel is judged as it is read, so
-/// that none is kept.
+/// Returns whether a voxel whose brick has this slot is the parent of a neighbor. Tests each word as it is read, so that none is
+/// kept.
 #[inline(always)]
 fn is_parent_in<L: Ledger>(cells: &Cells, spot: u32, slot: u32, steps: &mut Steps<L>) -> bool
     requires { LieInBrick cells.now (voxel_in cells.now spot) slot }
@@ -54,7 +54,7 @@ fn is_parent_in<L: Ledger>(cells: &Cells, spot: u32, slot: u32, steps: &mut Step
     hangs(far, 5)
 }
 
-/// [`is_parent_in`] of a voxel that is the highest of its brick.
+/// Like [`is_parent_in`], for a voxel in the highest layer of its brick.
 #[inline(never)]
 fn is_parent_highest<L: Ledger>(cells: &Cells, spot: u32, slot: u32, steps: &mut Steps<L>) -> bool
     requires { LieInBrick cells.now (voxel_in cells.now spot) slot }
@@ -63,8 +63,7 @@ fn is_parent_highest<L: Ledger>(cells: &Cells, spot: u32, slot: u32, steps: &mut
     is_parent_in(cells, spot, slot, steps)
 }
 
-/// [`is_parent_in`], in two ways: where the first word that is read lies in the voxel's own brick, the compiler keeps the place of
-/// its chunk for those that follow.
+/// Like [`is_parent_in`], on two paths: if the first word lies in the voxel's own brick, the chunk is looked up once.
 #[inline(always)]
 fn is_parent<L: Ledger>(cells: &Cells, spot: u32, slot: u32, steps: &mut Steps<L>) -> bool
     requires { LieInBrick cells.now (voxel_in cells.now spot) slot }
@@ -76,7 +75,7 @@ fn is_parent<L: Ledger>(cells: &Cells, spot: u32, slot: u32, steps: &mut Steps<L
     is_parent_in(cells, spot, slot, steps)
 }
 
-/// [`take`] on the floor, where each full voxel stands on the floor: that over it is the only one that can hang on it.
+/// Like [`take`], on the floor. There only the voxel above can be a child.
 #[inline(always)]
 fn take_from_floor<L: Ledger>(cells: &mut Cells, c: Coord, slot: u32, steps: &mut Steps<L>) -> bool
     requires can { CanTake cells.old c }
@@ -92,7 +91,7 @@ fn take_from_floor<L: Ledger>(cells: &mut Cells, c: Coord, slot: u32, steps: &mu
     true
 }
 
-/// [`take`] above the floor, where the voxel's brick has this slot.
+/// Like [`take`], above the floor, for a voxel whose brick has this slot.
 #[inline(always)]
 fn take_from_air<L: Ledger>(cells: &mut Cells, spot: u32, slot: u32, steps: &mut Steps<L>) -> bool
     requires can { CanTake cells.old (voxel_in cells.old spot) }
@@ -107,8 +106,7 @@ fn take_from_air<L: Ledger>(cells: &mut Cells, spot: u32, slot: u32, steps: &mut
     true
 }
 
-/// [`take`] above the floor, where each full voxel stands on the floor or hangs on the one under it: that over the voxel is the only
-/// one that can hang on it.
+/// Like [`take`], above the floor in a forest without overhangs. There only the voxel above can be a child.
 #[inline(always)]
 fn take_straight<L: Ledger>(cells: &mut Cells, spot: u32, slot: u32, steps: &mut Steps<L>) -> bool
     requires can { CanTake cells.old (voxel_in cells.old spot) }
@@ -127,7 +125,7 @@ fn take_straight<L: Ledger>(cells: &mut Cells, spot: u32, slot: u32, steps: &mut
     true
 }
 
-/// Makes a full voxel void, where it is no other's parent, and tells whether it did: otherwise all stays.
+/// Voids a full voxel if it is no other's parent, and returns whether it did; otherwise changes nothing.
 #[inline(always)]
 pub fn take<L: Ledger>(cells: &mut Cells, c: Coord, steps: &mut Steps<L>) -> bool
     requires { CanTake cells.old c }

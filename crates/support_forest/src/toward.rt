@@ -1,4 +1,4 @@
-//! The word of a voxel's neighbour in one direction, and its spot over the border of a brick.
+//! The word of a voxel's neighbor in one direction, and the index of a neighbor in another brick.
 ghost use Rattle.std.specs.Prelude.{◌≡◌, ◌+◌, ◌*◌, ◌/◌, ◌%◌, ◌^◌, ◌<◌, ◌≤◌, ℕ, IfSome, MatchOption, Some};
 ghost use Rattle.vox_geom.specs.Space.{IsInSpace};
 ghost use Rattle.vox_geom.specs.declared.coordinate.Coord.{Coord};
@@ -12,7 +12,7 @@ use brick_arena::Chunk;
 use std::sync::ledger::Ledger;
 use vox_geom::{Coord, Steps};
 
-/// The place that is a step lower, where `part` is not within the first step: the part of a spot in eight steps.
+/// Returns the offset one step lower, or `None` if `part` is within the first step. `part` is the index modulo eight steps.
 #[inline(always)]
 fn place_below(part: usize, at: usize, step: usize) -> Option<usize>
     requires { step ≤ part → step ≤ at }
@@ -24,7 +24,7 @@ fn place_below(part: usize, at: usize, step: usize) -> Option<usize>
     Some(at - step)
 }
 
-/// The place that is a step higher, where `part` is not within the last step.
+/// Returns the offset one step higher, or `None` if `part` is within the last step.
 #[inline(always)]
 fn place_above(part: usize, at: usize, step: usize) -> Option<usize>
     requires { (at < 2 ^ 31) × (step ≤ 64) }
@@ -36,7 +36,8 @@ fn place_above(part: usize, at: usize, step: usize) -> Option<usize>
     Some(at + step)
 }
 
-/// The place of the word of the neighbour in a direction, where it lies in the same brick: `at` is that of the spot's own.
+/// Returns the offset of the word of the neighbor in a direction, if it lies in the same brick. `at` is the offset of the voxel's
+/// own word.
 #[inline(always)]
 pub fn place_toward<const D: u8>(spot: u32, at: usize) -> Option<usize>
     requires direction { (0 < D) × (D ≤ 6) }
@@ -55,7 +56,7 @@ pub fn place_toward<const D: u8>(spot: u32, at: usize) -> Option<usize>
     }
 }
 
-/// The spot that is so many bricks before one, where there are so many.
+/// Returns the index that lies this many bricks before one, if there are as many.
 #[inline(always)]
 fn spot_less(spot: u32, bricks: u32) -> Option<u32>
     requires { bricks < 4096 }
@@ -67,8 +68,9 @@ fn spot_less(spot: u32, bricks: u32) -> Option<u32>
     Some(spot - BRICK_WORDS * bricks)
 }
 
-/// The spot of the neighbour in a direction, which lies in another brick: no bound of space is looked at, so where no neighbour lies
-/// in space it is that of a voxel beyond space, or none.
+/// Returns the index of the neighbor in a direction, which lies in another brick.
+///
+/// Checks no bound of space: if no neighbor lies in space, the index is that of a voxel beyond space, or `None`.
 #[inline(always)]
 pub fn spot_across<const D: u8>(cells: &Cells, spot: u32) -> Option<u32>
     requires direction { (0 < D) × (D ≤ 6) }
@@ -91,7 +93,7 @@ pub fn spot_across<const D: u8>(cells: &Cells, spot: u32) -> Option<u32>
     }
 }
 
-/// The word of the neighbour in a direction, which lies in another brick, 0 where there is none.
+/// Returns the word of the neighbor in a direction, which lies in another brick; 0 if there is none.
 #[inline(always)]
 fn word_across<const D: u8, L: Ledger>(cells: &Cells, spot: u32, steps: &mut Steps<L>) -> u32
     requires direction { (0 < D) × (D ≤ 6) }
@@ -106,7 +108,7 @@ fn word_across<const D: u8, L: Ledger>(cells: &Cells, spot: u32, steps: &mut Ste
     }
 }
 
-/// [`word_across`] as a call of its own for each direction, so that the way within a brick stays small.
+/// Like [`word_across`], but out of line for each direction, so that the path within a brick stays small.
 #[inline(never)]
 fn word_apart<const D: u8, L: Ledger>(cells: &Cells, spot: u32, steps: &mut Steps<L>) -> u32
     requires direction { (0 < D) × (D ≤ 6) }
@@ -117,7 +119,7 @@ fn word_apart<const D: u8, L: Ledger>(cells: &Cells, spot: u32, steps: &mut Step
     word_across::<D, L>(cells, spot, steps)
 }
 
-/// The word of the neighbour in a direction, 0 where there is none, of a voxel whose brick may have no slot.
+/// Returns the word of the neighbor in a direction, 0 if there is none, of a voxel whose brick may have no slot.
 #[inline(always)]
 pub fn word_beyond<const D: u8, L: Ledger>(cells: &Cells, spot: u32, steps: &mut Steps<L>) -> u32
     requires direction { (0 < D) × (D ≤ 6) }
@@ -131,8 +133,10 @@ pub fn word_beyond<const D: u8, L: Ledger>(cells: &Cells, spot: u32, steps: &mut
     word_across::<D, L>(cells, spot, steps)
 }
 
-/// The word of the neighbour in a direction, 0 where there is none. `chunk` has the words of the slot of the voxel's brick, its own
-/// `at` that place: where several words are read it is looked for once. The way to another brick stands here too.
+/// Returns the word of the neighbor in a direction; 0 if there is none.
+///
+/// `chunk` contains the slot of the voxel's brick, and `at` is the offset of its word there: it is looked up once for several
+/// words. The path to another brick is inlined too.
 #[inline(always)]
 pub fn word_toward<const D: u8, L: Ledger>(
     cells: &Cells,
@@ -153,8 +157,9 @@ pub fn word_toward<const D: u8, L: Ledger>(
     word_across::<D, L>(cells, spot, steps)
 }
 
-/// [`word_toward`] with a call to another brick, so that the way within a brick stays small. A test of a constant for which of the two
-/// is wanted would leave the other one in what the compiler measures before it writes a function out.
+/// Like [`word_toward`], but calls the path to another brick, so that the path within a brick stays small.
+///
+/// A constant parameter in its place would keep the other path in the size that the compiler measures before it inlines.
 #[inline(always)]
 pub fn word_beside<const D: u8, L: Ledger>(
     cells: &Cells,
@@ -175,8 +180,8 @@ pub fn word_beside<const D: u8, L: Ledger>(
     word_apart::<D, L>(cells, spot, steps)
 }
 
-/// The word of the voxel over one of the floor, whose brick has this slot: it lies in the same brick, or beyond space, where words
-/// are 0.
+/// Returns the word of the voxel above one of the floor, whose brick has this slot: it lies in the same brick, or beyond space,
+/// and has the word 0.
 #[inline(always)]
 pub fn word_over_floor<L: Ledger>(cells: &Cells, c: Coord, slot: u32, steps: &mut Steps<L>) -> u32
     requires within { IsInSpace cells.now.resolution c }

@@ -41,7 +41,7 @@ under_row w l (suc n) a y z c =
 pub under_is : (r x y z : ℕ) (c : Coord) → is_under (strip_row r (coord x (y + 1) z)) c ≡ cell r x y z c
 under_is r x y z c = under_row (width r) (last r) (count r) x y z c
 
--- ---- where nothing is wanted
+-- ---- if nothing is missing
 
 none_wanted : (m target : Matrix) (ps : List Coord) (c : Coord) → are_wanted m target ps ≡ false → is_under ps c ≡ true
     → is_full target c ≡ true → is_full m c ≡ true
@@ -89,7 +89,7 @@ pub raised_more : (k m n target : Matrix) (d e all : Coord → Bool) → IsRaise
     → ((c : Coord) → is_full target c ≡ true → (d c || e c) ≡ all c) → IsRaised k n target all
 raised_more k m n target d e all h i j = λ c. i c ∙ (ap (λ t. t || (e c && is_full target c)) (h c) ∙ (both_parts (is_full n c) (d c) (e c) (is_full target c) ∙ same_where_full (is_full n c) (d c || e c) (all c) (is_full target c) (j c)))
 
--- one part of the plan after another, with the way between them
+-- one part of the plan after another, with the path between them
 pub builds_then : (a b c : TapeState) (target : Matrix) (d e all : Coord → Bool) (from to start end : Coord)
     (m n way : ℕ) → Builds a b target d from to m → Builds b c target e start end n
     → ((p : Coord) → distance p start ≤ distance p to + way)
@@ -103,7 +103,7 @@ builds_then a b c target d e all from to start end m n way h k near join = recor
   steps_are = let its_steps_are = h.steps_are in let steps_are = k.steps_are in let near_here = near (spot b.bots) in omega arith;
 }
 
--- the same part, with the way to another place at its end
+-- the same part, with the path to another position at its end
 pub builds_on : (a b : TapeState) (target : Matrix) (d e : Coord → Bool) (from to end : Coord) (m most way : ℕ)
     → Builds a b target d from to m → ((p : Coord) → distance p end ≤ distance p to + way) → to.y ≤ end.y
     → m + way ≤ most → ((q : Coord) → is_full target q ≡ true → d q ≡ e q) → Builds a b target e from end most
@@ -116,7 +116,7 @@ builds_on a b target d e from to end m most way h near up fits same = record {
   steps_are = let steps_are = h.steps_are in let near_here = near (spot b.bots) in omega arith;
 }
 
--- ---- where all stays void
+-- ---- if all stays void
 
 no_less : (full under target : Bool) → full ≡ false → under ≡ false → (full || (under && target)) ≡ false
 no_less full under target e f = rw (e, f) refl
@@ -131,7 +131,7 @@ higher a b h = grind (arith, nat_tests)
 pub no_cell : (r x y z : ℕ) (c : Coord) → y + 1 ≤ c.y → cell r x y z c ≡ false
 no_cell r x y z c h = no_second_of_three (in_line r x c.x) (c.y == y) (c.z == z) (higher c.y y h)
 
--- ---- the search for what is wanted
+-- ---- the search for missing voxels
 
 row_more : (w l n i : ℕ) (c : Coord) → i < n → bot_row w l (n - i) c ≡ held l c ∷ bot_row w l (n - (i + 1)) (next w c)
 row_more w l n i c h = let difference_is : n - i ≡ suc (n - (i + 1)) = omega arith in ap (λ k. bot_row w l k c) difference_is

@@ -1,4 +1,4 @@
--- Each column of the legal box is in one of the lines, and what the layers make is the target.
+-- Each column of the legal box is in one of the lines, and the layers make the target.
 use Rattle.std.proofs.Common.{◌≡◌, ℕ, zero, suc, ◌+◌, ◌-◌, ◌*◌, ◌/◌, ◌%◌, ◌<◌, ◌≤◌, ◌⊎◌, inl, inr, refl, sym, ◌∙◌, ap, arith, Bool, true, false, ◌&&◌, ◌||◌, ◌==◌, min, nat_lt}
 use Rattle.std.proofs.Math.Nat.{div-add-mod}
 use Rattle.std.proofs.lemmas.Nat.{div_below, mod_below}
@@ -59,7 +59,7 @@ all_there full done true e h = rw (e, h refl) refl
 all_there full true false e h = rw e refl
 all_there full false false e h = rw e refl
 
--- where all layers are built from nothing, the voxels are those of the target
+-- if all layers are built from nothing, the voxels are those of the target
 pub built_is : (m n target : Matrix) (r : ℕ) → IsLegal target → r ≡ target.resolution → IsVoidFrom n 0
     → IsRaised m n target (layers r (r - 1)) → AreAlike m target
 built_is m n target r h e void raised = λ c. raised c ∙ all_there (is_full n c) (layers r (r - 1) c) (is_full target c) (void c (omega arith)) (λ f. ap (λ k. layers k (k - 1) c) e ∙ in_layers target c h f)

@@ -1,4 +1,4 @@
--- Bots whose volatile regions lie in columns of their own.
+-- Bots whose volatile regions are in columns of their own.
 use Rattle.std.proofs.Common.{ℕ, ◌+◌, ◌<◌, ◌≤◌, inl, inr, arith, List, [], ◌∷◌}
 use Rattle.std.specs.Prelude.{pos, ◌≤ℤ◌, IsTrue}
 use Rattle.std.specs.List.{AllByRecursion}
@@ -9,7 +9,7 @@ use Rattle.nano_spec.specs.Group.{are_partners}
 use Rattle.nano_spec.specs.Volatile.{volatile_regions}
 use Rattle.step_order.specs.Apart.{AreApart, AreUntangled, LieApart, MayMeet}
 
--- the region lies in columns from one to another
+-- the region is in columns from one to another
 pub record IsInColumns (low high : ℕ) (s : Span) : Type 0 where
   pub from_low : pos low ≤ℤ s.from.x
   pub from_high : s.from.x ≤ℤ pos high
@@ -20,7 +20,7 @@ pub record IsInColumns (low high : ℕ) (s : Span) : Type 0 where
 abbrev pub IsFenced : ℕ → ℕ → Act → Type 0
 IsFenced low high a = AllByRecursion (IsInColumns low high) (volatile_regions (position a) a.command)
 
--- so it is for all bots, each in columns past those of the bots before it, but for two at the end, which fuse
+-- this holds for all bots, each in columns past those of the bots before it, except for two at the end, which fuse
 pub data AreFenced : ℕ → List Act → Type 0 where
   none : {low : ℕ} → AreFenced low []
   one : {low : ℕ} {a : Act} {more : List Act} (high : ℕ) → low ≤ high → IsFenced low high a → AreFenced (high + 1) more

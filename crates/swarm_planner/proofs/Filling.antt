@@ -1,4 +1,4 @@
--- What a step leaves in which each bot fills the voxel below it, or waits.
+-- The effect of a step in which each bot fills the voxel below it, or waits.
 use Rattle.std.proofs.Common.{◌≡◌, ℕ, suc, ◌+◌, ◌-◌, ◌≤◌, refl, sym, ◌∙◌, ap, subst, arith, Bool, true, false, cond, ◌&&◌, ◌||◌, not, ◌==◌, max, List, [], ◌∷◌, length}
 use Rattle.std.specs.Prelude.{pos, negsuc, ◌+ℤ◌, ◌≤ℤ◌, IsTrue}
 use Rattle.std.specs.List.{AllByRecursion, list_any}
@@ -65,7 +65,7 @@ with_true : (a b : Bool) → (a ≡ true → b ≡ true) → (a && b) ≡ a
 with_true true b h = h refl
 with_true false b h = refl
 
--- what one bot fills
+-- the voxel that one bot fills
 fills_one : (m target : Matrix) (p c : Coord) → 1 ≤ p.y
     → list_any (λ s. is_within s (point c)) (filled (point p) (fill m target p))
     ≡ (is_below p c && (is_full target c && not (is_full m c)))

@@ -1,4 +1,4 @@
--- What a step leaves in which the last two bots of a line fuse.
+-- The effect of a step in which the last two bots of a line fuse.
 use Rattle.std.proofs.Common.{◌≡◌, ℕ, suc, ◌+◌, ◌<◌, ◌≤◌, refl, sym, ◌∙◌, ap, subst, inl, inr, arith, true, ◌&&◌, List, [], ◌∷◌, ◌++◌, length}
 use Rattle.std.specs.Prelude.{IsTrue, flat_map}
 use Rattle.std.specs.List.{AllByRecursion, Contains}
@@ -33,7 +33,7 @@ use Rattle.swarm_planner.proofs.Splitting.{right_is}
 left_is : (p : Coord) → plus (point (next_along_x p)) left ≡ point p
 left_is p = λ i. record { x = less_one p.x i; y = plus_none p.y i; z = plus_none p.z i }
 
--- the next place is where the other bot stands
+-- the next position is the other bot's
 beside_is : (p q : Coord) → q.x ≡ p.x + 1 → q.y ≡ p.y → q.z ≡ p.z → next_along_x p ≡ q
 beside_is p q e f g = λ i. record { x = sym e i; y = sym f i; z = sym g i }
 
@@ -48,7 +48,7 @@ allowed : (profile : Profile) (k : Command) → profile ≡ light_profile → Is
     → IsTrue (is_allowed profile k)
 allowed profile k e h = subst (λ (f : Profile). IsTrue (is_allowed f k)) (sym e) h
 
--- ---- each bot has what it needs
+-- ---- each bot's requirements hold
 
 module _ (s : State) (light : s.profile ≡ light_profile) (y z : ℕ) (below : y < s.matrix.resolution) (deep : z < s.matrix.resolution) where
   pair_free : (all : List Act) (low : ℕ) (b c : Bot)
@@ -134,7 +134,7 @@ merged (b ∷ []) = []
 merged (b ∷ c ∷ []) = fused_bot b c ∷ []
 merged (b ∷ c ∷ d ∷ more) = b ∷ merged (c ∷ d ∷ more)
 
--- what the law of fusions says of the primary among all
+-- the law of fusions for the primary among all
 abbrev PrimaryFuses : List Act → Type 0
 PrimaryFuses all = (a b : Act) → Contains all a → Contains all b → IsTrue (is_pair a b) → successors all a a.command ≡ fused_bot a.bot b.bot ∷ []
 

@@ -15,7 +15,7 @@ use Rattle.swarm_planner.proofs.Rows.{length-places, length-row, narrow}
 use Rattle.swarm_planner.proofs.Sending.{line_of, places_on, row_lined}
 use Rattle.vox_geom.specs.Point.{coord}
 
--- ---- rows without their last place
+-- ---- rows without their last position
 
 pub fused-row : (w l n : ℕ) (c : Coord) → without_last (bot_row w l (suc n) c) ≡ bot_row w l n c
 fused-row w l zero c = refl
@@ -31,7 +31,7 @@ fused_lined r y z low [] k = tt
 fused_lined r y z low (c ∷ []) k = tt
 fused_lined r y z low (c ∷ d ∷ more) k = (k.0, fused_lined r y z (c.x + 1) (d ∷ more) k.1)
 
--- the last place of a row is at most a width past the one before it
+-- the last position of a row is at most a width past the one before it
 pub row_gap : (w l n low : ℕ) (c : Coord) → 1 ≤ w
     → gap (last_column (bot_row w l (suc (suc n)) c)) (free_column low (bot_row w l (suc (suc n)) c)) ≤ w
 row_gap w l zero low c h = omega arith
@@ -88,7 +88,7 @@ row_in_line p swarm bot_row void =
     (subst (λ (cs : List Coord). AreLined resolution (spot p.bots).y (spot p.bots).z 1 cs) (sym bot_row.places_are) (row_lined resolution (width resolution) (last resolution) (count resolution) 1 1 (spot p.bots) (record { begins = omega arith; from = first; from_end = omega arith; room = omega arith; within = omega arith })))
     void
 
--- so many bots of the row are left, after so many steps at most
+-- n bots of the row are left, after at most this many steps
 pub record AreLeft (old new : TapeState) (c : Coord) (n most : ℕ) : Type 0 where
   pub source : new.source ≡ old.source
   pub matrix : new.matrix ≡ old.matrix

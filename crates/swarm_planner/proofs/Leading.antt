@@ -32,14 +32,14 @@ put_there X p q h = λ i. record { x = q.x; y = h.0 i; z = h.1 i }
 put_there Y p q h = λ i. record { x = h.0 i; y = q.y; z = h.1 i }
 put_there Z p q h = λ i. record { x = h.0 i; y = h.1 i; z = q.z }
 
--- where the move of a bot ends
+-- the end of a bot's move
 move_ends : (axis : Axis) (p q : Coord) → AreAlong axis p q
     → plus (point p) (along axis (pos (component_of axis q) -ℤ pos (component_of axis p))) ≡ point q
 move_ends axis p q h =
     ap (λ (c : Coord). plus (point c) (along axis (pos (component_of axis q) -ℤ pos (component_of axis p)))) (sym (put-component_of axis p))
     ∙ (plus-along axis p (component_of axis p) (component_of axis q) ∙ ap point (put_there axis p q h))
 
--- where there is no way to go, the bot is there
+-- if the component is the same, the bot is there
 stays_there : (axis : Axis) (p q : Coord) → AreAlong axis p q → (component_of axis p == component_of axis q) ≡ true
     → p ≡ q
 stays_there axis p q h e = sym (put-component_of axis p) ∙ (ap (put axis p) (equal_by_test (component_of axis p) (component_of axis q) e) ∙ put_there axis p q h)
@@ -81,7 +81,7 @@ module _ (p : TapeState) (light : p.profile ≡ light_profile) (h : ℕ) (void :
   all_can (b ∷ bots) [] low k = absurd k
   all_can (b ∷ bots) (c ∷ cs) low k = (record { allowed = allowed p.profile axis b.pos c light; may = may_go p.matrix h axis low b.pos c void k.0 }, all_can bots cs (max b.pos.x c.x + 1) k.1)
 
--- a way in columns below those of the other
+-- a path in columns below those of the other
 lies_before : (a b c d : Coord) (low : ℕ) → a.x < low → b.x < low → low ≤ c.x → low ≤ d.x
     → LieApart (between (point a) (point b)) (between (point c) (point d))
 lies_before a b c d low i j k l = LieApart.before_x (record { near = omega (arith, ints); far = omega (arith, ints); next_near = omega (arith, ints); next_far = omega (arith, ints) })

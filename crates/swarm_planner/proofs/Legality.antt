@@ -1,4 +1,4 @@
--- How far a legal model reaches.
+-- The extent of a legal model.
 use Rattle.std.proofs.Common.{◌≡◌, ℕ, ◌<◌, ◌≤◌, ◌⊎◌, inl, inr, sym, ◌∙◌, arith}
 use Rattle.vox_geom.proofs.Truths.{false_by}
 use Rattle.nano_spec.specs.Legal.{IsLegal}

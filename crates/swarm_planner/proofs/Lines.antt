@@ -1,4 +1,4 @@
--- Lines of places, and bots of which the last goes along the line.
+-- Lines of positions, and bots of which the last moves along the line.
 use Rattle.std.proofs.Common.{◌≡◌, ℕ, suc, ◌+◌, ◌-◌, ◌<◌, ◌≤◌, refl, sym, ◌∙◌, ap, subst, arith, cond, max, List, [], ◌∷◌, ◌++◌, length, get_or, replicate, slice_set, take, append_assoc}
 use Rattle.std.specs.Prelude.{pos, ◌-ℤ◌}
 use Rattle.std.proofs.lemmas.List.{length-replicate, length-set, take-replicate, take_more_set}
@@ -14,7 +14,7 @@ use Rattle.swarm_planner.specs.Lineup.{AreLined, ends, free_column, without_last
 use Rattle.vox_geom.specs.Point.{coord}
 use Rattle.vox_geom.proofs.Tests.{test_itself, test_unequal}
 
--- ---- places
+-- ---- positions
 
 pub sent_lined : (r y z low x : ℕ) (cs : List Coord) → AreLined r y z low cs → free_column low cs ≤ x → x < r
     → AreLined r y z low (sent cs x)
@@ -60,7 +60,7 @@ sent_there [] = refl
 sent_there (c ∷ []) = refl
 sent_there (c ∷ d ∷ more) = ap (λ ds. c ∷ ds) (sent_there (d ∷ more))
 
--- the last place is past all others
+-- the last position is past all others
 pub last_free : (r y z low : ℕ) (cs : List Coord) → AreLined r y z low cs → 0 < length cs
     → free_column low cs ≤ last_column cs
 last_free r y z low [] k h = absurd (omega arith)
@@ -87,7 +87,7 @@ fused-sent x (c ∷ d ∷ more) = fused_more c (sent (d ∷ more) x) (let sent_l
     fused_more c [] h = absurd (omega arith)
     fused_more c (d ∷ more) h = refl
 
--- ---- the last bot goes along the line
+-- ---- the last bot moves along the line
 
 pub sent_led : (r y z low x : ℕ) (cs : List Coord) → y < r → z < r → AreLined r y z low cs → free_column low cs ≤ x
     → x < r → gap (last_column cs) x ≤ 15 → AreLed r y X low cs (sent cs x)
@@ -140,10 +140,10 @@ last_at (b ∷ c ∷ more) d h =
     let same_length : length (b ∷ c ∷ more) - 1 ≡ suc (length (c ∷ more) - 1) = omega arith in
     ap (λ k. (get_or (b ∷ c ∷ more) k d).pos.x) same_length ∙ last_at (c ∷ more) d (omega arith)
 
--- the commands by which the last bot goes to a column
+-- the commands that move the last bot to a column
 -- ---- commands among Waits
 
--- so many Waits, and the command that was put behind them
+-- n Waits, and the command that was put behind them
 put_behind : (waits : List Command) (n : ℕ) (k : Command) → waits ≡ replicate 40 Wait → n < 40
     → take (n + 1) (slice_set waits n k) ≡ replicate n Wait ++ k ∷ []
 put_behind waits n k e l =
@@ -175,7 +175,7 @@ pair_ends_are bots read waits k l eb two few ew =
     ∙ (append_assoc (replicate (length read - 1 - 1) Wait) (k ∷ []) (l ∷ [])
     ∙ (ap (λ n. replicate n Wait ++ k ∷ l ∷ []) before_both ∙ waits_then_two k l bots two)))
 
--- all wait but the last, which goes along x
+-- all wait but the last, which moves along x
 pub last_led : (bots read : List Bot) (waits : List Command) (d : Diff) (at x : ℕ) → read ≡ bots → 0 < length bots
     → length bots ≤ 40 → waits ≡ replicate 40 Wait → at ≡ last_column (places bots) → d ≡ along X (pos x -ℤ pos at)
     → (last_column (places bots) ≡ x → ⊥)

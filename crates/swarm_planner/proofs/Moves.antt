@@ -1,4 +1,4 @@
--- What a move of all bots leaves.
+-- The effect of a move of all bots.
 use Rattle.std.proofs.Common.{◌≡◌, ℕ, ◌-◌, ◌≤◌, sym, ◌∙◌, ap, subst, arith, List, length}
 use Rattle.vox_geom.specs.declared.coordinate.Coord.{Coord}
 use Rattle.nano_spec.specs.declared.commands.Command.{Command}
@@ -31,7 +31,7 @@ module _ (p : TapeState) (swarm : IsSwarm p) (h : ℕ) (void : IsVoidFrom p.matr
 
 -- ---- the row of all strips
 
--- the commands by what is read of a tape
+-- the commands in terms of the tape's fields
 pub same_way : (p : TapeState) (axis : Axis) (to : Coord) (r w : ℕ) (bots : List Bot) → r ≡ p.matrix.resolution
     → w ≡ width r → bots ≡ p.bots
     → row_led axis w (r - 2) bots to ≡ row_led axis (width p.matrix.resolution) (last p.matrix.resolution) p.bots to

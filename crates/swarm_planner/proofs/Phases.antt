@@ -1,4 +1,4 @@
--- The phases of the plan, and how many steps they take together.
+-- The phases of the plan, and the sum of their steps.
 use Rattle.std.proofs.Common.{◌≡◌, ℕ, ◌+◌, ◌-◌, ◌*◌, ◌<◌, ◌≤◌, sym, ◌∙◌, ap, subst, arith, mul-le-mul}
 use Rattle.vox_geom.specs.declared.coordinate.Coord.{Coord}
 use Rattle.nano_spec.specs.Legal.{IsLegal}
@@ -18,7 +18,7 @@ use Rattle.swarm_planner.proofs.Rows.{narrow, spot_of_row}
 use Rattle.swarm_planner.proofs.Splitting.{places-lined_up}
 use Rattle.vox_geom.specs.Point.{coord}
 
--- ---- how many steps
+-- ---- the number of steps
 
 pub layers_fit : (r : ℕ) → r ≤ 400 → (r - 1) * swarm_layer_steps r ≤ 399 * 24060
 layers_fit r h =

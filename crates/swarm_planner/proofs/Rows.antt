@@ -1,4 +1,4 @@
--- Rows of places.
+-- Rows of positions.
 use Rattle.std.proofs.Common.{◌≡◌, ℕ, zero, suc, ◌+◌, ◌-◌, ◌*◌, ◌/◌, ◌<◌, ◌≤◌, refl, sym, ◌∙◌, ap, arith, max, min, List, [], ◌∷◌, length, add-one}
 use Rattle.std.proofs.lemmas.Nat.{div_below}
 use Rattle.std.proofs.Math.Nat.{mul-div-le}
@@ -13,7 +13,7 @@ use Rattle.swarm_planner.specs.Strips.{count, held, last, next, bot_row, strip_r
 use Rattle.swarm_planner.specs.Bounds.{width}
 use Rattle.swarm_planner.specs.Crew.{AreAlong, AreLed, AreNear, MayLead, lead, led, places, row_led}
 
--- ---- how many strips there are, and how wide
+-- ---- the number and the width of strips
 
 pub narrow : (r : ℕ) → r ≤ 400 → width r ≤ 20
 narrow r h = omega arith
@@ -45,9 +45,9 @@ pub row_led-is : (axis : Axis) (w l : ℕ) (bots : List Bot) (c : Coord)
 row_led-is axis w l [] c = refl
 row_led-is axis w l (b ∷ bots) c = ap (λ ks. lead axis b.pos (held l c) ∷ ks) (row_led-is axis w l bots (next w c))
 
--- ---- a row that goes along an axis
+-- ---- a row that moves along an axis
 
--- two places that lead n strips, of which the first begins at a column
+-- two positions at the head of n strips, of which the first begins at a column
 pub record Leads (r h : ℕ) (axis : Axis) (w l n low start : ℕ) (c d : Coord) : Type 0 where
   pub begins : low ≤ start
   pub line : AreAlong axis c d
@@ -187,7 +187,7 @@ spot_of_row r bots c h e = first_of_bots bots (held (last r) c) _ (e ∙ row_beg
 pub length_of_row : (r : ℕ) (bots : List Bot) (c : Coord) → places bots ≡ strip_row r c → length bots ≡ count r
 length_of_row r bots c e = sym (length-places bots) ∙ (ap length e ∙ length-row (width r) (last r) (count r) c)
 
--- ---- near ways
+-- ---- short moves
 
 pub near_by : (r h : ℕ) (axis : Axis) (w l low : ℕ) (bots : List Bot) (c : Coord) → r ≤ 400
     → AreLed r h axis low (places bots) (bot_row w l (length bots) c) → AreNear axis w l bots c

@@ -1,4 +1,4 @@
--- A line of bots whose last goes on, and the line after a step.
+-- A line of bots whose last moves on, and the line after a step.
 use Rattle.std.proofs.Common.{◌≡◌, ℕ, zero, suc, ◌+◌, ◌-◌, ◌*◌, ◌/◌, ◌<◌, ◌≤◌, refl, sym, ◌∙◌, ap, subst, inl, inr, arith, min, List, [], ◌∷◌, length, mul-le-mul}
 use Rattle.std.proofs.Math.Nat.{mul-div-le}
 use Rattle.vox_geom.specs.declared.coordinate.Coord.{Coord}
@@ -15,7 +15,7 @@ use Rattle.swarm_planner.proofs.Rows.{length-places, length-row}
 use Rattle.swarm_planner.proofs.Splitting.{places-lined_up}
 use Rattle.vox_geom.specs.Point.{coord}
 
--- ---- bots at places
+-- ---- bots at positions
 
 pub placed_there : (bots : List Bot) → placed bots (places bots) ≡ bots
 placed_there [] = refl
@@ -45,14 +45,14 @@ placed-lined_up bid (c ∷ k ∷ cs) [] h = absurd (omega arith)
 placed-lined_up bid (c ∷ k ∷ cs) (d ∷ []) h = absurd (omega arith)
 placed-lined_up bid (c ∷ k ∷ cs) (d ∷ e ∷ ds) h = ap (λ bs. record { bid = bid; pos = d; seeds = 0 } ∷ bs) (placed-lined_up (bid + 1) (k ∷ cs) (e ∷ ds) (omega arith))
 
--- ---- a line that stands
+-- ---- a line without moves
 
 level : (r y z low : ℕ) (bots : List Bot) → AreLined r y z low (places bots) → 0 < length bots
     → ((spot bots).y ≡ y) × ((spot bots).z ≡ z)
 level r y z low [] k h = absurd (omega arith)
 level r y z low (b ∷ bots) k h = (k.0.height, k.0.depth)
 
--- where the places are in a line, the tape is so
+-- if the positions are in a line, so is the tape
 pub line_of : (p : TapeState) (y z : ℕ) → IsSwarm p → 0 < length (places p.bots) → p.matrix.resolution ≤ 400
     → y < p.matrix.resolution → z < p.matrix.resolution → AreLined p.matrix.resolution y z 1 (places p.bots)
     → IsVoidFrom p.matrix y → InLine p
@@ -71,7 +71,7 @@ line_of p y z swarm some most hy hz k void =
       void = subst (λ v. IsVoidFrom p.matrix v) (sym ey) void;
     }
 
--- ---- the last bot goes on
+-- ---- the last bot moves on
 
 module _ (a b : TapeState) (line : InLine a) (x m : ℕ) (goes : CrewGoes a b (sent (places a.bots) x) m) where
   pub places_on : places b.bots ≡ sent (places a.bots) x
@@ -138,7 +138,7 @@ onward_differs t n o (inr l) e = let a = l.1 in omega arith
 
 -- ---- rows in a line
 
--- strips of which the first begins at a column, and the place that leads them
+-- strips of which the first begins at a column, and the position at their head
 pub record Stands (r w l n low start : ℕ) (c : Coord) : Type 0 where
   pub begins : low ≤ start
   pub from : start ≤ c.x
@@ -158,7 +158,7 @@ row_lined r w l (suc n) low start c k =
     let its_within = k.within in
     (record { within = omega arith; past = omega arith; height = refl; depth = refl }, row_lined r w l n (min c.x l + 1) (start + w) (next w c) (record { begins = omega arith; from = omega arith; from_end = omega arith; room = omega arith; within = its_within }))
 
--- where the last of n + 1 places is
+-- the last of n + 1 positions
 pub last-row : (w l n : ℕ) (c : Coord) → c.x + w * n ≤ l → last_column (bot_row w l (suc n) c) ≡ c.x + w * n
 last-row w l zero c h = omega arith
 last-row w l (suc n) c h = last-row w l n (next w c) (let sum_is : c.x + w * suc n ≡ c.x + w + w * n = omega arith in omega arith) ∙ (let sum_is : c.x + w * suc n ≡ c.x + w + w * n = omega arith in omega arith)
@@ -191,7 +191,7 @@ last-split (c ∷ d ∷ more) h = last_more c (split (d ∷ more)) (some_split (
     last_more c [] h = absurd (omega arith)
     last_more c (d ∷ more) h = refl
 
--- the row with one more place
+-- the row with one more position
 pub row_grows : (w l n x : ℕ) (c : Coord) → x ≡ c.x + w * suc n → x ≤ l
     → sent (split (bot_row w l (suc n) c)) x ≡ bot_row w l (suc (suc n)) c
 row_grows w l zero x c e h =
@@ -212,7 +212,7 @@ strip_start r n s h =
     let at_most_width : width r * n ≤ width r * ((r - 3) / width r) = mul-le-mul same fewer in
     omega arith
 
--- the places of the first n + 1 strips
+-- the positions of the first n + 1 strips
 abbrev pub starts : ℕ → ℕ → List Coord
 starts r n = bot_row (width r) (last r) n (coord 1 1 0)
 

@@ -1,4 +1,4 @@
--- What a step leaves in which the last bot of a line splits.
+-- The effect of a step in which the last bot of a line splits.
 use Rattle.std.proofs.Common.{◌≡◌, ℕ, zero, suc, ◌+◌, ◌-◌, ◌<◌, ◌≤◌, refl, sym, ◌∙◌, ap, subst, inl, inr, ◌⊎◌, arith, true, List, [], ◌∷◌, length, take, drop}
 use Rattle.std.specs.Prelude.{IsTrue, flat_map, slice_index}
 use Rattle.std.specs.List.{AllByRecursion}
@@ -29,12 +29,12 @@ use Rattle.swarm_planner.proofs.Fences.{AreFenced, untangled}
 use Rattle.swarm_planner.proofs.Filling.{just_in}
 use Rattle.swarm_planner.proofs.Rows.{length-places}
 
--- ---- the place beside
+-- ---- the next position
 
 pub right_is : (p : Coord) → plus (point p) right ≡ point (next_along_x p)
 right_is p = λ i. record { x = plus_one p.x i; y = plus_none p.y i; z = plus_none p.z i }
 
--- ---- each bot has what it needs
+-- ---- each bot's requirements hold
 
 -- the seeds of the last bot
 abbrev last_seeds : List Bot → ℕ
@@ -111,7 +111,7 @@ drop_numbers : (a n : ℕ) → drop n (numbers_from a n) ≡ []
 drop_numbers a zero = refl
 drop_numbers a (suc n) = drop_numbers (a + 1) n
 
--- the list of seeds with its first one apart
+-- the list of seeds without its first one
 first_seed : (bid m : ℕ) → m + bid ≡ 19 → seed_list (seeds_after bid) ≡ (bid + 1) ∷ numbers_from (bid + 1 + 1) m
 first_seed bid m h = seeds_list bid (omega arith) ∙ ap (numbers_from (bid + 1)) (let bid_is : 20 - bid ≡ suc m = omega arith in bid_is)
 
@@ -235,7 +235,7 @@ module _ (p : TapeState) (line : InLine p) (m : ℕ) (bots_are : p.bots ≡ line
       ∙ ((λ i. bots_split (bots_are i) (ends (Fission right m) (bots_are i)))
       ∙ parted m (places p.bots) some all_seeds)
 
--- a step that leaves voxels and harmonics
+-- a step that does not change voxels and harmonics
 pub regroups : (p q : TapeState) (ks : List Command) (bots : List Bot) → IsSwarm p
     → AllStep p q ks p.matrix p.harmonics bots → Regroups p q
 regroups p q ks bots swarm s = record {

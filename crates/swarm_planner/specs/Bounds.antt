@@ -1,6 +1,6 @@
--- How wide the strips of a swarm's bots are, by which its steps are bounded (docs/FORMATS.md, "Printed lines").
+-- The width of the strips of a swarm's bots, which bounds its steps (docs/FORMATS.md, "Printed lines").
 use Rattle.std.specs.Prelude.{ℕ, ◌+◌, ◌/◌, max}
 
--- how many columns the widest strip has
+-- the number of columns of the widest strip
 abbrev pub width : ℕ → ℕ
 width r = max 1 ((r + 17) / 20)

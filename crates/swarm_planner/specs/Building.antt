@@ -1,4 +1,4 @@
--- What a part of the plan has built: some voxels that are full in the target are full, and all others are as they were.
+-- The voxels built by a part of the plan: some that are full in the target are full, and all others are unchanged.
 use Rattle.std.specs.Prelude.{◌≡◌, ℕ, ◌+◌, ◌*◌, ◌≤◌, ◌<◌, ◌==◌, Bool, false, ◌&&◌, ◌||◌, not, cond, nat_lt, zero, suc, min, List, [], ◌∷◌}
 use Rattle.vox_geom.specs.declared.coordinate.Coord.{Coord}
 use Rattle.nano_spec.specs.declared.commands.Command.{Command}
@@ -14,25 +14,25 @@ use Rattle.vox_geom.specs.Point.{down, below}
 
 -- ---- one step of fills
 
--- whether the coordinate is the one below a place
+-- whether the coordinate is the one below a position
 abbrev pub is_below : Coord → Coord → Bool
 is_below p c = c.x == p.x && c.y + 1 == p.y && c.z == p.z
 
--- whether the coordinate is below one of the places
+-- whether the coordinate is below one of the positions
 abbrev pub is_under : List Coord → Coord → Bool
 is_under [] c = false
 is_under (p ∷ ps) c = is_below p c || is_under ps c
 
--- whether the voxel below a place is full in the target and not yet in the matrix
+-- whether the voxel below a position is full in the target and not yet in the matrix
 abbrev pub is_wanted : Matrix → Matrix → Coord → Bool
 is_wanted m target p = is_full target (below p) && not (is_full m (below p))
 
--- whether one of the voxels below places is
+-- whether one of the voxels below positions is
 abbrev pub are_wanted : Matrix → Matrix → List Coord → Bool
 are_wanted m target [] = false
 are_wanted m target (p ∷ ps) = is_wanted m target p || are_wanted m target ps
 
--- the bot fills the voxel below its place where it is wanted, and waits elsewhere
+-- the bot fills the voxel below its position if it is missing, and waits otherwise
 abbrev pub fill : Matrix → Matrix → Coord → Command
 fill m target p = cond (is_wanted m target p) (Fill down) Wait
 
@@ -41,11 +41,11 @@ abbrev pub fills : Matrix → Matrix → List Bot → List Command
 fills m target [] = []
 fills m target (b ∷ bots) = fill m target b.pos ∷ fills m target bots
 
--- where the test says so voxels that are full in the target have become full, and all others are as they were
+-- if the test holds, voxels that are full in the target have become full; all others are unchanged
 abbrev pub IsRaised : Matrix → Matrix → Matrix → (Coord → Bool) → Type 0
 IsRaised new old target done = (c : Coord) → is_full new c ≡ (is_full old c || (done c && is_full target c))
 
--- the tape after one step, by which all voxels below the bots are as the target has them
+-- the tape after one step, by which all voxels below the bots are those of the target
 pub record Fills (old new : TapeState) (target : Matrix) : Type 0 where
   pub source : new.source ≡ old.source
   pub swarm : IsSwarm new
@@ -92,26 +92,26 @@ layers r y c = in_lines r (width r) c.x && nat_lt c.y y
 
 -- ---- the tape
 
--- the swarm stands in a row, and all is void from its height on
+-- the swarm is in a row, and all is void from its height on
 pub record CanBuild (p : TapeState) (target : Matrix) : Type 0 where
   pub swarm : IsSwarm p
   pub row : InRow p
   pub same : target.resolution ≡ p.matrix.resolution
   pub here : IsVoidFrom p.matrix (spot p.bots).y
 
--- moreover it stands no higher than above the layer of y, and all is void from there on
+-- moreover it is no higher than above the layer of y, and all is void from there on
 pub record CanFillLayer (p : TapeState) (target : Matrix) (y : ℕ) : Type 0 where
   pub ready : CanBuild p target
   pub within : y + 1 < p.matrix.resolution
   pub above : IsVoidFrom p.matrix (y + 1)
   pub below : (spot p.bots).y ≤ y + 1
 
--- the steps of a tape and at most as many as lead its row to a place
+-- the steps of a tape and at most as many as move its row to a position
 abbrev pub crew_steps_to : TapeState → Coord → ℕ
 crew_steps_to p c = p.steps + distance (spot p.bots) c
 
--- the tape has built the voxels of which the test says so; with the way to a place it has so many steps more at most
--- than it had with the way to another
+-- the tape has built the voxels for which the test holds; its steps and those to the position `to` exceed the earlier steps
+-- and those to `from` by at most `most`
 pub record Builds (old new : TapeState) (target : Matrix) (done : Coord → Bool) (from to : Coord) (most : ℕ)
     : Type 0 where
   pub source : new.source ≡ old.source
@@ -121,10 +121,10 @@ pub record Builds (old new : TapeState) (target : Matrix) (done : Coord → Bool
   pub low : (spot new.bots).y ≤ to.y
   pub steps_are : crew_steps_to new to ≤ crew_steps_to old from + most
 
--- how many steps a line takes at most, with the way to the next one
+-- the most steps of a line, with the path to the next one
 abbrev pub line_steps : ℕ → ℕ
 line_steps r = 3 * r + 1
 
--- how many steps a layer takes at most, with the way to the next one
+-- the most steps of a layer, with the path to the next one
 abbrev pub swarm_layer_steps : ℕ → ℕ
 swarm_layer_steps r = width r * line_steps r + width r + 1

@@ -15,12 +15,12 @@ pub record SwarmIsOpened (t : TapeState) (nothing : Matrix) : Type 0 where
   pub spread : IsSpreadOver t 1
   pub steps_are : t.steps ≤ 3
 
--- how many steps the phases take at most, without the last way home
+-- the most steps of the phases, without the last path home
 abbrev pub phase_steps : ℕ → ℕ
 phase_steps r = (r - 1) * swarm_layer_steps r + 823
 
--- the target is built, and one bot is left, with all void from its height on; with the way home there are so many steps
--- at most
+-- the target is built, and one bot is left, with all void from its height on; its steps and those home are within this
+-- bound
 pub record IsErected (t : TapeState) (target : Matrix) : Type 0 where
   pub swarm : IsSwarm t
   pub alone : length t.bots ≡ 1

@@ -1,9 +1,9 @@
--- The strips of columns, one for each bot, and the row that the bots stand in.
+-- The strips of columns, one for each bot, and the row of the bots.
 use Rattle.std.specs.Prelude.{ℕ, zero, suc, ◌+◌, ◌-◌, ◌/◌, min, List, [], ◌∷◌}
 use Rattle.vox_geom.specs.declared.coordinate.Coord.{Coord}
 use Rattle.swarm_planner.specs.Bounds.{width}
 
--- how many strips the columns from 1 to r - 2 make
+-- the number of strips of the columns from 1 to r - 2
 abbrev pub count : ℕ → ℕ
 count r = (r - 3) / width r + 1
 
@@ -11,15 +11,15 @@ count r = (r - 3) / width r + 1
 abbrev pub last : ℕ → ℕ
 last r = r - 2
 
--- a place that is held back at the last column
+-- a position limited to the last column
 abbrev pub held : ℕ → Coord → Coord
 held l c = record { x = min c.x l; y = c.y; z = c.z }
 
--- a place that is one width further along x
+-- a position one width further along x
 abbrev pub next : ℕ → Coord → Coord
 next w c = record { x = c.x + w; y = c.y; z = c.z }
 
--- the places of n bots, the first of them led to c, each further one a width further along x, and none past the last
+-- the positions of n bots, the first of them at c, each further one a width further along x, and none past the last
 -- column
 abbrev pub bot_row : ℕ → ℕ → ℕ → Coord → List Coord
 bot_row w l zero c = []

@@ -1,4 +1,4 @@
-//! How the crew comes to stand in a row, and how it becomes one bot again.
+//! The crew spreads into a row, and gathers into one bot again.
 ghost use Rattle.std.specs.Prelude.{◌≡◌, ◌+◌, ◌*◌, ◌≤◌, ◌<◌, OnOk, length};
 ghost use Rattle.plan_tape.specs.Leg.{gap};
 ghost use Rattle.plan_tape.specs.Progress.{spot, IsVoidFrom};
@@ -12,7 +12,7 @@ use crate::strips::{strip_count, strip_width};
 use plan_tape::{Tape, next_stop};
 use vox_geom::{Coord, Memory};
 
-/// The last bot goes along x, past the others, by the fewest moves.
+/// Moves the last bot along x, past the others, by the fewest moves.
 fn send_last(tape: &mut Tape, to: u16) -> Result<(), Memory>
     requires line { InLine tape.old }
     requires free { free_column 1 (places tape.old.bots) ≤ to }
@@ -30,7 +30,7 @@ fn send_last(tape: &mut Tape, to: u16) -> Result<(), Memory>
     Ok(())
 }
 
-/// The last bot splits, and the new bot goes to the first column of its strip.
+/// Splits the last bot, and moves the new one to the first column of its strip.
 fn spread_one(tape: &mut Tape, count: u16) -> Result<(), Memory>
     requires spread { IsSpreadOver tape.old count }
     requires some { 1 ≤ count }
@@ -43,7 +43,7 @@ fn spread_one(tape: &mut Tape, count: u16) -> Result<(), Memory>
     send_last(tape, to)
 }
 
-/// The bots split and spread, until there is one in the first column of each strip.
+/// Splits and spreads the bots until there is one in the first column of each strip.
 pub fn spread(tape: &mut Tape) -> Result<(), Memory>
     requires spread { IsSpreadOver tape.old 1 }
     requires limit { tape.old.steps + 400 ≤ 1073741824 }
@@ -55,7 +55,7 @@ pub fn spread(tape: &mut Tape) -> Result<(), Memory>
     Ok(())
 }
 
-/// The column past the last bot but one.
+/// Returns the column past the last bot but one.
 fn free_place(tape: &Tape) -> u16
     requires line { InLine tape.now }
     requires two { 2 ≤ length tape.now.bots }
@@ -65,7 +65,7 @@ fn free_place(tape: &Tape) -> u16
     bots[bots.len() - 2].pos.x + 1
 }
 
-/// The last bot goes to the one before it, and fuses with it.
+/// Moves the last bot to the one before it, and fuses them.
 fn gather_one(tape: &mut Tape) -> Result<(), Memory>
     requires line { InLine tape.old }
     requires two { 2 ≤ length tape.old.bots }
@@ -81,7 +81,7 @@ fn gather_one(tape: &mut Tape) -> Result<(), Memory>
     Ok(())
 }
 
-/// All bots go to z = 0, and fuse one after another.
+/// Moves all bots to z = 0, and fuses them one after another.
 pub fn gather(tape: &mut Tape) -> Result<(), Memory>
     requires swarm { IsSwarm tape.old }
     requires row { InRow tape.old }

@@ -1,5 +1,5 @@
-//! A planner with up to 20 bots under the light profile, which builds a target from nothing. Each bot has a strip of the columns
-//! of x. All go in a row, a layer above the voxels that they fill, to the places where one of them has a voxel to fill.
+//! A planner for up to 20 bots under the light profile, which builds a target from nothing. Each bot has a strip of the columns
+//! of x. All move in a row, a layer above the voxels to fill, to each position at which one of them has a voxel to fill.
 #![tactic(auto)]
 
 mod crew;

@@ -1,4 +1,4 @@
-//! Voxels, lines and layers that are built from one layer above.
+//! Builds voxels, lines and layers from one layer above.
 ghost use Rattle.std.specs.Prelude.{◌≡◌, ◌+◌, ◌-◌, ◌*◌, ◌≤◌, ◌<◌, OnOk};
 ghost use Rattle.plan_tape.specs.Leg.{component_of, distance, gap, put};
 ghost use Rattle.plan_tape.specs.Progress.{spot, IsVoidFrom};
@@ -14,7 +14,7 @@ use plan_tape::{Axis, Tape, component, next_stop, with_component};
 use vox_geom::{Coord, Memory};
 use vox_planes::Planes;
 
-/// Where the first bot is.
+/// Returns the position of the first bot.
 pub fn first_place(tape: &Tape) -> Coord
     requires { InRow tape.now }
     ensures { result ≡ spot tape.now.bots }
@@ -23,7 +23,7 @@ pub fn first_place(tape: &Tape) -> Coord
     bot.pos
 }
 
-/// The row goes along an axis, by the fewest moves.
+/// Moves the row along an axis, by the fewest moves.
 fn go_along(tape: &mut Tape, axis: Axis, to: u16) -> Result<(), Memory>
     requires swarm { IsSwarm tape.old }
     requires row { InRow tape.old }
@@ -44,7 +44,7 @@ fn go_along(tape: &mut Tape, axis: Axis, to: u16) -> Result<(), Memory>
     Ok(())
 }
 
-/// The row goes along x, then y, then z, so that the first bot comes there.
+/// Moves the row along x, then y, then z, until the first bot is at `to`.
 pub fn go(tape: &mut Tape, to: Coord) -> Result<(), Memory>
     requires swarm { IsSwarm tape.old }
     requires row { InRow tape.old }
@@ -59,7 +59,7 @@ pub fn go(tape: &mut Tape, to: Coord) -> Result<(), Memory>
     go_along(tape, Axis::Z, to.z)
 }
 
-/// Whether a bot has a voxel to fill, once the row has gone there.
+/// Returns whether a bot has a voxel to fill, once the row has moved to `to`.
 fn has_wanted(tape: &Tape, target: &Planes, to: Coord) -> bool
     requires same { target.now.resolution ≡ tape.now.matrix.resolution }
     requires leads { MayLead tape.now.matrix.resolution to }
@@ -81,7 +81,7 @@ fn has_wanted(tape: &Tape, target: &Planes, to: Coord) -> bool
     false
 }
 
-/// Builds in all strips the voxel of y and z that the row meets where its first bot is at x.
+/// Fills, in all strips, the voxel of y and z below the row if its first bot is at x.
 fn paint_cell(tape: &mut Tape, target: &Planes, x: u16, y: u16, z: u16) -> Result<(), Memory>
     requires ready { CanFillLayer tape.old target.now y }
     requires first { 1 ≤ x }
@@ -100,7 +100,7 @@ fn paint_cell(tape: &mut Tape, target: &Planes, x: u16, y: u16, z: u16) -> Resul
     fill_below(tape, target)
 }
 
-/// Builds in all strips the line of y that the row meets where its first bot is at x.
+/// Fills, in all strips, the line of y below the row if its first bot is at x.
 fn paint_line(tape: &mut Tape, target: &Planes, x: u16, y: u16) -> Result<(), Memory>
     requires ready { CanFillLayer tape.old target.now y }
     requires first { 1 ≤ x }

@@ -16,7 +16,7 @@ use std::alloc::Global;
 use vox_geom::{Coord, Memory};
 use vox_planes::Planes;
 
-/// The tape with the bot in the first column, above the floor, under High.
+/// Returns the tape with the bot in the first column, above the floor, under High.
 fn open(alloc: Global, nothing: Planes) -> Result<Tape, Memory>
     requires some { 3 ≤ nothing.resolution }
     requires void { IsVoidFrom nothing 0 }
@@ -45,7 +45,7 @@ fn erect(tape: &mut Tape, target: &Planes) -> Result<(), Memory>
     Ok(())
 }
 
-/// The plan of the swarm for a target that is not empty.
+/// Returns the plan of the swarm for a target that is not empty.
 fn plan_from(alloc: Global, nothing: Planes, target: &Planes) -> Result<Plan, Memory>
     requires target { IsLegal target.now }
     requires same { nothing.resolution ≡ target.now.resolution }
@@ -66,9 +66,11 @@ fn plan_from(alloc: Global, nothing: Planes, target: &Planes) -> Result<Plan, Me
     close(tape)
 }
 
-/// A plan that builds a target from nothing by up to 20 bots, under the light profile, and so under the full one. The target is
-/// legal. With the widest strip of s columns the plan takes at most 4 * s * r * r + 8 * r + 2000 steps at resolution r, with at most 20
-/// bots at a time; where the target is empty, its commands are a Halt alone.
+/// Plans for up to 20 bots that build a target from nothing, under the light profile, and so under the full one. The target is
+/// legal.
+///
+/// If the widest strip has s columns, the plan takes at most 4 * s * r * r + 8 * r + 2000 steps at resolution r. It has at most 20
+/// bots at a time. If the target is empty, its commands are a Halt alone.
 pub fn plan_swarm(alloc: Global, target: &Planes) -> Result<Plan, Memory>
     requires { IsLegal target.now }
     ensures light { IfOk result

@@ -17,14 +17,14 @@ use vox_geom::{Coord, Memory, Near};
 use vox_planes::Planes;
 use voxel_reads::is_full;
 
-/// As many Waits as a crew has bots at most, so that the commands of a step take no memory.
+/// Returns as many Waits as the largest crew has bots, so that the commands of a step need no allocation.
 fn waits() -> [Command; MOST_BOTS]
     ensures { result ≡ replicate MOST_BOTS Command.Wait }
 {
     [Command::Wait; MOST_BOTS]
 }
 
-/// The command that leads a bot along an axis from one place to another.
+/// Returns the command that moves a bot along an axis from one position to another.
 fn lead(axis: Axis, from: Coord, to: Coord) -> Command
     requires { IsNearOn axis from to }
     ensures { result ≡ lead_of axis from to }
@@ -38,8 +38,8 @@ fn lead(axis: Axis, from: Coord, to: Coord) -> Command
     }
 }
 
-/// The commands that lead bots along an axis to a row of places, the first of them there, each a width further along x, and
-/// none past the last column. Waits are behind them.
+/// Returns the commands that move bots along an axis to a row of positions: the first bot to `to`, each other one `width` further
+/// along x, and none past the last column. The rest are Waits.
 fn leads(bots: &[Bot], axis: Axis, to: Coord, width: u16, last: u16) -> [Command; MOST_BOTS]
     requires near { AreNear axis width last bots.now to }
     requires few { length bots.now ≤ MOST_BOTS }
@@ -60,7 +60,7 @@ fn leads(bots: &[Bot], axis: Axis, to: Coord, width: u16, last: u16) -> [Command
     commands
 }
 
-/// All bots of the row go along an axis.
+/// Moves all bots of the row along an axis.
 pub fn move_row(tape: &mut Tape, axis: Axis, to: Coord) -> Result<(), Memory>
     requires swarm { IsSwarm tape.old }
     requires row { InRow tape.old }
@@ -79,7 +79,7 @@ pub fn move_row(tape: &mut Tape, axis: Axis, to: Coord) -> Result<(), Memory>
     tape.move_all(&commands[..count])
 }
 
-/// Where the last bot is.
+/// Returns the column of the last bot.
 pub fn last_column(tape: &Tape) -> u16
     requires { InLine tape.now }
     ensures value { result ≡ last_column_of (places tape.now.bots) }
@@ -89,7 +89,7 @@ pub fn last_column(tape: &Tape) -> u16
     bots[bots.len() - 1].pos.x
 }
 
-/// The last bot goes along x, past the others, and they wait.
+/// Moves the last bot along x, past the others, which wait.
 pub fn move_last(tape: &mut Tape, to: u16) -> Result<(), Memory>
     requires line { InLine tape.old }
     requires free { free_column 1 (places tape.old.bots) ≤ to }
@@ -106,7 +106,7 @@ pub fn move_last(tape: &mut Tape, to: u16) -> Result<(), Memory>
     tape.move_all(&commands[..last + 1])
 }
 
-/// Whether the voxel below a place is full in the target and not yet here.
+/// Returns whether the voxel below a position is full in the target but not yet in the matrix.
 pub fn is_wanted(planes: &Planes, target: &Planes, place: Coord) -> bool
     requires same { target.now.resolution ≡ planes.now.resolution }
     requires within { IsInSpace planes.now.resolution place }
@@ -120,8 +120,7 @@ pub fn is_wanted(planes: &Planes, target: &Planes, place: Coord) -> bool
     is_full(target, below) && !is_full(planes, below)
 }
 
-/// The commands by which each bot fills the voxel below it, where it is wanted, and waits elsewhere. Waits are behind
-/// them.
+/// Returns the commands by which each bot fills the voxel below it, if it is missing, and waits otherwise. The rest are Waits.
 fn fills(bots: &[Bot], planes: &Planes, target: &Planes) -> [Command; MOST_BOTS]
     requires few { length bots.now ≤ MOST_BOTS }
     requires same { target.now.resolution ≡ planes.now.resolution }
@@ -140,7 +139,7 @@ fn fills(bots: &[Bot], planes: &Planes, target: &Planes) -> [Command; MOST_BOTS]
     commands
 }
 
-/// Each bot fills the voxel below it, where it is wanted.
+/// Has each bot fill the voxel below it, if it is missing.
 pub fn fill_below(tape: &mut Tape, target: &Planes) -> Result<(), Memory>
     requires swarm { IsSwarm tape.old }
     requires row { InRow tape.old }
@@ -155,7 +154,7 @@ pub fn fill_below(tape: &mut Tape, target: &Planes) -> Result<(), Memory>
     tape.fill_all(&commands[..count])
 }
 
-/// The last bot splits: the new bot is in the next column, and takes all seeds that are left.
+/// Splits the last bot: the new bot is in the next column, and gets all remaining seeds.
 pub fn split_last(tape: &mut Tape, seeds: u8) -> Result<(), Memory>
     requires line { InLine tape.old }
     requires bots { tape.old.bots ≡ lined_up 1 (places tape.old.bots) }
@@ -171,7 +170,7 @@ pub fn split_last(tape: &mut Tape, seeds: u8) -> Result<(), Memory>
     tape.split_all(&commands[..last + 1])
 }
 
-/// The last bot fuses into the one before it.
+/// Fuses the last bot into the one before it.
 pub fn fuse_last(tape: &mut Tape) -> Result<(), Memory>
     requires line { InLine tape.old }
     requires two { 2 ≤ length tape.old.bots }

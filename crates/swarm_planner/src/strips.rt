@@ -5,7 +5,7 @@ ghost use Rattle.swarm_planner.specs.Bounds.{width as width_of};
 
 use vox_geom::MOST_R;
 
-/// How many columns the widest strip has.
+/// Returns the number of columns of the widest strip.
 pub fn strip_width(r: u16) -> u16
     requires { r ≤ MOST_R }
     ensures { result ≡ width_of r }
@@ -13,7 +13,7 @@ pub fn strip_width(r: u16) -> u16
     ((r + 17) / 20).max(1)
 }
 
-/// How many strips the columns from 1 to r - 2 make.
+/// Returns the number of strips of the columns from 1 to r - 2.
 pub fn strip_count(r: u16) -> u16
     requires some { 3 ≤ r }
     requires most { r ≤ MOST_R }

@@ -56,7 +56,7 @@ turns_many all [] (t ∷ turns) h = absurd h
 turns_many all (a ∷ leaders) [] h = absurd h
 turns_many all (a ∷ leaders) (t ∷ turns) h = ap suc (turns_many all leaders turns h.1)
 
--- the command at the place of an act
+-- the command at the index of an act
 pub command_at : (bots : List Bot) (commands : List Command) (k : ℕ) (a : Act)
     → slice_get (acts bots commands) k ≡ Some a
     → (k < length commands) × ((d : Command) → get_or commands k d ≡ a.command)
@@ -98,7 +98,7 @@ fewer p q (x ∷ xs) h =
         no : false ≡ true → ⊥
         no e = cc
 
--- the voxels that a leader's command meets are volatile for its group
+-- the voxels that a leader's command edits are volatile for its group
 met_volatile : (m : Matrix) (all : List Act) (l : Act) → In l (members all l) → stays_in_space m.resolution l ≡ true
     → met_count m l.bot l.command ≤ volatile_count m all l
 met_volatile m all l i h = fewer (is_met (met (position l) l.command)) (λ c. list_any (is_volatile_of (point c)) (filter (stays_in_space m.resolution) (members all l))) (all_of m) (λ c e.
@@ -124,7 +124,7 @@ met_volatile m all l i h = fewer (is_met (met (position l) l.command)) (λ c. li
 
 -- ---- one turn
 
--- what the laws say of the turn of a leader, after those of some others
+-- the laws of the turn of a leader, after those of some others
 pub record TurnOf (s : State) (all : List Act) (before : List Act) (l : Act) : Type 0 where
   pub bots : group_in (after_some s all before) all l ≡ members all l
   pub rules : IsTrue (keeps_rules (after_some s all before) (members all l))
@@ -132,7 +132,7 @@ pub record TurnOf (s : State) (all : List Act) (before : List Act) (l : Act) : T
       → Contains (after_some s all before).bots y → x.pos ≡ y.pos → y ≡ l.bot
   pub next : after_group (after_some s all before) (members all l) ≡ after_some s all (before ++ l ∷ [])
 
--- what holds of each turn of each step that breaks no rule
+-- a property of each turn of each step that breaks no rule
 abbrev pub OfTurns : (State → List Act → List Act → Act → Type 0) → Type 0
 OfTurns P = (s : State) (commands : List Command) (step : ℕ) → IsReady s → broken s commands step ≡ None → (before rest : List Act) (l : Act) → IsPermutation (leaders (acts s.bots commands)) (before ++ l ∷ rest) → P s (acts s.bots commands) before l
 
@@ -150,11 +150,11 @@ turns_of bots rules places next = λ s commands step ready keep before rest l pe
   next = next s commands step ready keep before rest l perm;
 }
 
--- what the place of a turn holds past the end
+-- the turn returned by a read past the end
 abbrev pub no_turn : Turn
 no_turn = record { leader = 0; place = 0; partner = 0 }
 
--- what a group's acts make of the bots
+-- the effect of a group's acts on the bots
 abbrev pub Replaces : Type 0
 Replaces = (u : State) (group : List Act) → (after_group u group).bots ≡ replaced u.bots (map (λ (a : Act). a.bot.bid) group) (flat_map (λ (a : Act). successors group a a.command) group)
 

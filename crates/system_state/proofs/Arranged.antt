@@ -31,7 +31,7 @@ map_swap f xs i j d a b =
     let long : length (map f xs) ≡ length xs = length-map xs f in
     rw (sym (swap_is xs i j d a b), map-set f (set xs i (slice_index_or xs j d)) j (slice_index_or xs i d), map-set f xs i (slice_index_or xs j d), sym (swap_is (map f xs) i j (f d) (rw long a) (rw long b)), get_or-map f xs j d (f d) b, get_or-map f xs i d (f d) a) refl
 
--- what reading gives past the end
+-- the result of a read past the end
 no_act : Act
 no_act = record { bot = record { bid = 0; pos = record { x = 0; y = 0; z = 0 }; seeds = 0 }; command = Halt }
 
@@ -54,7 +54,7 @@ has_turn old order perm i lt =
     let place = in_place element element (map leader_of old) (listed (map leader_of old) order perm element (place_in 0 order i lt)) in
     (place.0, place.1, place.2)
 
--- a turn more, by the bid of its leader
+-- one more turn, by the bid of its leader
 pub one_more : (done : List Turn) (order : List ℕ) (i : ℕ) (t : Turn) → i < length order
     → map leader_of done ≡ take i order → t.leader ≡ get_or order i 0
     → map leader_of (done ++ t ∷ []) ≡ take (i + 1) order

@@ -21,7 +21,7 @@ use Rattle.bot_crew.specs.Crew.{bot_of, replaced, without}
 use Rattle.bot_crew.proofs.Heirs.{found_in}
 use Rattle.system_state.specs.Effects.{MayTake, bots_after_turn, with_partner}
 
--- ---- bots in their own place
+-- ---- bots at their own index
 
 module _ (bots : List Bot) (rising : Rising bots) (same : List Bot) (differ : Differing same) (there : (b : Bot) → In b same → In b bots) where
   bids : List ℕ
@@ -78,13 +78,13 @@ module _ (bots : List Bot) (rising : Rising bots) (same : List Bot) (differ : Di
       untrue true e = cc
       untrue false e = refl
 
-  -- bots that take their own place leave all as they are
+  -- replacing bots by themselves leaves all as they are
   pub replaced_itself : replaced bots (map (λ (c : Bot). c.bid) same) same ≡ bots
   replaced_itself = rising_same (replaced bots (map (λ (c : Bot). c.bid) same) same) bots (rising_order (same ++ without bots (map (λ (c : Bot). c.bid) same)) apart) rising
       (λ c i. kept c (order_in (same ++ without bots (map (λ (c : Bot). c.bid) same)) c i))
       (λ c i. in_order (same ++ without bots (map (λ (c : Bot). c.bid) same)) c (back c i))
 
--- ---- what holds of all bots
+-- ---- properties of all bots
 
 pub all_replaced : (P : Bot → Type 0) (bots : List Bot) (bids : List ℕ) (news : List Bot)
     → ((b : Bot) → In b bots → P b) → ((b : Bot) → In b news → P b) → (b : Bot) → In b (replaced bots bids news) → P b
@@ -116,7 +116,7 @@ module _ (r : ℕ) (bots : List Bot) (within : (b : Bot) → In b bots → IsInS
       by None e i = within b i
       by (Some other) e i = all_replaced (λ (c : Bot). IsInSpace r c.pos) bots bids (fuse other ∷ []) within (one (fuse other) (h other (found_in (λ c. c.bid == partner) bots other e).0)) b i
 
-  -- the bots after a turn stand in space
+  -- the bots after a turn are in space
   pub after_within : (partner : ℕ) (command : Command) → stays_in_space r (act bot command) ≡ true → (b : Bot)
       → In b (bots_after_turn bots bot partner command) → IsInSpace r b.pos
   after_within partner Halt e b i = absurd i

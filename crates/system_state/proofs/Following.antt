@@ -1,4 +1,4 @@
--- The turn of one group more, after those of some others.
+-- The turn of one more group, after those of some others.
 use Rattle.std.proofs.Common.{◌≡◌, ℕ, ◌<◌, ◌==◌, refl, sym, ◌∙◌, ap, subst, inl, inr, List, [], ◌∷◌, ◌++◌, map, length, get_or, eq-eqb}
 use Rattle.std.specs.Prelude.{Some, None, IsPermutation, All, AllPairs, filter, flat_map}
 use Rattle.std.specs.List.{Contains}

@@ -11,7 +11,7 @@ use Rattle.system_state.specs.declared.turns.Turn.{Turn}
 use Rattle.step_groups.proofs.Joined.{all_in}
 use Rattle.system_state.specs.Turns.{AreTurns, IsTurn}
 
--- ---- one turn more
+-- ---- one more turn
 
 pub turn_more : (all leaders : List Act) (turns : List Turn) (a : Act) (t : Turn) → AreTurns all leaders turns
     → IsTurn all a t → AreTurns all (leaders ++ a ∷ []) (turns ++ t ∷ [])
@@ -46,7 +46,7 @@ acts_most (b ∷ bots) (c ∷ commands) = let acts_bound = acts_most bots comman
 
 -- ---- bots each of which is a group of its own
 
--- the act at a place
+-- the act at an index
 act_here : (bots : List Bot) (commands : List Command) (i : ℕ) (b : Bot) → length commands ≡ length bots
     → i < length bots → b ≡ get_or bots i b → (a : Act) × (a.bot.bid ≡ b.bid)
     × (slice_get (acts bots commands) i ≡ Some a) × In a (acts bots commands)

@@ -1,4 +1,4 @@
--- The turns of the leaders up to a place, with one more bot.
+-- The turns of the leaders up to an index, with one more bot.
 use Rattle.std.proofs.Common.{◌≡◌, ℕ, zero, suc, ◌+◌, ◌-◌, ◌<◌, refl, ap, sym, ◌∙◌, subst, arith, Bool, false, true, not, cond, List, [], ◌∷◌, ◌++◌, filter, length, map, take, drop, get_or}
 use Rattle.std.specs.Prelude.{AllPairs, Some, slice_get, slice_index_or}
 use Rattle.std.specs.List.{list_any}
@@ -19,7 +19,7 @@ use Rattle.system_state.specs.Turns.{AreTurns, first_mate}
 use Rattle.system_state.proofs.Gathered.{turn_more}
 use Rattle.step_groups.specs.Groups.{bid_of}
 
--- the act of a bot and its command at a place
+-- the act of a bot and its command at an index
 act_there : (bots : List Bot) (commands : List Command) (i : ℕ) (b : Bot) (k : Command) → i < length bots
     → length commands ≡ length bots → b ≡ get_or bots i b → k ≡ get_or commands i k
     → slice_get (acts bots commands) i ≡ Some (act b k)
@@ -54,7 +54,7 @@ module _ (bots : List Bot) (commands : List Command) (i : ℕ) (b : Bot) (k : Co
       → filter (is_leader all) more ≡ filter (is_leader all) xs ++ cond (not t) (act b k ∷ []) []
   leaders_are t e = ap (filter (is_leader all)) (take_more bots commands i b k lt lengths bi ki) ∙ with_leader all xs (act b k) (not t) (leads_here ∙ ap not e)
 
-  -- a bot with a mate before it leads no group
+  -- a bot with a member of its group before it leads no group
   pub no_turn_more : (turns : List Turn)
       → list_any (are_together (act b k)) (acts (take i bots) (take i commands)) ≡ true → AreTurns (acts bots commands)
       (filter (is_leader (acts bots commands)) (acts (take i bots) (take i commands))) turns
@@ -82,7 +82,7 @@ module _ (bots : List Bot) (commands : List Command) (i : ℕ) (b : Bot) (k : Co
         partner = second ∙ ap (λ (ms : List Act). slice_index_or (map bid_of ms) 1 0) (sym mates);
       })))
 
-  -- by the numbers of the bots behind it
+  -- by the group indices of the bots after it
   pub numbered_more : (turns next : List Turn) (numbers : List ℕ) (n partner : ℕ)
       → next ≡ turns ++ record { leader = b.bid; place = i; partner = partner } ∷ []
       → list_any (are_together (act b k)) (acts (take i bots) (take i commands)) ≡ false → with_number n

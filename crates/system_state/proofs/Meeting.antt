@@ -1,5 +1,5 @@
--- What is known of a group in the state that it meets: its bots are there, it keeps the rules, and where it goes nobody
--- stands.
+-- Facts of a group in the current state: its bots are there, it keeps the rules, and the target coordinates are
+-- free.
 use Rattle.std.proofs.Common.{rules, ◌≡◌, ℕ, ◌≤◌, refl, sym, ◌∙◌, ap, arith, inl, inr, List, [], ◌∷◌, Bool, true, false, cond, ◌&&◌, ◌||◌, ◌==◌, map, not, length}
 use Rattle.std.specs.Prelude.{Some, None, Option, find, unwrap_or, IsNone, IfSome, is_none, nat_lt}
 use Rattle.std.specs.List.{list_all, list_any}
@@ -21,7 +21,7 @@ use Rattle.step_order.proofs.Lists.{In, all_in}
 use Rattle.system_state.specs.Effects.{IsFreeFor}
 use Rattle.step_order.proofs.JudgedRules.{out_of_space_is_judged, seeds_are_judged}
 
--- ---- what is known of a group in the state that it meets
+-- ---- facts of a group in the current state
 
 is_none_is : {X : Type 0} (o : Option X) → is_none o ≡ true → o ≡ None
 is_none_is None e = refl
@@ -48,7 +48,7 @@ module _ (t : State) (group : List Act) (keeps : keeps_rules t group ≡ true) (
   pub halts_alone : a.command ≡ Halt → nat_lt 1 (length t.bots) ≡ false
   halts_alone e = sym (ap (λ c. is_halt c && nat_lt 1 (length t.bots)) e) ∙ here_false a (is_halt a.command && nat_lt 1 (length t.bots)) (kept_rule HaltAlone (inr (inl refl)))
 
--- a bot that is met as it was found is active as it is
+-- a bot found unchanged is active
 module _ (t : State) (bot : Bot) (met : bot_in t.bots bot ≡ bot) (active : is_active t bot ≡ true) where
   find_step : (p : Bot → Bool) (b : Bot) (bs : List Bot) (v : Bool) → p b ≡ v
       → (list_any p bs ≡ true → find p bs ≡ Some (unwrap_or (find p bs) bot)) → (v || list_any p bs) ≡ true
@@ -63,7 +63,7 @@ module _ (t : State) (bot : Bot) (met : bot_in t.bots bot ≡ bot) (active : is_
   pub found : bot_of t.bots bot.bid ≡ Some bot
   found = finds (λ b. b.bid == bot.bid) t.bots active ∙ ap Some met
 
--- ---- what the turn needs
+-- ---- the conditions of the turn
 
 pub at_most_one : (n : ℕ) → nat_lt 1 n ≡ false → n ≤ 1
 at_most_one n e = grind (arith, nat_tests)
@@ -87,7 +87,7 @@ module _ (bots : List Bot) (bot : Bot) (c : Coord) (apart : (y : Bot) → In y b
       by None e = search rules
       by (Some y) e = let found_there = found_in (stands_at c) bots y e in absurd (away (sym (ap (λ (b : Bot). b.pos) (apart y found_there.0 (stood c y found_there.1))) ∙ stood c y found_there.1))
 
--- what maps a list to itself leaves each of it
+-- a map that leaves a list unchanged leaves each element unchanged
 pub is_met : {X : Type 0} (f : X → X) (xs : List X) → map f xs ≡ xs → (x : X) → In x xs → f x ≡ x
 is_met f [] e x i = absurd i
 is_met {X} f (y ∷ ys) e x (inl i) = ap f i ∙ (head e ∙ sym i)

@@ -1,4 +1,4 @@
--- Who is of a leader's group: itself alone, itself and its partner, or the members of a group command.
+-- The members of a leader's group: itself alone, itself and its partner, or the members of a group command.
 use Rattle.std.proofs.Common.{◌≡◌, ℕ, ◌<◌, ◌≤◌, refl, sym, ◌∙◌, ap, arith, inl, inr, ◌⊎◌, List, [], ◌∷◌, Bool, true, false, cond, ◌&&◌, ◌==◌, eq-eqb, map, not}
 use Rattle.std.specs.Prelude.{filter, nat_le}
 use Rattle.std.specs.List.{list_any}

@@ -25,7 +25,7 @@ pub names_in_space : (r : ℕ) (b : Bot) (d : Diff) (full : Bool) → IsTrue (st
 names_in_space r b d true h = first_of_two (in_space r (plus (point b.pos) d)) true h
 names_in_space r b d false h = first_of_two (in_space r (plus (point b.pos) d)) true h
 
--- one voxel is met
+-- one voxel is edited
 one_there : (m : Matrix) (b : Bot) (d : Diff) → in_space m.resolution (plus (point b.pos) d) ≡ true
     → 1 ≤ count_by (λ c. is_within (just (plus (point b.pos) d)) (point c) || false) (coordinates m.resolution)
 one_there m b d i =

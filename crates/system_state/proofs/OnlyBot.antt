@@ -1,4 +1,4 @@
--- What a command of the only bot changes, and what it costs.
+-- The effect and the cost of a command of the only bot.
 use Rattle.std.proofs.Common.{◌≡◌, ℕ, zero, suc, ◌+◌, ◌*◌, ◌<◌, ◌≤◌, refl, sym, ◌∙◌, ap, inl, inr, arith, List, [], ◌∷◌, Bool, true, false, cond, ◌&&◌, ◌||◌, not, nat_le, map}
 use Rattle.std.specs.Prelude.{ℤ, pos, negsuc, unsigned_abs, filter, int_le}
 use Rattle.std.specs.List.{list_all}

@@ -1,4 +1,4 @@
--- The step of the only bot by filling or voiding a voxel.
+-- The step of the only bot that fills or voids a voxel.
 use Rattle.std.proofs.Common.{◌≡◌, sym, ap, subst, [], ◌∷◌, Bool, true, false, cond}
 use Rattle.std.specs.Prelude.{pos, negsuc, ◌+ℤ◌}
 use Rattle.vox_geom.specs.declared.coordinate.Coord.{Coord}
@@ -52,7 +52,7 @@ module _ (s : State) (b : Bot) (d : Diff) (only : s.bots ≡ b ∷ []) (i : in_s
   changed_on true = filled_on
   changed_on false = voided_on
 
--- the state after the voxel at a coordinate was filled, or else voided
+-- the state after the voxel at a coordinate was filled (or voided)
 pub edited_on : (s : State) (b : Bot) (d : Diff) (at : Coord) (full : Bool) → s.bots ≡ b ∷ []
     → IsInSpace s.matrix.resolution at → point at ≡ plus (point b.pos) d → record s
     { matrix = with_voxel s.matrix at full; energy = (s.energy +ℤ upkeep s) +ℤ edit_cost full (is_full s.matrix at) }

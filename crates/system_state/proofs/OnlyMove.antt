@@ -1,4 +1,4 @@
--- The step of the only bot by a straight move.
+-- The step of the only bot by `SMove`.
 use Rattle.std.proofs.Common.{◌≡◌, ◌*◌, refl, sym, subst, [], ◌∷◌}
 use Rattle.std.specs.Prelude.{pos, ◌+ℤ◌}
 use Rattle.vox_geom.specs.declared.coordinate.Coord.{Coord}

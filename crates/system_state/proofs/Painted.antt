@@ -1,4 +1,4 @@
--- Cells that are made full or void one after another.
+-- Cells that are filled or voided one after another.
 use Rattle.std.proofs.Common.{◌≡◌, ◌*◌, sym, ◌∙◌, ap, List, [], ◌∷◌, ◌++◌, Bool, cond, length}
 use Rattle.vox_geom.specs.declared.coordinate.Coord.{Coord}
 use Rattle.vox_geom.specs.Point.{point, same_point}

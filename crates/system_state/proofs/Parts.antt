@@ -1,4 +1,4 @@
--- What holds of the state after a change of one part.
+-- Properties of the state after a change of one part.
 use Rattle.std.proofs.Common.{◌≡◌, ℕ, zero, suc, ◌<◌, refl, sym, subst, arith, length, inl, inr, List, [], ◌∷◌, get_or}
 use Rattle.std.specs.Prelude.{All, Option, Some, None, IfSome, IsSome}
 use Rattle.vox_geom.specs.declared.coordinate.Coord.{Coord}
@@ -10,7 +10,7 @@ use Rattle.step_order.proofs.Lists.{In, place_in}
 use Rattle.bot_crew.specs.Crew.{IsActive, bot_of, replaced}
 use Rattle.system_state.proofs.Bots.{all_replaced, in_all}
 
--- the bots stand in space after one of them moved
+-- the bots are in space after one of them moved
 pub moved_within : (r : ℕ) (bots now : List Bot) (bid : ℕ) (c : Coord) → All (λ b. IsInSpace r b.pos) bots
     → IsInSpace r c → IsActive bots bid
     → IfSome (bot_of bots bid) (λ b. now ≡ replaced bots (bid ∷ []) (moved b (point c) ∷ []))

@@ -1,4 +1,4 @@
--- The region that a bot fills or voids, by what it does.
+-- The region that a bot fills or voids, by its action.
 use Rattle.std.proofs.Common.{◌≡◌, ℕ, ◌≤◌, refl, ap, sym, subst, ◌∙◌, Bool, true, false, ◌&&◌, cond, [], ◌∷◌}
 use Rattle.std.specs.Prelude.{IsTrue}
 use Rattle.vox_geom.specs.declared.coordinate.Coord.{Coord}

@@ -1,4 +1,4 @@
--- The region that a command makes full or void: the matrix afterwards, and what is met.
+-- The region that a command fills or voids: the matrix afterwards, and the edited voxels.
 use Rattle.std.proofs.Common.{◌≡◌, ℕ, ◌+◌, ◌-◌, ◌*◌, refl, sym, ◌∙◌, ap, arith, List, [], ◌∷◌, ◌++◌, Bool, true, false, cond, ◌&&◌, ◌||◌, length}
 use Rattle.std.specs.Prelude.{not, count_by}
 use Rattle.std.specs.List.{list_any}

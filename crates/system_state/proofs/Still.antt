@@ -23,7 +23,7 @@ pub waited : (s : State) (bot : Bot) (partner : ℕ)
     → s ≡ after_turn s bot partner Wait
 waited s bot partner whole = λ i. record { matrix = after_none s.matrix bot Wait whole refl refl i; harmonics = s.harmonics; bots = s.bots; energy = nothing_more s.energy i; profile = s.profile }
 
--- the state after the bot went to a coordinate
+-- the state after the bot moved to a coordinate
 pub gone : (s new : State) (bot : Bot) (to : Coord) → bot_of s.bots bot.bid ≡ Some bot → IfSome (bot_of s.bots bot.bid)
     (λ (b : Bot). new ≡ record s { bots = replaced s.bots (bot.bid ∷ []) (moved b (point to) ∷ []) })
     → new ≡ record s { bots = replaced s.bots (bot.bid ∷ []) (moved bot (point to) ∷ []) }

@@ -1,4 +1,4 @@
--- The turn of a group can be taken, and does to the state what the definition says of the group.
+-- The turn of a group is possible, and has the definition's effect of the group.
 use Rattle.std.proofs.Common.{rules, ◌≡◌, ℕ, ◌+◌, ◌<◌, ◌≤◌, refl, sym, ◌∙◌, ap, subst, arith, inl, inr, ◌⊎◌, List, [], ◌∷◌, ◌++◌, Bool, true, false, cond, ◌&&◌, ◌||◌, ◌==◌, map, not, length, pos}
 use Rattle.std.specs.Prelude.{Some, None, Option, nat_lt, filter, find, flat_map, option_map, unwrap_or, IsSome, slice_index_or, ◌+ℤ◌, ℤ}
 use Rattle.std.specs.List.{list_all, list_any}
@@ -109,7 +109,7 @@ shared_voided p c q e x h k = cc
 
 -- ---- the law
 
--- what a bot that comes of the leader does not find in its place
+-- a successor of the leader finds no other bot at its position
 abbrev pub StandsApart : State → List Act → Act → Type 0
 StandsApart t group l = (x y : Bot) → In x (successors group l l.command) → In y t.bots → x.pos ≡ y.pos → y ≡ l.bot
 
@@ -137,7 +137,7 @@ module _ (s : State) (all : List Act) (good : IsGood s all) (l : Act) (leads : I
   partner_there : (b : Act) → members all l ≡ l ∷ b ∷ [] → bot_of t.bots partner ≡ Some b.bot
   partner_there b e = ap (bot_of t.bots) (partner_of b e) ∙ found_there b (second_in b e)
 
-  -- ---- what the turn needs
+  -- ---- the conditions of the turn
 
   comes : (c : Command) → l.command ≡ c → (x : Bot) → In x (successors (members all l) l c) → (y : Bot) → In y t.bots
       → y.pos ≡ x.pos → y ≡ l.bot
@@ -282,7 +282,7 @@ module _ (s : State) (all : List Act) (good : IsGood s all) (l : Act) (leads : I
       by (b ∷ []) (inr i) n = absurd i
       by (b ∷ c ∷ bs) i n = absurd (omega arith)
 
-  -- the bots that come of a group
+  -- the successors of a group
   Come : List Act → List Bot
   Come group = replaced t.bots (map (λ (a : Act). a.bot.bid) group) (flat_map (λ (a : Act). successors group a a.command) group)
 
@@ -419,7 +419,7 @@ module _ (s : State) (all : List Act) (good : IsGood s all) (l : Act) (leads : I
           ap Come couple_here.3 ∙ couple_bots l.command refl h couple_here.0 couple_here.1 couple_here.3
       by (inr (inr h)) = group_bots l.command refl h
 
-  -- the turn leads where the group's acts do
+  -- the turn has the effect of the group's acts
   pub turn_is_group : ((u : State) (group : List Act) → (after_group u group).bots
       ≡ replaced u.bots (map (λ (a : Act). a.bot.bid) group)
       (flat_map (λ (a : Act). successors group a a.command) group))

@@ -1,4 +1,4 @@
--- What the turn of a group needs and does, by the bot and the command of its leader (docs/FORMATS.md, "Commands").
+-- The condition and the effect of a group's turn, by the bot and the command of its leader (docs/FORMATS.md, "Commands").
 use Rattle.std.specs.Prelude.{◌≡◌, ◌≢◌, ℕ, ◌+◌, ◌≤◌, ◌+ℤ◌, List, [], ◌∷◌, length, true, false, Some, option_map, unwrap_or, IfSome, IsNone, IsTrue}
 use Rattle.vox_geom.specs.declared.coordinate.Coord.{Coord}
 use Rattle.vox_geom.specs.Point.{point}
@@ -16,11 +16,11 @@ use Rattle.step_groups.specs.declared.deed.Deed.TheVariants.{Halts, Moves, Bends
 use Rattle.step_groups.specs.Deeds.{deed_by}
 use Rattle.step_groups.specs.Judging.{act}
 
--- no other bot stands there
+-- no other bot is there
 abbrev pub IsFreeFor : List Bot → Bot → Coord → Type 0
 IsFreeFor bots bot c = IfSome (bot_at bots c) (λ b. b.bid ≡ bot.bid)
 
--- what the turn needs of the bots, by what the bot does
+-- the conditions of the turn on the bots, by the bot's action
 abbrev pub Needs : List Bot → Bot → ℕ → Deed → Type 0
 Needs bots bot partner Halts = length bots ≡ 1
 Needs bots bot partner (Moves to) = IsFreeFor bots bot to
@@ -29,7 +29,7 @@ Needs bots bot partner (Splits to seeds) = IsNone (bot_at bots to) × (seeds + 1
 Needs bots bot partner (Fuses place primary) = IsActive bots partner × (bot.bid ≢ partner)
 Needs bots bot partner _ = Unit {0}
 
--- the turn of this bot's group can be taken
+-- the turn of this bot's group is possible
 pub record MayTake (r : ℕ) (bots : List Bot) (bot : Bot) (partner : ℕ) (command : Command) : Type 0 where
   pub active : bot_of bots bot.bid ≡ Some bot
   pub within : IsInSpace r bot.pos
@@ -40,7 +40,7 @@ pub record MayTake (r : ℕ) (bots : List Bot) (bot : Bot) (partner : ℕ) (comm
 abbrev pub with_partner : List Bot → ℕ → (Bot → List Bot) → List Bot
 with_partner bots partner change = unwrap_or (option_map change (bot_of bots partner)) bots
 
--- the bots after the turn, by what the bot does
+-- the bots after the turn, by the bot's action
 abbrev pub bots_after_deed : List Bot → Bot → ℕ → Deed → List Bot
 bots_after_deed bots bot partner Halts = []
 bots_after_deed bots bot partner (Moves to) = replaced bots (bot.bid ∷ []) (moved bot (point to) ∷ [])

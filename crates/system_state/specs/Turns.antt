@@ -10,12 +10,12 @@ use Rattle.step_order.specs.SomeGroups.{after_some}
 use Rattle.system_state.specs.declared.turns.Turn.{Turn}
 use Rattle.step_groups.specs.Groups.{bid_of}
 
--- the bid of the first of some acts that is of this act's group, or 0 where none is
+-- the bid of the first of some acts in this act's group, or 0 if there is none
 abbrev pub first_mate : Act → List Act → ℕ
 first_mate a more = slice_index_or (map bid_of (filter (are_together a) more)) 0 0
 
--- the turn of the group that the act's bot leads: its place among the acts, and the bid of the second member, or 0
--- where it is alone
+-- the turn of the group that the act's bot leads: its index among the acts, and the bid of the second member, or 0 if it is
+-- alone
 pub record IsTurn (all : List Act) (a : Act) (t : Turn) : Type 0 where
   pub leader : t.leader ≡ a.bot.bid
   pub place : slice_get all t.place ≡ Some a
@@ -42,7 +42,7 @@ pub record AreAllTurns (all : List Act) (turns : List Turn) : Type 0 where
 abbrev pub bots_after_some : State → List Command → List ℕ → List Bot
 bots_after_some s commands bids = (after_some s (acts s.bots commands) (acts_of (acts s.bots commands) bids)).bots
 
--- the group of a leader takes its turn after those of some others, whose turns led to the bots
+-- the group of a leader is applied after those of some others, which led to the bots
 pub record FollowsOn (s : State) (commands : List Command) (before : List ℕ) (leader : ℕ) (rest : List ℕ)
     (bots : List Bot) : Type 0 where
   pub leaders : IsPermutation (leader_bids (acts s.bots commands)) (before ++ leader ∷ rest)

@@ -1,4 +1,4 @@
-//! Which voxels a command changes.
+//! The voxels that a command changes.
 ghost use Rattle.std.specs.Prelude.{MatchOption, IsTrue};
 ghost use Rattle.vox_geom.specs.Space.{IsInSpace};
 ghost use Rattle.nano_spec.specs.Act.{stays_in_space};
@@ -10,14 +10,14 @@ use nano_spec::{Bot, Command};
 use step_groups::{Deed, deed_of};
 use vox_geom::Region;
 
-/// The region that a command makes full or void.
+/// The region that a command fills or voids.
 #[derive(Clone, Copy, PartialEq, Eq, Debug)]
 pub struct EditedRegion {
     pub region: Region,
     pub full: bool,
 }
 
-/// The region that the command of the bot makes full or void, if it does. Condition: its coordinates are in space.
+/// Returns the region that the command of the bot fills or voids, if it does. Condition: its coordinates are in space.
 #[inline(always)]
 pub fn edited_region(r: u16, bot: Bot, command: &Command) -> Option<EditedRegion>
     requires within { IsInSpace r bot.pos }

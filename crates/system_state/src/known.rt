@@ -1,10 +1,10 @@
-//! That the differences of a command are of their kinds, which their types keep.
+//! Proof aids: the differences of a command are of their kinds, which their types keep.
 ghost use Rattle.nano_spec.specs.Command.{IsCommand};
 ghost use Rattle.nano_spec.specs.Cutting.{AreCommands};
 
 use nano_spec::Command;
 
-/// The differences of the command are of their kinds.
+/// Proof aid: the differences of the command are of their kinds. No effect.
 pub fn recall(command: &Command)
     ensures { IsCommand command.now }
 {
@@ -28,7 +28,7 @@ pub fn recall(command: &Command)
     }
 }
 
-/// The differences of all commands are of their kinds.
+/// Proof aid: the differences of all commands are of their kinds. No effect.
 pub fn recall_all(commands: &[Command])
     ensures { AreCommands commands.now }
 {

@@ -1,5 +1,5 @@
-//! The state of the system (docs/FORMATS.md, "State"): matrix, harmonics, bots, energy and profile, the judgement of the
-//! commands of a step, and the effects of its groups, one group after another. No call takes memory.
+//! The state of the system (docs/FORMATS.md, "State"): matrix, harmonics, bots, energy and profile, the judgement of the commands
+//! of a step, and the effects of its groups, one after another. No call allocates.
 #![tactic(auto)]
 
 mod edited;

@@ -1,4 +1,4 @@
-//! What the turn of a group does to the bots.
+//! The effect of a group on the bots.
 ghost use Rattle.std.specs.Prelude.{◌≡◌, ◌<◌, ◌+ℤ◌, pos, IsTrue};
 ghost use Rattle.vox_geom.specs.Point.{point, plus};
 ghost use Rattle.vox_geom.specs.Space.{IsInSpace, coordinate, in_range, in_space};
@@ -9,7 +9,7 @@ use nano_spec::{Bot, Command};
 use step_groups::{Deed, deed_of};
 use vox_geom::{Coord, Diff};
 
-/// A component and what is added to it, where the sum is from 0 to r - 1.
+/// Returns the sum of a component and a difference, if it is from 0 to r - 1.
 fn shift(r: u16, v: u16, by: i16) -> u16
     requires { IsTrue (in_range r (pos v +ℤ by)) }
     ensures sum { pos result ≡ (pos v +ℤ by) }
@@ -18,7 +18,7 @@ fn shift(r: u16, v: u16, by: i16) -> u16
     (i32::from(v) + i32::from(by)) as u16
 }
 
-/// The coordinate that a difference leads to within a matrix of resolution r.
+/// Returns the coordinate that a difference leads to within a matrix of resolution r.
 pub(crate) fn target(r: u16, from: Coord, d: Diff) -> Coord
     requires from { IsInSpace r from }
     requires within { IsTrue (in_space r (plus (point from) d)) }
@@ -33,7 +33,7 @@ pub(crate) fn target(r: u16, from: Coord, d: Diff) -> Coord
     }
 }
 
-/// The bots after the turn of the bot's group.
+/// Updates the bots by the turn of the bot's group.
 pub(crate) fn move_bots(crew: &mut Crew, r: u16, bot: Bot, partner: u8, command: &Command)
     requires { MayTake r crew.old bot partner command.now }
     ensures { crew.new ≡ bots_after_turn crew.old bot partner command.now }

@@ -41,7 +41,7 @@ use step_order::groups_take_turns;
 use vox_geom::{Coord, Long, Near, Short, Steps};
 use vox_planes::Planes;
 
-/// The other harmonics after a Flip.
+/// Returns the harmonics after a command: the opposite after a Flip.
 fn harmonics_by(harmonics: Harmonics, command: &Command) -> Harmonics
     ensures { (bot : ActiveBot) → result ≡ harmonics_after harmonics (act bot command.now ∷ []) }
 {
@@ -58,7 +58,7 @@ pub struct System {
     matrix: Planes,
     crew: Crew,
     harmonics: Harmonics,
-    // What the space costs in the upkeep of a step: only a Flip changes it.
+    // The share of the space in the upkeep of a step: only a Flip changes it.
     space: u32,
     energy: i64,
     profile: Profile,
@@ -85,7 +85,7 @@ impl Model for System {
 }
 
 impl System {
-    /// The state before the first step.
+    /// Returns the state before the first step.
     pub fn opening(source: Planes, profile: Profile) -> System
         requires { profile.seeds ≤ 39 }
         ensures { result ≡ opening_of source profile }
@@ -101,7 +101,7 @@ impl System {
         }
     }
 
-    /// The state that has these parts.
+    /// Returns the state with these parts.
     pub fn at(
         matrix: Planes,
         crew: Crew,
@@ -124,7 +124,7 @@ impl System {
         }
     }
 
-    /// The matrix.
+    /// Returns the matrix.
     pub fn matrix(&self) -> &Planes
         ensures value { result.now ≡ self.now.matrix }
         ensures whole { IsWhole self.now.matrix }
@@ -133,7 +133,7 @@ impl System {
         &self.matrix
     }
 
-    /// The active bots, in rising order of their bids.
+    /// Returns the active bots, in rising order of their bids.
     pub fn crew(&self) -> &Crew
         ensures value { result.now ≡ self.now.bots }
         ensures crew { IsCrew self.now.bots }
@@ -143,7 +143,7 @@ impl System {
         &self.crew
     }
 
-    /// Does nothing: it recalls what the state keeps. Its matrix is whole, its bots are a crew, and it is ready for a step.
+    /// Proof aid: exposes that the matrix is whole, the bots are a crew, and the state is ready for a step. No effect.
     #[inline(always)]
     pub fn recall(&self)
         ensures whole { IsWhole self.now.matrix }
@@ -155,29 +155,29 @@ impl System {
         self.crew.recall();
     }
 
-    /// The harmonics.
+    /// Returns the harmonics.
     pub fn harmonics(&self) -> Harmonics
         ensures { result ≡ self.now.harmonics }
     {
         self.harmonics
     }
 
-    /// The energy spent so far.
+    /// Returns the energy spent so far.
     pub fn energy(&self) -> i64
         ensures { result ≡ self.now.energy }
     {
         self.energy
     }
 
-    /// The profile.
+    /// Returns the profile.
     pub fn profile(&self) -> Profile
         ensures { result ≡ self.now.profile }
     {
         self.profile
     }
 
-    /// Judges the commands of a step by the rules that ask for no other state than the one at its start: the first rule that
-    /// is broken, or `None`, and then the turns are those of the groups. It reads voxels only where each bot has a command.
+    /// Judges the commands of a step by the rules that depend only on the state at its start: returns the first broken rule, or
+    /// `None` with the turns of the groups. Reads voxels only if each bot has a command.
     pub fn judge<L: Ledger>(
         &self,
         commands: &[Command],
@@ -214,7 +214,8 @@ impl System {
         }
     }
 
-    /// The turns of the groups of a step, from the commands alone: for a caller that knows that no rule is broken, and judges none.
+    /// Lists the turns of the groups of a step, from the commands alone, for a caller that knows that no rule is broken. Judges
+    /// none.
     pub fn list_turns(&self, commands: &[Command], turns: &mut Turns)
         requires { length commands.now ≡ length self.now.bots }
         ensures { AreTurns (acts self.now.bots commands.now) (leaders (acts self.now.bots commands.now)) turns.new }
@@ -228,7 +229,7 @@ impl System {
         list_turns(&mut turns.turns, bots, numbers.as_slice());
     }
 
-    /// The trace ends within the step, before the command of the bot at a place.
+    /// Returns that the trace ends within the step, before the command of the bot at an index.
     fn trace_ends(&self, place: usize, step: u32) -> Broken
         requires { place < length self.now.bots }
         ensures { (commands : List Trace) → length commands ≡ place → Some result ≡ judge_trace self.now commands step }
@@ -242,7 +243,7 @@ impl System {
         }
     }
 
-    /// The upkeep of a step is paid.
+    /// Pays the upkeep of a step.
     #[inline(always)]
     fn pay_upkeep(&mut self)
         requires { IsPayable self.old.energy }
@@ -253,7 +254,7 @@ impl System {
         self.pay_upkeep_of(bots);
     }
 
-    /// [`System::pay_upkeep`], by the number of bots. A caller that knows it keeps it out of memory.
+    /// [`System::pay_upkeep`] by the number of bots. A caller that knows it keeps it in a register.
     #[inline(always)]
     fn pay_upkeep_of(&mut self, bots: u8)
         requires payable { IsPayable self.old.energy }
@@ -267,7 +268,7 @@ impl System {
         self.energy = add_cost(self.energy, upkeep);
     }
 
-    /// What a turn costs is paid.
+    /// Pays the cost of a turn.
     #[inline(always)]
     fn pay(&mut self, cost: i64)
         requires payable { IsTurnPayable self.old.energy }
@@ -278,8 +279,8 @@ impl System {
         self.energy = add_cost(self.energy, cost);
     }
 
-    /// The turn of a group, by the command of its leader. Waits, moves and edits of one voxel, which most commands of many bots
-    /// are, are made at once.
+    /// Applies a group, by the command of its leader. Waits, moves and edits of one voxel, the most frequent commands of many bots,
+    /// take the fast path.
     #[inline(always)]
     fn take_turn<L: Ledger>(&mut self, turn: Turn, command: &Command, steps: &mut Steps<L>)
         requires may { IfSome (bot_of self.old.bots turn.leader)
@@ -311,7 +312,7 @@ impl System {
         }
     }
 
-    /// The turn of a bot that moves straight.
+    /// Applies an `SMove`.
     #[inline(always)]
     fn take_move(&mut self, bot: Bot, d: Long)
         requires may { (partner : ℕ) → MayTake self.old.matrix.resolution self.old.bots bot partner (SMove d) }
@@ -324,7 +325,7 @@ impl System {
         self.pay(cost_of_move(d));
     }
 
-    /// The turn of a bot that makes two moves.
+    /// Applies a two-leg move.
     #[inline(always)]
     fn take_moves(&mut self, bot: Bot, d: Short, e: Short)
         requires may { (partner : ℕ) → MayTake self.old.matrix.resolution self.old.bots bot partner (LMove d e) }
@@ -339,7 +340,7 @@ impl System {
         self.pay(cost_of_moves(d, e));
     }
 
-    /// The turn of a bot that fills a voxel, or else voids it.
+    /// Applies a bot's Fill (or Void).
     #[inline(always)]
     fn take_edit<L: Ledger>(&mut self, bot: Bot, d: Near, full: bool, steps: &mut Steps<L>)
         requires may { (partner : ℕ) → MayTake self.old.matrix.resolution self.old.bots bot partner (edit_of full d) }
@@ -355,8 +356,8 @@ impl System {
         self.edit_voxel(at, bit, full, was_full);
     }
 
-    /// A voxel, whose bit has this index, is made full or void, and what that costs beside the upkeep is paid: first, so that both
-    /// payments of an only bot are one.
+    /// Fills or voids the voxel whose bit has this index, and pays the cost without the upkeep. Pays first, so that both payments
+    /// of an only bot merge into one.
     #[inline(always)]
     fn edit_voxel(&mut self, at: Coord, bit: usize, full: bool, was_full: bool)
         requires at { IsInSpace self.old.matrix.resolution at }
@@ -371,7 +372,7 @@ impl System {
         self.set_voxel_at(at, bit, full);
     }
 
-    /// The turn of a group by any command of its leader.
+    /// Applies a group by any command of its leader.
     fn take_other_turn<L: Ledger>(
         &mut self,
         bot: Bot,
@@ -393,7 +394,7 @@ impl System {
         self.pay(cost);
     }
 
-    /// The groups take their turns, one after another: all effects and costs of a step that breaks no rule at its start.
+    /// Applies the groups one after another: all effects and costs of a step that breaks no rule at its start.
     fn take_turns<L: Ledger>(&mut self, commands: &[Command], turns: &Turns, steps: &mut Steps<L>)
         requires judged { (step : ℕ) × (broken_of self.old commands.now step ≡ None) }
         requires turns { AreAllTurns (acts self.old.bots commands.now) turns.now }
@@ -412,8 +413,8 @@ impl System {
         }
     }
 
-    /// All effects and costs of a step that breaks none of the rules that are judged at its start, group by group in rising
-    /// order of their leaders.
+    /// Applies all effects and costs of a step that breaks none of the rules judged at its start, group by group in rising order of
+    /// their leaders.
     pub fn advance<L: Ledger>(&mut self, commands: &[Command], turns: &Turns, steps: &mut Steps<L>)
         requires judged { (step : ℕ) × (broken_of self.old commands.now step ≡ None) }
         requires turns { AreTurns (acts self.old.bots commands.now) (leaders (acts self.old.bots commands.now))
@@ -425,7 +426,7 @@ impl System {
         self.take_turns(commands, turns, steps);
     }
 
-    /// The same, group by group in the order of their leaders that is given, in which the turns are left.
+    /// [`System::advance`] in the given order of the leaders. Leaves the turns in that order.
     pub fn advance_in_order<L: Ledger>(
         &mut self,
         commands: &[Command],
@@ -448,7 +449,7 @@ impl System {
         self.take_turns(commands, turns, steps);
     }
 
-    /// What the turn of one group more makes of the bots of a step that breaks no rule, after the turns of some others.
+    /// Applies one more group to the bots of a step that breaks no rule, after some others.
     pub fn move_group(&self, crew: &mut Crew, commands: &[Command], turns: &Turns, leader: u8)
         requires judged { (step : ℕ) × (broken_of self.now commands.now step ≡ None) }
         requires turns { AreTurns (acts self.now.bots commands.now) (leaders (acts self.now.bots commands.now))

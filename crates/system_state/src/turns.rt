@@ -22,8 +22,8 @@ use std::sync::ledger::Ledger;
 use step_groups::{Groups, Step, judge_single, number_groups};
 use vox_geom::Steps;
 
-/// The turn of one group of a step: the bid of its leader, the leader's place among the bots at the step's start, and the
-/// bid of its second member, 0 where the leader is alone.
+/// The turn of one group of a step: the bid of its leader, the leader's index among the bots at the step's start, and the bid of
+/// its second member, 0 if the leader is alone.
 #[derive(Clone, Copy, PartialEq, Eq, Default, Debug)]
 pub struct Turn {
     pub leader: u8,
@@ -32,7 +32,7 @@ pub struct Turn {
 }
 
 impl Turn {
-    /// The turn of a bot that is a group of its own.
+    /// Returns the turn of a bot that is a group of its own.
     fn alone(leader: u8, place: u8) -> Turn
         ensures { result ≡ record { leader = leader; place = place; partner = 0 } }
     {
@@ -44,7 +44,7 @@ impl Turn {
     }
 }
 
-/// The turns of a step, in rising order of their leaders until they are arranged. It is kept from step to step.
+/// The turns of a step, in rising order of their leaders until `arrange`. Reused from step to step.
 #[derive(Drop)]
 pub struct Turns {
     groups: Groups,
@@ -63,7 +63,7 @@ impl Model for Turns {
 impl Turns {
     ghost use Rattle.std.specs.Prelude.{◌≡◌, [], ◌∷◌};
 
-    /// No turns.
+    /// Returns an empty list.
     pub fn new() -> Turns
         ensures { result ≡ [] }
     {
@@ -73,14 +73,14 @@ impl Turns {
         }
     }
 
-    /// The turns.
+    /// Returns the turns.
     pub fn list(&self) -> &[Turn]
         ensures { result.now ≡ self.now }
     {
         self.turns.as_slice()
     }
 
-    /// The turn of the only bot.
+    /// Stores the turn of the only bot.
     pub(crate) fn set_single(&mut self, bid: u8)
         ensures { self.new ≡ record { leader = bid; place = 0; partner = 0 } ∷ [] }
     {
@@ -88,7 +88,7 @@ impl Turns {
         self.turns.push(Turn::alone(bid, 0));
     }
 
-    /// Judges the step of a single bot, whose turn is then the only one.
+    /// Judges the step of a single bot, and stores its turn as the only one.
     pub(crate) fn judge_single<L: Ledger>(
         &mut self,
         step: &Step,
@@ -120,7 +120,7 @@ impl Turns {
         self.groups.judge_lone(step, steps)
     }
 
-    /// Judges the step of several bots. Where no rule is broken the turns are those of its groups.
+    /// Judges the step of several bots. If no rule is broken, the turns are those of its groups.
     pub(crate) fn judge_several<L: Ledger>(
         &mut self,
         step: &Step,
@@ -136,7 +136,7 @@ impl Turns {
         self.groups.judge(step, numbers.as_slice(), steps).err()
     }
 
-    /// Puts the turns in the order of these leaders.
+    /// Sorts the turns in the order of these leaders.
     pub(crate) fn arrange(&mut self, order: &[u8])
         requires { IsPermutation (map leader_of self.old) order.now }
         ensures leaders { map leader_of self.new ≡ order.now }
@@ -152,7 +152,7 @@ impl Turns {
     }
 }
 
-/// The turn of a leader.
+/// Returns the turn of a leader.
 pub(crate) fn turn_of(turns: &[Turn], leader: u8) -> Turn
     requires { Contains (map leader_of turns.now) leader }
     ensures leader { result.leader ≡ leader }
@@ -166,7 +166,7 @@ pub(crate) fn turn_of(turns: &[Turn], leader: u8) -> Turn
     Turn::default()
 }
 
-/// The turns of bots each of which is a group of its own.
+/// Lists the turns of bots each of which is a group of its own.
 pub(crate) fn list_lone_turns(turns: &mut ArrayVec<Turn, MOST_BOTS>, bots: &[Bot])
     requires { length bots.now ≤ 40 }
     ensures { (commands : List Command) → length commands ≡ length bots.now → AreLone (acts bots.now commands)
@@ -178,7 +178,7 @@ pub(crate) fn list_lone_turns(turns: &mut ArrayVec<Turn, MOST_BOTS>, bots: &[Bot
     }
 }
 
-/// The bid of the first of these bots that has the number, 0 where there is none.
+/// Returns the bid of the first of these bots with the group index, or 0 if there is none.
 fn first_numbered(bots: &[Bot], numbers: &[u8], number: u8) -> u8
     requires { length numbers.now ≡ length bots.now }
     ensures { result ≡ slice_index_or (map (λ b. b.bid) (with_number number bots.now numbers.now)) 0 0 }
@@ -191,7 +191,7 @@ fn first_numbered(bots: &[Bot], numbers: &[u8], number: u8) -> u8
     0
 }
 
-/// Adds the turn of the bot at a place, if the bot leads a group.
+/// Adds the turn of the bot at an index, if the bot leads a group.
 fn push_turn(turns: &mut ArrayVec<Turn, MOST_BOTS>, bots: &[Bot], numbers: &[u8], i: usize)
     requires lengths { length numbers.now ≡ length bots.now }
     requires i { i < length bots.now }
@@ -216,7 +216,7 @@ fn push_turn(turns: &mut ArrayVec<Turn, MOST_BOTS>, bots: &[Bot], numbers: &[u8]
     });
 }
 
-/// The turns of the groups of a step of these bots, by the numbers of the groups.
+/// Lists the turns of the groups of a step of these bots, by their group indices.
 pub(crate) fn list_turns(turns: &mut ArrayVec<Turn, MOST_BOTS>, bots: &[Bot], numbers: &[u8])
     requires lengths { length numbers.now ≡ length bots.now }
     requires crew { IsCrew bots.now }

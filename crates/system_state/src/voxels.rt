@@ -1,4 +1,4 @@
-//! What the turn of a group does to the voxels, and what it costs.
+//! The effect of a group on the voxels, and its cost.
 ghost use Rattle.std.specs.Prelude.{◌≡◌, ◌+◌, ◌-◌, ◌≤◌, ◌∷◌, [], cond, All, IsTrue};
 ghost use Rattle.vox_geom.specs.Point.{Point, point};
 ghost use Rattle.vox_geom.specs.Region.{IsOrdered, span};
@@ -21,7 +21,7 @@ use std::sync::ledger::Ledger;
 use vox_geom::{Coord, Steps};
 use vox_planes::Planes;
 
-/// Makes the cells full or void.
+/// Fills or voids the cells.
 pub(crate) fn set_cells(matrix: &mut Planes, cells: &[Coord], full: bool)
     requires whole { IsWhole matrix.old }
     requires within { All (λ c. IsInSpace matrix.old.resolution c) cells.now }
@@ -33,14 +33,14 @@ pub(crate) fn set_cells(matrix: &mut Planes, cells: &[Coord], full: bool)
     }
 }
 
-/// How many void and how many full voxels a command meets.
+/// The number of void and of full voxels that a command edits.
 #[derive(Clone, Copy)]
 pub(crate) struct Met {
     pub(crate) void: u32,
     pub(crate) full: u32,
 }
 
-/// Makes the region full or void, and tells what it met.
+/// Fills or voids the region, and returns the number of its void and full voxels before.
 fn change_region<L: Ledger>(matrix: &mut Planes, edited: EditedRegion, steps: &mut Steps<L>) -> Met
     requires ordered { IsOrdered edited.region }
     requires within { IsInSpace matrix.old.resolution edited.region.high }
@@ -54,7 +54,7 @@ fn change_region<L: Ledger>(matrix: &mut Planes, edited: EditedRegion, steps: &m
     met_by(edited.region.size(), others, edited.full)
 }
 
-/// What is met in a region of which so many voxels were not yet full, or else not yet void.
+/// Returns the void and full voxels of a region with `others` voxels not yet full (or not yet void).
 fn met_by(size: u32, others: u32, full: bool) -> Met
     requires { others ≤ size }
     ensures void { result.void ≡ cond full others (size - others) }
@@ -74,7 +74,7 @@ fn met_by(size: u32, others: u32, full: bool) -> Met
     }
 }
 
-/// What the turn of a group costs, by its leader's command.
+/// Returns the cost of a group, by its leader's command.
 fn turn_cost(command: &Command, met: Met) -> i64
     ensures cost { (m : Matrix) (p : Point) → met.void ≡ void_count m p command.now
         → met.full ≡ met_full_count m p command.now → result ≡ group_cost m p command.now }
@@ -85,7 +85,7 @@ fn turn_cost(command: &Command, met: Met) -> i64
     command_cost(*command, met.void, met.full)
 }
 
-/// Changes the voxels in the turn of the bot's group, and tells what its command met.
+/// Changes the voxels of a group, and returns the number of void and full ones before.
 fn change_voxels<L: Ledger>(
     matrix: &mut Planes,
     bot: Bot,
@@ -105,7 +105,7 @@ fn change_voxels<L: Ledger>(
     }
 }
 
-/// Changes the voxels in the turn of the bot's group, and tells what the turn costs.
+/// Changes the voxels of a group, and returns its cost.
 pub(crate) fn pay_turn<L: Ledger>(
     matrix: &mut Planes,
     bot: Bot,

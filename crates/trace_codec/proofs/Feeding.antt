@@ -1,4 +1,4 @@
--- What a decoder has taken of pieces that come one after another.
+-- The bytes that a decoder has taken of pieces one after another.
 use Rattle.std.proofs.Common.{◌≡◌, ℕ, sym, ◌∙◌, ap, subst, List, [], ◌∷◌, ◌++◌, take, drop}
 use Rattle.std.specs.Prelude.{flat_map}
 use Rattle.std.proofs.lemmas.List.{append-nil, append_assoc, take-append-drop}
@@ -8,7 +8,7 @@ use Rattle.trace_codec.specs.Decoder.{DecoderState, HasTaken, decoder_after}
 use Rattle.trace_codec.specs.Pieces.{Feeds, TakesPiece, all, first, got, later, nothing_left}
 use Rattle.trace_codec.proofs.TakenBytes.{taken_all, taken_got, taken_nothing}
 
--- a piece more
+-- one more piece
 piece_taken : (bytes piece : List ℕ) (commands more : List Command) (decoder last : DecoderState)
     → HasTaken bytes commands decoder → TakesPiece decoder piece more last
     → HasTaken (bytes ++ piece) (commands ++ more) last
@@ -31,7 +31,7 @@ joined_more : (pieces : List (List ℕ)) (piece : List ℕ) → flat_map (λ (p 
 joined_more [] piece = append-nil piece
 joined_more (p ∷ pieces) piece = ap (λ (more : List ℕ). p ++ more) (joined_more pieces piece) ∙ sym (append_assoc p (flat_map (λ (q : List ℕ). q) pieces) piece)
 
--- pieces that are fed one after another are taken as the bytes that they are together
+-- pieces fed one after another are taken as their concatenation
 pub pieces_taken : (pieces : List (List ℕ)) (commands : List Command) (decoder : DecoderState)
     → Feeds pieces commands decoder → HasTaken (flat_map (λ (p : List ℕ). p) pieces) commands decoder
 pieces_taken pieces commands decoder (first e f g) = rw (e, f, g) taken_nothing

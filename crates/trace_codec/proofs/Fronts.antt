@@ -1,4 +1,4 @@
--- What a first byte and the bytes after it are where they agree with the spelling of a command.
+-- A first byte and the bytes after it, if they agree with the spelling of a command.
 use Rattle.std.proofs.Common.{◌≡◌, ◌≢◌, ℕ, suc, zero, ◌+◌, ◌*◌, ◌/◌, ◌%◌, ◌<◌, ◌≤◌, refl, sym, ◌∙◌, ap, arith, true, List, [], ◌∷◌, ◌++◌, get_or, length, pos}
 use Rattle.std.specs.Prelude.{nat_lt}
 use Rattle.std.proofs.lemmas.List.{append-nil}
@@ -47,7 +47,7 @@ far_front : (h k : ℕ) (d f : Diff) (bytes y : List ℕ) → IsNear d → IsFar
     → h ∷ bytes ≡ (8 * near_code d + k) ∷ (far_bytes f ++ y) → Front h bytes
 far_front h k d f bytes y n g l m e = near_front h k d bytes (far_bytes f ++ y) n l m e (λ _. (f, y, g, tail_is h _ bytes (far_bytes f ++ y) e))
 
--- what a command's spelling is
+-- the front of a command's spelling
 pub front : (c : Command) (h : ℕ) (bytes y : List ℕ) → IsCommand c → h ∷ bytes ≡ spelling c ++ y → Front h bytes
 front Halt h bytes y i e = let heads_same = same_head h _ bytes y e in alone (omega arith)
 front Wait h bytes y i e = let heads_same = same_head h _ bytes y e in alone (omega arith)
@@ -69,16 +69,16 @@ front (Void d) h bytes y i e = near_front h 2 d bytes y i (omega arith) (omega a
 front (GFill d f) h bytes y i e = far_front h 1 d f bytes y (first_of_two (is_near d) (is_far f) i) (second_of_two (is_near d) (is_far f) i) (omega arith) (omega arith) e
 front (GVoid d f) h bytes y i e = far_front h 0 d f bytes y (first_of_two (is_near d) (is_far f) i) (second_of_two (is_near d) (is_far f) i) (omega arith) (omega arith) e
 
--- bytes are refused where they agree with no spelling, however both go on
+-- bytes are refused if they agree with no spelling, however both go on
 pub refused : (bytes : List ℕ) → ((c : Command) (x y : List ℕ) → IsCommand c → bytes ++ x ≡ spelling c ++ y → ⊥)
     → IsNoCommand bytes
 refused bytes none = (λ c y i e. none c [] y i (append-nil bytes ∙ e), λ b. none b.0 b.1 [] b.2 (b.4 ∙ sym (append-nil (spelling b.0))))
 
--- the same of a first byte and the bytes after it
+-- the same for a first byte and the bytes after it
 pub refused_by : (h : ℕ) (bytes : List ℕ) → ((x : List ℕ) → Front h (bytes ++ x) → ⊥) → IsNoCommand (h ∷ bytes)
 refused_by h bytes none = refused (h ∷ bytes) (λ c x y i e. none x (front c h (bytes ++ x) y i e))
 
--- ---- what bytes begin
+-- ---- bytes that begin a spelling
 
 empty_below : (bytes : List ℕ) → length bytes < 1 → bytes ≡ []
 empty_below [] l = refl
@@ -120,7 +120,7 @@ begins_short a b bytes l m n o z =
     let sum = 16 * raised (component stepped_here_too.0) 5 + raised (component stepped_here.0) 5 in
     begins_two (LMove stepped_here.0 stepped_here_too.0) (64 * b + 16 * a + 12) sum bytes z (both_true (is_short stepped_here.0) (is_short stepped_here_too.0) stepped_here.1 stepped_here_too.1) (ap (λ v. (64 * axis stepped_here_too.0 + 16 * v + 12) ∷ sum ∷ []) stepped_here.3 ∙ ap (λ v. (64 * v + 16 * a + 12) ∷ sum ∷ []) stepped_here_too.3)
 
--- ---- what bytes are refused
+-- ---- refused bytes
 
 pub refused_group : (d : Diff) (k : ℕ) (bytes : List ℕ) → k < 2 → IsNear d → SaysFar bytes far.Bad
     → IsNoCommand ((8 * near_code d + k) ∷ bytes)

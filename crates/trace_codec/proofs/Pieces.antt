@@ -1,4 +1,4 @@
--- Bytes that come in pieces: what is known of their front is known of them all.
+-- Bytes in pieces: facts of their front hold of them all.
 use Rattle.std.proofs.Common.{◌≡◌, ◌≢◌, ℕ, ◌+◌, ◌-◌, ◌<◌, ◌≤◌, min, refl, sym, ◌∙◌, ap, subst, inl, inr, arith, List, [], ◌∷◌, ◌++◌, length, take, drop}
 use Rattle.std.specs.Prelude.{◌⊎◌, IsTrue, IsFalse}
 use Rattle.std.proofs.lemmas.Bool.{cases_lt}
@@ -30,7 +30,7 @@ begins_short bytes (c, more, i, n, e) =
 
 -- ---- bytes that go on
 
--- of two fronts of the same bytes the shorter begins the longer
+-- the shorter of two fronts of the same bytes is a prefix of the longer
 prefix : (a b x y : List ℕ) → a ++ x ≡ b ++ y → length b ≤ length a → (r : List ℕ) × (a ≡ b ++ r)
 prefix a [] x y e l = (a, refl)
 prefix [] (v ∷ b) x y e l = absurd (omega arith)
@@ -45,7 +45,7 @@ prefix (u ∷ a) (v ∷ b) x y e l = by_tails (prefix a b x y (tails u v (a ++ x
     by_tails : (r : List ℕ) × (a ≡ b ++ r) → u ≡ v → (r : List ℕ) × (u ∷ a ≡ (v ∷ b) ++ r)
     by_tails (r, p) q = (r, λ i. q i ∷ p i)
 
--- what is refused is refused however it goes on
+-- refused bytes are refused however they go on
 pub refused_more : (bytes more : List ℕ) → IsNoCommand bytes → IsNoCommand (bytes ++ more)
 refused_more bytes more h = (none, part)
   where
@@ -65,7 +65,7 @@ refused_more bytes more h = (none, part)
     part : BeginsSpelling (bytes ++ more) → ⊥
     part (c, m, i, n, e) = h.1 (c, more ++ m, i, λ z. n (nil_of more m z), sym (append_assoc bytes more m) ∙ e)
 
--- four bytes tell what all that go on as they do begin with
+-- four bytes determine the beginning of all their extensions
 pub says_more : (front rest : List ℕ) (one : One) → 4 ≤ length front → BeginsWith front one
     → BeginsWith (front ++ rest) one
 says_more front rest (Got c n) l s = record {
@@ -76,7 +76,7 @@ says_more front rest (Got c n) l s = record {
 says_more front rest More l s = let short_front = begins_short front s in absurd (omega arith)
 says_more front rest Bad l s = refused_more front rest s
 
--- the held bytes, and as many of the piece as make four, tell what all of them begin with
+-- the held bytes, and as many of the piece as make four, determine the beginning of all of them
 pub says_joined : (held piece bytes : List ℕ) (one : One) → length held < 4
     → bytes ≡ held ++ take (min (length piece) (4 - length held)) piece → BeginsWith bytes one
     → BeginsWith (held ++ piece) one
@@ -89,13 +89,13 @@ says_joined held piece bytes one l e s = by_length (min (length piece) (4 - leng
         subst (λ (b : List ℕ). BeginsWith b one) (append_assoc held (take n piece) (drop n piece) ∙ ap (λ x. held ++ x) (take-append-drop n piece)) (says_more (held ++ take n piece) (drop n piece) one four s)
     by_length n m (inr k) s = subst (λ (b : List ℕ). BeginsWith (held ++ b) one) (take_all n piece k) s
 
--- where nothing is held the piece does
+-- if nothing is held, the piece does
 pub says_alone : (held piece bytes : List ℕ) (one : One) → length held ≡ 0 → bytes ≡ piece → BeginsWith bytes one
     → BeginsWith (held ++ piece) one
 says_alone [] piece bytes one l e s = subst (λ (b : List ℕ). BeginsWith b one) e s
 says_alone (b ∷ held) piece bytes one l e s = absurd (omega arith)
 
--- ---- what a decoder answers
+-- ---- the answers of a decoder
 
 -- a command that is whole now ends in the piece
 pub ends_later : (held piece : List ℕ) (c : Command) (len : ℕ) → BeginsSpelling held → Spells (held ++ piece) c len
@@ -123,7 +123,7 @@ completes decoder piece c len used f b s e =
       spelling_is = sym (take-append-add decoder.held piece used) ∙ (ap (λ k. take k (decoder.held ++ piece)) (sym len_is) ∙ s.spelling_is);
     }
 
--- the held bytes and the piece are a command's spelling and what is left of the piece
+-- the held bytes and the piece are a command's spelling and the rest of the piece
 pub fed_split : (decoder : DecoderState) (piece : List ℕ) (c : Command) (used : ℕ) → Completes decoder piece c used
     → decoder.held ++ piece ≡ spelling c ++ drop used piece
 fed_split decoder piece c used s =
@@ -138,7 +138,7 @@ used_is decoder piece c used s =
 not_both : (decoder : DecoderState) → IsFalse decoder.failed → IsTrue decoder.failed → ⊥
 not_both decoder f t = cc
 
--- a decoder has one answer to a piece
+-- a decoder has only one answer to a piece
 pub Answers-unique : (decoder : DecoderState) (piece : List ℕ) (a b : Fed) → AnswersPiece decoder piece a
     → AnswersPiece decoder piece b → a ≡ b
 Answers-unique decoder piece (fed.Got c n) (fed.Got d m) s t =

@@ -1,4 +1,4 @@
--- What a decoder has taken of a trace, and how the trace is then decoded.
+-- The bytes that a decoder has taken of a trace, and the decoding of the trace.
 use Rattle.std.proofs.Common.{◌≡◌, ◌≢◌, ℕ, ◌+◌, ◌≤◌, refl, sym, ◌∙◌, ap, subst, inl, inr, arith, List, [], ◌∷◌, ◌++◌, length, take}
 use Rattle.std.specs.Prelude.{Ok, Err}
 use Rattle.std.proofs.lemmas.List.{append-nil, append_assoc, flat_map_more, length-append}
@@ -27,7 +27,7 @@ pub spellings_more : (commands : List Command) (c : Command)
     → spellings (commands ++ c ∷ []) ≡ spellings commands ++ spelling c
 spellings_more commands c = sym (flat_map_more spelling [] commands c)
 
--- commands whose spellings are followed by what no spelling begins are the longest front
+-- commands whose spellings precede bytes that no spelling begins are the longest front
 longest : (cs ds : List Command) (rest other : List ℕ) → AreCommands cs → AreCommands ds
     → spellings cs ++ rest ≡ spellings ds ++ other → NoSpelling rest → length rest ≤ length other
 longest cs [] rest other h k e n =
@@ -49,13 +49,13 @@ length_is bytes commands rest offset e o =
     let same_length : length bytes ≡ length (spellings commands ++ rest) = ap length e in
     omega (arith, length-append (spellings commands) rest)
 
--- bytes are bad from where commands are followed by what is refused
+-- bytes are bad from the refused bytes after the commands on
 pub bad_at : (bytes : List ℕ) (commands : List Command) (rest : List ℕ) (offset : ℕ) → AreCommands commands
     → bytes ≡ spellings commands ++ rest → offset ≡ length (spellings commands) → IsNoCommand rest
     → Decoding bytes (Err (BadAt offset))
 bad_at bytes commands rest offset h e o r = (rest, rest_of bytes commands rest h e r.0, λ n. r.1 (subst (λ (b : List ℕ). BeginsSpelling b) (sym n) begins_nil), length_is bytes commands rest offset e o, r.1)
 
--- bytes are cut where commands are followed by a part of a spelling
+-- bytes are cut at the prefix of a spelling after the commands
 pub cut_at : (bytes : List ℕ) (commands : List Command) (rest : List ℕ) (offset : ℕ) → AreCommands commands
     → bytes ≡ spellings commands ++ rest → offset ≡ length (spellings commands) → rest ≢ [] → BeginsSpelling rest
     → Decoding bytes (Err (CutAt offset))
@@ -104,7 +104,7 @@ taken_bad bytes piece more commands decoder offset h (e, inr r) =
     (e ∙ h.offset_is)
     (refused_more (decoder.held ++ piece) more r)
 
--- what the decoder answers at the end is how the bytes are decoded
+-- the decoder's answer at the end is the decoding of the bytes
 pub taken_ended : (bytes : List ℕ) (commands : List Command) (decoder : DecoderState) (refusal : TraceRefusal)
     → HasTaken bytes commands decoder → EndsTrace {A = Unit {0}} decoder (Err refusal)
     → Decodes bytes (Err (Refused refusal))

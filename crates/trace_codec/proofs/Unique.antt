@@ -1,4 +1,4 @@
--- What bytes begin with is one thing.
+-- The beginning of bytes is unique.
 use Rattle.std.proofs.Common.{◌≡◌, ℕ, ◌<◌, refl, sym, ◌∙◌, ap, arith, List, [], ◌∷◌, ◌++◌, length, drop}
 use Rattle.std.proofs.lemmas.List.{append-nil, append_assoc, length-take-le, take-append-drop}
 use Rattle.nano_spec.specs.declared.commands.Command.{Command}
@@ -30,7 +30,7 @@ pub nil_of : (x y : List ℕ) → x ++ y ≡ [] → y ≡ []
 nil_of [] y e = e
 nil_of (b ∷ x) y e = cc
 
--- a spelling and what follows it are no proper part of a spelling
+-- a spelling with anything after it is no proper part of a spelling
 pub no_part : (bytes rest : List ℕ) (c : Command) → IsCommand c → bytes ≡ spelling c ++ rest → BeginsSpelling bytes → ⊥
 no_part bytes rest c i e b =
     b.3 (nil_of rest b.1 (one_spelling c b.0 (rest ++ b.1) [] i b.2 (sym (append_assoc (spelling c) rest b.1) ∙ (ap (λ x. x ++ b.1) (sym e) ∙ (b.4 ∙ sym (append-nil (spelling b.0)))))).1)

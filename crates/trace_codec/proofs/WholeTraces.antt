@@ -1,4 +1,4 @@
--- Whole traces: the answer to their bytes is the one that the definition gives.
+-- Whole traces: the answer to their bytes is the definition's.
 use Rattle.std.proofs.Common.{◌≡◌, ◌≢◌, ℕ, ◌+◌, ◌-◌, ◌<◌, ◌≤◌, refl, sym, ◌∙◌, ap, subst, arith, List, [], ◌∷◌, ◌++◌, length, take, drop}
 use Rattle.std.specs.Prelude.{Result, Ok, Err}
 use Rattle.std.proofs.lemmas.List.{append_assoc, drop-drop, drop_all, length-append, length-drop, take_rest}
@@ -13,7 +13,7 @@ use Rattle.trace_codec.specs.Whole.{Decodes, IsDecoding, why_no_trace}
 use Rattle.trace_codec.proofs.TakenBytes.{are_commands_more, spellings_more, bad_at, cut_at, whole}
 use Rattle.trace_codec.proofs.Unique.{split, len_is}
 
--- the answer is how the bytes are decoded, and bytes are decoded in one way
+-- the answer is the decoding of the bytes, and that is unique
 pub is_answer : (bytes : List ℕ) (answer : Result (List Command) TraceFault) (decoding : Result (List Command) NoTrace)
     → Decodes bytes answer → Decoding bytes decoding → IsDecoding answer decoding
 is_answer bytes (Ok commands) decoding h k = Decoding-unique bytes decoding (Ok commands) k h
@@ -23,7 +23,7 @@ is_answer bytes (Err Memory) decoding h k = tt
 same_commands : (a b : List Command) → (let result : Result (List Command) NoTrace = Ok a in result) ≡ Ok b → a ≡ b
 same_commands a b e = cc
 
--- commands that are encoded are decoded as the same commands
+-- encoded commands decode to the same commands
 pub decoded_again : (commands : List Command) (bytes : List ℕ) (answer : Result (List Command) TraceFault)
     → Cutting bytes commands → Decodes bytes answer → answer ≢ Err Memory → answer ≡ Ok commands
 decoded_again commands bytes answer h k n = by_answer answer (is_answer bytes answer (Ok commands) k h) n
@@ -61,7 +61,7 @@ cut_on bytes commands start c len h s =
 some_left : (bytes : List ℕ) (start : ℕ) → start < length bytes → drop start bytes ≢ []
 some_left bytes start l e = let same_length : length (drop start bytes) ≡ length {A = ℕ} [] = ap length e in absurd (omega (arith, length-drop start bytes))
 
--- what is left from the start on, as a slice says it
+-- the rest from the start on, as a slice
 abbrev pub left_from : List ℕ → ℕ → List ℕ
 left_from bytes start = take (length bytes - start) (drop start bytes)
 

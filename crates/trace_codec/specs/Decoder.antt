@@ -1,4 +1,4 @@
--- What a decoder has taken, what it answers to a piece, and what it then is.
+-- A decoder's state, its answer to a piece, and its next state.
 use Rattle.std.specs.Prelude.{◌≡◌, ◌≢◌, ℕ, ◌+◌, ◌≤◌, Bool, true, false, IsTrue, IsFalse, ◌⊎◌, List, [], ◌++◌, length, take, Result, Ok, Err}
 use Rattle.nano_spec.specs.declared.commands.Command.{Command}
 use Rattle.nano_spec.specs.Command.{IsCommand}
@@ -10,7 +10,7 @@ use Rattle.trace_codec.specs.declared.fault.TraceRefusal.{TraceRefusal}
 use Rattle.trace_codec.specs.declared.fault.TraceRefusal.TheVariants as refusal
 use Rattle.trace_codec.specs.One.{IsNoCommand}
 
--- a decoder as contracts see it: the bytes that it holds of the next command, where the first of them stands in the
+-- the view of a decoder in contracts: the bytes that it holds of the next command, the offset of the first of them in the
 -- trace, and whether it has failed
 pub record DecoderState : Type 0 where
   pub held : List ℕ
@@ -33,33 +33,33 @@ pub record Completes (decoder : DecoderState) (piece : List ℕ) (command : Comm
   pub within : used ≤ length piece
   pub spelling_is : decoder.held ++ take used piece ≡ spelling command
 
--- what a decoder answers to a piece
+-- the answer of a decoder to a piece
 abbrev pub AnswersPiece : DecoderState → List ℕ → Fed → Type 0
 AnswersPiece decoder piece (Got command used) = Completes decoder piece command used
 AnswersPiece decoder piece All = IsFalse decoder.failed × BeginsSpelling (decoder.held ++ piece)
 AnswersPiece decoder piece (Bad offset) =
     (offset ≡ decoder.offset) × (IsTrue decoder.failed ⊎ IsNoCommand (decoder.held ++ piece))
 
--- what a decoder is after that answer
+-- the decoder after that answer
 abbrev pub decoder_after : DecoderState → List ℕ → Fed → DecoderState
 decoder_after decoder piece (Got command used) =
     record { held = []; offset = decoder.offset + length (spelling command); failed = false }
 decoder_after decoder piece All = record { held = decoder.held ++ piece; offset = decoder.offset; failed = false }
 decoder_after decoder piece (Bad offset) = record { held = decoder.held; offset = decoder.offset; failed = true }
 
--- how many bytes of the piece a decoder has taken with that answer
+-- the number of bytes of the piece that a decoder has taken with that answer
 abbrev pub bytes_taken : List ℕ → Fed → ℕ
 bytes_taken piece (Got command used) = used
 bytes_taken piece All = length piece
 bytes_taken piece (Bad offset) = 0
 
--- what a decoder answers where no more bytes come
+-- the answer of a decoder at the end of the bytes
 abbrev pub EndsTrace : {A : Type 0} → DecoderState → Result A TraceRefusal → Type 0
 EndsTrace decoder (Ok _) = IsFalse decoder.failed × (decoder.held ≡ [])
 EndsTrace decoder (Err (refusal.Cut offset)) = IsFalse decoder.failed × (decoder.held ≢ []) × (offset ≡ decoder.offset)
 EndsTrace decoder (Err (refusal.Bad offset)) = IsTrue decoder.failed × (offset ≡ decoder.offset)
 
--- the decoder has taken the bytes, and has given the commands: their spellings, and after them what is held, are the
+-- the decoder has taken the bytes and returned the commands: their spellings, followed by the held bytes, are the
 -- bytes
 pub record HasTaken (bytes : List ℕ) (commands : List Command) (decoder : DecoderState) : Type 0 where
   pub works : IsFalse decoder.failed

@@ -1,4 +1,4 @@
--- What bytes begin with: a spelling, a part of one, or neither.
+-- The beginning of bytes: a spelling, a prefix of one, or neither.
 use Rattle.std.specs.Prelude.{◌≡◌, ℕ, ◌≤◌, List, ◌++◌, length, take}
 use Rattle.nano_spec.specs.declared.commands.Command.{Command}
 use Rattle.nano_spec.specs.Command.{IsCommand}
@@ -17,11 +17,11 @@ pub record Spells (bytes : List ℕ) (command : Command) (len : ℕ) : Type 0 wh
 abbrev pub NoSpelling : List ℕ → Type 0
 NoSpelling bytes = (command : Command) (rest : List ℕ) → IsCommand command → bytes ≡ spelling command ++ rest → ⊥
 
--- no spelling begins the bytes, and they are no part of one
+-- no spelling begins the bytes, and they are no prefix of one
 abbrev pub IsNoCommand : List ℕ → Type 0
 IsNoCommand bytes = NoSpelling bytes × (BeginsSpelling bytes → ⊥)
 
--- what the bytes begin with
+-- the beginning of the bytes
 abbrev pub BeginsWith : List ℕ → One → Type 0
 BeginsWith bytes (Got command len) = Spells bytes command len
 BeginsWith bytes More = BeginsSpelling bytes

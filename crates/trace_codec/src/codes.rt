@@ -1,4 +1,4 @@
-//! Differences from the numbers that stand for them in a trace.
+//! Differences from their numbers in a trace.
 ghost use Rattle.std.specs.Prelude.{◌≡◌, ◌≢◌, ◌<◌, ◌≤◌, ◌-ℤ◌, pos, [], ◌∷◌, MatchOption};
 ghost use Rattle.vox_geom.specs.declared.difference.Diff.{Diff};
 ghost use Rattle.vox_geom.specs.Difference.{IsFar, IsLong, IsNear, IsShort};
@@ -6,13 +6,13 @@ ghost use Rattle.nano_spec.specs.Spelling.{axis as axis_of, component as compone
 
 use vox_geom::{Diff, Far, Long, Near, Short};
 
-/// The near difference whose code is the number: its components and 1 are the three digits in base 3.
+/// Returns the near difference with the code: its components and 1 are the three digits in base 3.
 #[inline(always)]
 pub(crate) fn near_at(code: u8) -> Option<Near>
     requires { code < 32 }
     ensures { MatchOption result ((d : Diff) → IsNear d → near_code d ≢ code) (λ d. IsNear d × (near_code d ≡ code)) }
 {
-    // A table, since constants leave nothing to be tested when it runs.
+    // A table of constants: nothing is left to test at run time.
     match code {
         1 => Some(near(-1, -1, 0)),
         3 => Some(near(-1, 0, -1)),
@@ -36,7 +36,7 @@ pub(crate) fn near_at(code: u8) -> Option<Near>
     }
 }
 
-/// The near difference with these components.
+/// Returns the near difference with these components.
 #[inline(always)]
 fn near(dx: i16, dy: i16, dz: i16) -> Near
     requires { IsNear (record { dx = dx; dy = dy; dz = dz }) }
@@ -45,7 +45,7 @@ fn near(dx: i16, dy: i16, dz: i16) -> Near
     Near::of(Diff { dx, dy, dz }).unwrap()
 }
 
-/// The long difference along an axis, 1 for x, 2 for y, 3 for z, whose component and 15 are the number.
+/// Returns the long difference along an axis, 1 for x, 2 for y, 3 for z, whose component and 15 are the number.
 #[inline(always)]
 pub(crate) fn long_at(axis: u8, code: u8) -> Option<Long>
     requires low { 1 ≤ axis }
@@ -62,7 +62,7 @@ pub(crate) fn long_at(axis: u8, code: u8) -> Option<Long>
     }
 }
 
-/// The short difference along an axis, 1 for x, 2 for y, 3 for z, whose component and 5 are the number.
+/// Returns the short difference along an axis, 1 for x, 2 for y, 3 for z, whose component and 5 are the number.
 #[inline(always)]
 pub(crate) fn short_at(axis: u8, code: u8) -> Option<Short>
     requires low { 1 ≤ axis }
@@ -112,7 +112,7 @@ fn along_z(component: i16) -> Diff
     }
 }
 
-/// The far difference whose components and 30 are the three numbers.
+/// Returns the far difference whose components and 30 are the three numbers.
 #[inline(always)]
 pub(crate) fn far_at(x: u8, y: u8, z: u8) -> Option<Far>
     ensures { MatchOption result ((d : Diff) → IsFar d → far_bytes d ≢ x ∷ y ∷ z ∷ [])
@@ -121,7 +121,7 @@ pub(crate) fn far_at(x: u8, y: u8, z: u8) -> Option<Far>
     Far::of(lower_far(x, y, z))
 }
 
-/// The difference whose components and 30 are the three numbers.
+/// Returns the difference whose components and 30 are the three numbers.
 #[inline(always)]
 fn lower_far(x: u8, y: u8, z: u8) -> Diff
     ensures { result ≡ record { dx = pos x -ℤ pos 30; dy = pos y -ℤ pos 30; dz = pos z -ℤ pos 30 } }

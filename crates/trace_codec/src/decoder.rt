@@ -1,4 +1,4 @@
-//! A trace that comes in pieces.
+//! Decoding a trace in pieces.
 ghost use Rattle.std.specs.Prelude.{◌≡◌, ◌↔◌, ℕ, ◌+◌, ◌-◌, ◌<◌, ◌≤◌, ◌^◌, true, IsFalse, List, [], ◌∷◌, ◌++◌, length, min, take as front_of};
 ghost use Rattle.trace_codec.specs.declared.decoder.Fed.{Fed};
 ghost use Rattle.trace_codec.specs.Decoder.{AnswersPiece, EndsTrace, IsBetween, decoder_after, fresh, bytes_taken};
@@ -11,18 +11,18 @@ use arrayvec::ArrayVec;
 use nano_spec::Command;
 use std::marker::Model;
 
-/// What a decoder answers to a piece.
+/// The answer of a decoder to a piece.
 #[derive(Clone, Copy, PartialEq, Eq, Debug)]
 pub enum Fed {
-    /// The bytes that were held and the first `used` bytes of the piece spell the command. The rest of the piece is to be fed next.
+    /// The held bytes and the first `used` bytes of the piece spell the command. The caller feeds the rest of the piece next.
     Got { command: Command, used: usize },
-    /// The whole piece was taken, and the next is to be fed.
+    /// The whole piece was taken. The caller feeds the next piece.
     All,
-    /// What begins at the offset is no command. From now on every call answers this.
+    /// The bytes at the offset begin no command. From now on every call answers this.
     Bad { offset: u64 },
 }
 
-/// Cuts a trace that comes in pieces into commands. It holds at most three bytes, those of a command that goes on in the next piece.
+/// Cuts a trace in pieces into commands. It holds at most three bytes: the front of a command that continues in the next piece.
 #[derive(Debug, Drop)]
 pub struct Decoder {
     held: ArrayVec<u8, 3>,
@@ -42,7 +42,7 @@ impl Model for Decoder {
 }
 
 impl Decoder {
-    /// A decoder that has taken nothing.
+    /// Returns a decoder that has taken nothing.
     pub fn new() -> Decoder
         ensures { result ≡ fresh }
     {
@@ -57,9 +57,9 @@ impl Decoder {
     #[inline(always)]
     pub fn feed(&mut self, piece: &[u8]) -> Fed
         requires { self.old.offset + length self.old.held + length piece.now < 2 ^ 63 }
-        // What the answer says of the bytes.
+        // The answer is true of the bytes.
         ensures answer { AnswersPiece self.old piece.now result }
-        // No other answer says something true.
+        // No other answer is.
         ensures only { (other : Fed) → AnswersPiece self.old piece.now other → other ≡ result }
         ensures after { self.new ≡ decoder_after self.old piece.now result }
         ensures held { length self.new.held ≤ 3 }
@@ -74,7 +74,7 @@ impl Decoder {
         self.take(self.front(piece), piece)
     }
 
-    /// Whether the next byte of the trace begins a command: nothing is held, and no command was refused.
+    /// Returns whether the next byte of the trace begins a command: nothing is held, and no command was refused.
     #[inline(always)]
     pub fn is_between(&self) -> bool
         ensures { result ≡ true ↔ IsBetween self.now }
@@ -82,8 +82,8 @@ impl Decoder {
         !self.failed && self.held.is_empty()
     }
 
-    /// The answer of [`Decoder::feed`] to a piece that begins with this byte, where a command begins. Where the caller has the byte
-    /// as a constant, all that is looked up by it is one, too.
+    /// [`Decoder::feed`] for a piece that begins with this byte, between commands. If the byte is a constant, all lookups by it are
+    /// constants too.
     #[inline(always)]
     pub fn feed_from(&mut self, head: u8, piece: &[u8]) -> Fed
         requires between { IsBetween self.old }
@@ -106,8 +106,8 @@ impl Decoder {
         }
     }
 
-    /// Takes the command that a piece begins with, where a command begins and its whole spelling is there. Otherwise the decoder
-    /// stays as it is. The caller has the first byte, as for [`Decoder::feed_from`].
+    /// Takes the command at the front of a piece, between commands, if its whole spelling is there. Otherwise the decoder stays as
+    /// it is. The caller passes the first byte, as for [`Decoder::feed_from`].
     #[inline(always)]
     pub fn take_front(&mut self, head: u8, piece: &[u8]) -> One
         requires between { IsBetween self.old }
@@ -123,7 +123,7 @@ impl Decoder {
         front
     }
 
-    /// Takes what the held bytes and the piece begin with.
+    /// Takes the command at the front of the held bytes and the piece.
     #[inline(always)]
     fn take(&mut self, front: One, piece: &[u8]) -> Fed
         requires works { IsFalse self.old.failed }
@@ -155,7 +155,7 @@ impl Decoder {
         }
     }
 
-    /// What the held bytes and the piece begin with.
+    /// Returns the beginning of the held bytes and the piece.
     #[inline(always)]
     fn front(&self, piece: &[u8]) -> One
         ensures { BeginsWith (self.now.held ++ piece.now) result }
@@ -170,7 +170,7 @@ impl Decoder {
         decode_one(bytes)
     }
 
-    /// Where the next command begins, or the one that was refused: how many bytes the commands so far have.
+    /// Returns the offset of the next command, or of the refused one: the number of bytes of the commands so far.
     #[inline(always)]
     pub fn offset(&self) -> u64
         ensures { result ≡ self.now.offset }
@@ -178,7 +178,7 @@ impl Decoder {
         self.offset
     }
 
-    /// Whether the trace may end here.
+    /// Returns an error if the trace may not end here.
     pub fn end(&self) -> Result<(), TraceRefusal>
         ensures { EndsTrace self.now result }
     {
@@ -196,7 +196,7 @@ impl Decoder {
     }
 }
 
-/// Makes the first four bytes, or all if there are fewer, of two slices: no spelling is longer.
+/// Joins the first four bytes, or all if there are fewer, of two slices: no spelling is longer.
 #[cold]
 #[inline(never)]
 fn join(joined: &mut ArrayVec<u8, 4>, held: &[u8], piece: &[u8])

@@ -1,24 +1,25 @@
-//! Why bytes are no trace.
+//! The reasons why bytes are no trace.
 ghost use Rattle.std.specs.Prelude.{◌≡◌};
 ghost use Rattle.trace_codec.specs.declared.fault.TraceFault.TheVariants.{Memory, Refused};
 
 use vox_geom::Memory;
 
-/// Why bytes are no trace (docs/FORMATS.md, "Trace files"). Offsets are counted from 0 and name the first byte of the command that is refused.
+/// The reason why bytes are no trace (docs/FORMATS.md, "Trace files"). Offsets count from 0, to the first byte of the refused
+/// command.
 #[derive(Clone, Copy, PartialEq, Eq, Debug)]
 pub enum TraceRefusal {
-    /// What begins there is no command's spelling.
+    /// The bytes at the offset begin no command's spelling.
     Bad { offset: u64 },
-    /// The trace ends within the command that begins there.
+    /// The trace ends within the command at the offset.
     Cut { offset: u64 },
 }
 
-/// Why a trace was not decoded.
+/// The reason why a trace was not decoded.
 #[derive(Clone, Copy, PartialEq, Eq, Debug)]
 pub enum TraceFault {
     /// The bytes are no trace.
     Refused(TraceRefusal),
-    /// There was no memory.
+    /// Allocation failed.
     Memory,
 }
 

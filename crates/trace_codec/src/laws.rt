@@ -1,4 +1,4 @@
-//! Laws of the codec, each the contract of a function that does nothing.
+//! Laws of the codec, each the contract of a function without effect.
 ghost use Rattle.std.specs.Prelude.{◌≡◌, ◌≢◌, ℕ, List, [], ◌∷◌, ◌++◌, Result, flat_map, take};
 ghost use Rattle.nano_spec.specs.declared.commands.Command.{Command};
 ghost use Rattle.nano_spec.specs.Cutting.{BadAt, Cutting, Decoding};
@@ -10,9 +10,8 @@ ghost use Rattle.trace_codec.specs.Decoder.{AnswersPiece, DecoderState, EndsTrac
 ghost use Rattle.trace_codec.specs.Pieces.{Feeds};
 ghost use Rattle.trace_codec.specs.Whole.{Decodes};
 
-/// A decoder cuts a trace as a whole is cut, in whatever pieces it comes. What it has taken stands to what it has given
-/// as `HasTaken` says at the start, after each answer, and after any list of pieces, until it refuses the trace or the trace
-/// ends.
+/// A decoder splits a trace as a whole is split, whatever the pieces. The taken bytes and the returned commands satisfy `HasTaken`
+/// at the start, after each answer, and after any list of pieces, until it refuses the trace or the trace ends.
 pub fn pieces_decode()
     ensures start { HasTaken [] [] fresh }
     ensures got { (bytes piece : List ℕ) (commands : List Command) (decoder : DecoderState) (command : Command)
@@ -31,7 +30,7 @@ pub fn pieces_decode()
         HasTaken bytes commands decoder → AnswersPiece decoder piece (fed.Bad offset) →
         Decoding ((bytes ++ piece) ++ more) (Err (BadAt offset)) }
 
-    // Where no more bytes come.
+    // If no more bytes come.
     ensures whole { (bytes : List ℕ) (commands : List Command) (decoder : DecoderState) →
         HasTaken bytes commands decoder → EndsTrace {A = Unit {0}} decoder (Ok tt) → Decodes bytes (Ok commands) }
     ensures cut { (bytes : List ℕ) (commands : List Command) (decoder : DecoderState) (refusal : TraceRefusal)
@@ -39,7 +38,7 @@ pub fn pieces_decode()
         → Decodes bytes (Err (fault.Refused refusal)) }
 {}
 
-/// Commands that are encoded are decoded as the same commands, and a trace that is decoded is encoded as the same bytes.
+/// Encoded commands decode to the same commands, and a decoded trace encodes to the same bytes.
 pub fn encoding_and_decoding()
     ensures decoded { (commands : List Command) (bytes : List ℕ) (answer : Result (List Command) TraceFault) →
         Cutting bytes commands → Decodes bytes answer → answer ≢ Err fault.Memory → answer ≡ Ok commands }

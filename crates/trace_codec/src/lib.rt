@@ -1,5 +1,5 @@
-//! The bytes of a trace (docs/FORMATS.md, "Trace files"): every command's one spelling, both ways, whole or in any pieces.
-//! Only `decode_all` and `encode_all` take memory.
+//! The bytes of a trace (docs/FORMATS.md, "Trace files"): every command's unique spelling, both ways, whole or in any pieces. Only
+//! `decode_all` and `encode_all` allocate.
 #![tactic(auto)]
 
 mod codes;

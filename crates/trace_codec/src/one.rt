@@ -10,23 +10,23 @@ use crate::codes::{far_at, long_at, near_at, short_at};
 use nano_spec::Command;
 use vox_geom::{Far, Near};
 
-/// What bytes begin with.
+/// The beginning of some bytes.
 #[derive(Clone, Copy, PartialEq, Eq, Debug)]
 pub enum One {
     /// The first `len` bytes spell the command.
     Got { command: Command, len: u8 },
-    /// The bytes are a part of a spelling, and may go on as one. No bytes are such a part.
+    /// The bytes are a proper prefix of a spelling. The empty slice is one.
     More,
-    /// No spelling begins the bytes, and they are no part of one.
+    /// No spelling begins the bytes, and they are no prefix of one.
     Bad,
 }
 
-/// What the bytes begin with. Bytes may follow a command.
+/// Returns the beginning of the bytes. More bytes may follow a command.
 #[inline(always)]
 pub fn decode_one(bytes: &[u8]) -> One
-    // What the answer says of the bytes.
+    // The answer is true of the bytes.
     ensures answer { BeginsWith bytes.now result }
-    // No other answer says something true.
+    // No other answer is.
     ensures only { (other : One) → BeginsWith bytes.now other → other ≡ result }
 {
     match bytes {
@@ -35,7 +35,7 @@ pub fn decode_one(bytes: &[u8]) -> One
     }
 }
 
-/// What bytes begin with whose first one the caller has.
+/// [`decode_one`] for bytes whose first one the caller knows.
 #[inline(always)]
 pub(crate) fn decode_by(head: u8, bytes: &[u8]) -> One
     requires { (rest : List ℕ) × (bytes.now ≡ head ∷ rest) }
@@ -44,7 +44,7 @@ pub(crate) fn decode_by(head: u8, bytes: &[u8]) -> One
     decode_from(head, &bytes[1..])
 }
 
-/// What a byte and the bytes after it begin with.
+/// Returns the beginning of a byte and the bytes after it.
 #[inline(always)]
 fn decode_from(head: u8, rest: &[u8]) -> One
     ensures { BeginsWith (head ∷ rest.now) result }
@@ -54,7 +54,7 @@ fn decode_from(head: u8, rest: &[u8]) -> One
     }
     match near_at(head / 8) {
         Some(near) => decode_near(head % 8, near, rest),
-        // 31 stands for no difference: it is left to the commands that have none.
+        // 31 is the code of no difference: it marks commands that have none.
         None => match head {
             0b1111_1111 => got(Command::Halt, 1),
             0b1111_1110 => got(Command::Wait, 1),
@@ -64,7 +64,7 @@ fn decode_from(head: u8, rest: &[u8]) -> One
     }
 }
 
-/// A command that takes `len` bytes.
+/// Returns a command of `len` bytes.
 #[inline(always)]
 fn got(command: Command, len: u8) -> One
     ensures { result ≡ One.Got command len }
@@ -72,7 +72,7 @@ fn got(command: Command, len: u8) -> One
     One::Got { command, len }
 }
 
-/// The command of one byte at a near difference, by the low three bits of the byte.
+/// Returns the command of one byte at a near difference, by the low three bits of the byte.
 #[inline(always)]
 fn one_byte(kind: u8, near: Near) -> Command
     ensures primary { kind ≡ 7 → result ≡ Command.FusionP near }
@@ -88,7 +88,7 @@ fn one_byte(kind: u8, near: Near) -> Command
     }
 }
 
-/// A command at a near difference, by the low three bits of its first byte and the bytes after it.
+/// Returns a command at a near difference, by the low three bits of its first byte and the bytes after it.
 #[inline(always)]
 fn decode_near(kind: u8, near: Near, rest: &[u8]) -> One
     requires bits { kind < 8 }
@@ -115,21 +115,21 @@ fn decode_near(kind: u8, near: Near, rest: &[u8]) -> One
     }
 }
 
-/// What bytes begin with where a far difference is to come.
+/// The beginning of bytes at a far difference.
 enum FarFront {
     Got(Far),
     More,
     Bad,
 }
 
-/// Whether each byte is a component of a far difference and 30, or would be if it were not 0 in all three.
+/// Returns whether each byte is a component of a far difference and 30, or would be if it were not 0 in all three.
 fn are_raised(bytes: &[u8]) -> bool
     ensures { IsTrue result ↔ All (λ b. b ≤ 60) bytes.now }
 {
     bytes.iter().all(|b| *b <= 60)
 }
 
-/// What the bytes begin with where a far difference is to come.
+/// Returns the beginning of the bytes at a far difference.
 #[inline(always)]
 fn far_front(bytes: &[u8]) -> FarFront
     ensures { SaysFar bytes.now result }
@@ -144,7 +144,7 @@ fn far_front(bytes: &[u8]) -> FarFront
     }
 }
 
-/// A move, by its first byte, whose low three bits are 100, and the bytes after it.
+/// Returns a move, by its first byte, whose low three bits are 100, and the bytes after it.
 #[inline(always)]
 fn decode_move(head: u8, rest: &[u8]) -> One
     requires { head % 8 ≡ 4 }
@@ -158,7 +158,7 @@ fn decode_move(head: u8, rest: &[u8]) -> One
     }
 }
 
-/// Two short moves, by their first byte, and the bytes after it.
+/// Returns a two-leg move, by its first byte, and the bytes after it.
 #[inline(always)]
 fn decode_two_moves(head: u8, rest: &[u8]) -> One
     requires low_bits { head % 8 ≡ 4 }
@@ -175,7 +175,7 @@ fn decode_two_moves(head: u8, rest: &[u8]) -> One
     decode_short(first, second, rest)
 }
 
-/// A long move along an axis, by the bytes after the first.
+/// Returns a long move along an axis, by the bytes after the first.
 #[inline(always)]
 fn decode_long(axis: u8, rest: &[u8]) -> One
     requires low { 1 ≤ axis }
@@ -191,7 +191,7 @@ fn decode_long(axis: u8, rest: &[u8]) -> One
     }
 }
 
-/// Two short moves along two axes, by the bytes after the first.
+/// Returns a two-leg move along two axes, by the bytes after the first.
 #[inline(always)]
 fn decode_short(first: u8, second: u8, rest: &[u8]) -> One
     requires first_low { 1 ≤ first }

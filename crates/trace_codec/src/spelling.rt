@@ -1,4 +1,4 @@
-//! A command's one spelling.
+//! A command's unique spelling.
 ghost use Rattle.std.specs.Prelude.{◌≡◌, ◌+◌, ◌*◌, ◌<◌, ◌≤◌, [], ◌∷◌, length, unsigned_abs};
 ghost use Rattle.vox_geom.specs.Difference.{IsFar, IsLong, IsNear, IsShort, mlen};
 ghost use Rattle.nano_spec.specs.Command.{IsCommand};
@@ -8,7 +8,7 @@ use arrayvec::ArrayVec;
 use nano_spec::Command;
 use vox_geom::{Diff, Far, Long, Near, Short};
 
-/// The command's spelling.
+/// Returns the command's spelling.
 #[inline(always)]
 pub fn encode_one(command: Command) -> ArrayVec<u8, 4>
     ensures spelling { result.items ≡ spelling command }
@@ -36,7 +36,7 @@ pub fn encode_one(command: Command) -> ArrayVec<u8, 4>
     }
 }
 
-/// How many bytes the command's spelling has.
+/// Returns the number of bytes of the command's spelling.
 pub(crate) fn spelled_len(command: &Command) -> usize
     ensures { result ≡ length (spelling command.now) }
 {
@@ -76,7 +76,7 @@ fn group_bytes(head: u8, far: Far) -> ArrayVec<u8, 4>
     bytes
 }
 
-/// The first byte of a command at a near difference, with these low three bits.
+/// Returns the first byte of a command at a near difference, with these low three bits.
 fn near_head(near: Near, low: u8) -> u8
     requires { low < 8 }
     ensures value { result ≡ 8 * near_code_of near + low }
@@ -85,7 +85,7 @@ fn near_head(near: Near, low: u8) -> u8
     8 * near_code(near) + low
 }
 
-/// The number that stands for a near difference.
+/// Returns the code of a near difference.
 #[tactic(auto, using(nano_spec::proofs::Codes::near_bounds))]
 fn near_code(near: Near) -> u8
     ensures value { result ≡ near_code_of near }
@@ -96,7 +96,7 @@ fn near_code(near: Near) -> u8
     9 * raise(d.dx, 1) + 3 * raise(d.dy, 1) + raise(d.dz, 1)
 }
 
-/// The axis of a linear difference: 1 for x, 2 for y, 3 for z.
+/// Returns the axis of a linear difference: 1 for x, 2 for y, 3 for z.
 fn axis(d: Diff) -> u8
     ensures value { result ≡ axis_of d }
     ensures below { result ≤ 3 }
@@ -110,7 +110,7 @@ fn axis(d: Diff) -> u8
     }
 }
 
-/// The number that stands for a long difference beside its axis.
+/// Returns the code of a long difference, which its axis completes.
 fn long_code(long: Long) -> u8
     ensures value { result ≡ raised_by (component_of long) 15 }
     ensures below { result ≤ 30 }
@@ -119,7 +119,7 @@ fn long_code(long: Long) -> u8
     raise(component(long.diff()), 15)
 }
 
-/// The number that stands for a short difference beside its axis.
+/// Returns the code of a short difference, which its axis completes.
 fn short_code(short: Short) -> u8
     ensures value { result ≡ raised_by (component_of short) 5 }
     ensures below { result ≤ 10 }
@@ -128,7 +128,7 @@ fn short_code(short: Short) -> u8
     raise(component(short.diff()), 5)
 }
 
-/// The one component of a linear difference that is not 0.
+/// Returns the one component of a linear difference that is not 0.
 fn component(d: Diff) -> i16
     requires { mlen d ≤ 15 }
     ensures value { result ≡ component_of d }
@@ -137,7 +137,7 @@ fn component(d: Diff) -> i16
     d.dx + d.dy + d.dz
 }
 
-/// A component with what is added to it, so that it is not negative.
+/// Returns a component with an offset that makes it not negative.
 #[tactic(auto, using(nano_spec::proofs::Codes::raised_small))]
 fn raise(component: i16, by: u8) -> u8
     requires within { unsigned_abs component ≤ by }

@@ -12,12 +12,12 @@ use nano_spec::{Command, CommandList};
 use std::alloc::Global;
 use vox_geom::Memory;
 
-/// The commands whose spellings, joined, are the bytes.
+/// Returns the commands whose joined spellings are the bytes.
 #[tactic(auto, using(crate::proofs::WholeTraces::is_answer))]
 pub fn decode_all(alloc: Global, bytes: &[u8]) -> Result<CommandList, TraceFault>
-    // What the answer says of the bytes.
+    // The answer is true of the bytes.
     ensures answer { Decodes bytes.now result }
-    // No other answer says something true, but that there is no memory.
+    // No other answer is, except out of memory.
     ensures only { (other : Result (List Command) NoTrace) → Decoding bytes.now other → IsDecoding result other }
 {
     let mut commands = CommandList::new(alloc);
@@ -43,7 +43,7 @@ pub fn decode_all(alloc: Global, bytes: &[u8]) -> Result<CommandList, TraceFault
     Ok(commands)
 }
 
-/// The spellings of the commands, joined.
+/// Returns the joined spellings of the commands.
 pub fn encode_all(alloc: Global, commands: &[Command]) -> Result<Vec<u8>, Memory>
     ensures { IfOk result (λ bytes. Cutting bytes.items commands.now) }
 {
@@ -54,7 +54,7 @@ pub fn encode_all(alloc: Global, commands: &[Command]) -> Result<Vec<u8>, Memory
     Ok(bytes)
 }
 
-/// Appends the bytes of a spelling one after another: they are few, and to copy a slice is a call.
+/// Appends the few bytes of a spelling one by one: copying a slice would be a call.
 #[inline(always)]
 fn append(bytes: &mut Vec<u8>, spelling: &[u8]) -> Result<(), Memory>
     ensures { IfOk result (λ _. bytes.new.items ≡ bytes.old.items ++ spelling.now) }
@@ -65,7 +65,7 @@ fn append(bytes: &mut Vec<u8>, spelling: &[u8]) -> Result<(), Memory>
     Ok(())
 }
 
-/// How many bytes the spellings of the commands have, if that is a `usize`.
+/// Returns the number of bytes of the commands' spellings, if that is a `usize`.
 fn encoded_len(commands: &[Command]) -> usize {
     let mut len = 0usize;
     for command in commands {

@@ -1,4 +1,4 @@
--- The run of an only bot, and what a command that is frequent makes of it.
+-- The run of an only bot, and the effect of a frequent command on it.
 use Rattle.std.proofs.Common.{◌≡◌, ℕ, ◌+◌, refl, sym, ◌∙◌, ap, subst, arith, List, [], ◌∷◌, ◌++◌, true, false, length}
 use Rattle.std.specs.Prelude.{Err}
 use Rattle.nano_spec.specs.declared.commands.Command.{Command}
@@ -25,7 +25,7 @@ running_as (mark.Refused b) e = cc
 running_as mark.Halted e = cc
 running_as mark.Followed e = cc
 
--- what the parts of a course are that is alone
+-- the parts of a course that is alone
 module _ (old : Situation) (pending : List Command) (m : Mark) (v : Course) (seen : course_of old pending m ≡ v) (alone : RunsAlone v) where
   pub runs : m ≡ mark.Running
   runs = running_as m (ap (λ (c : Course). c.progress.mark) seen ∙ alone.runs)
@@ -43,7 +43,7 @@ module _ (old : Situation) (pending : List Command) (m : Mark) (v : Course) (see
     joined : (P : List Command → Type 0) → P (command ∷ []) → P (pending ++ command ∷ [])
     joined P h = subst (λ (xs : List Command). P (xs ++ command ∷ [])) (sym none) h
 
-    -- it makes a step, so that what is said of a command that makes none is said of nothing
+    -- it makes a step, so the claim on commands that make none is vacuous
     touches : (q : Progress) (began ended : ℕ)
         → IsWithinWork old.state (command ∷ []) (old.steps + 1) (began + searched_by q.mark old.state.matrix) ended
         → Touches v.progress q command began ended

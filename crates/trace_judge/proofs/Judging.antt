@@ -1,4 +1,4 @@
--- A whole trace, command by command: the progress, and how often voxels are touched.
+-- A whole trace, command by command: the progress, and the touches.
 use Rattle.std.proofs.Common.{◌≡◌, ℕ, ◌+◌, ◌*◌, ◌≤◌, ◌<◌, ◌==◌, refl, sym, ◌∙◌, ap, subst, arith, List, [], ◌∷◌, ◌++◌, append_assoc, Bool, true, false, length, length-append, take, drop, get_or, add-one}
 use Rattle.std.specs.Prelude.{MatchBool}
 use Rattle.std.proofs.lemmas.List.{take-append-drop}
@@ -22,7 +22,7 @@ use Rattle.trace_judge.specs.Payment.{IsPaid, LeftAt, Touches}
 use Rattle.step_machine.specs.Situation.{searched_for}
 use Rattle.trace_judge.proofs.Works.{within_each}
 
--- ---- the work that is left
+-- ---- the remaining work
 
 abbrev Left : Progress → List Command → ℕ → ℕ → ℕ → ℕ → Type 0
 Left p rest v start now n = LeftAt p.mark p rest v start now n
@@ -41,7 +41,7 @@ searched_not : (bots : List Bot) (n : Matrix) → searched_by (mark_of bots) n �
 searched_not [] n = refl
 searched_not (b ∷ bots) n = refl
 
--- ---- the work of one step, taken from that of the rest
+-- ---- the work of one step, as part of the rest
 
 abbrev Paid : State → List Command → ℕ → ℕ → Outcome → Type 0
 Paid s all steps more (Goes t) = (n : ℕ) × (m : ℕ) × WorkOfStep s (take (length s.bots) all) (steps + 1) n × WorkFrom t (drop (length s.bots) all) (steps + 1) m × (more ≡ n + m)
@@ -80,7 +80,7 @@ module _ (p q : Progress) (command : Command) (rest : List Command) (v start bef
     some : p.state.bots ≡ [] → ⊥
     some e = let length_is = ap length e in let joined_length = length-append p.pending (command ∷ []) in let full_here = full in omega (arith, joined_length, length_is, full_here)
 
-    -- where steps go on, the work of the rest pays
+    -- if steps go on, the work of the rest pays
     on : (u : State) (bots : List Bot) → u.bots ≡ bots → (m : ℕ) → WorkFrom u rest (p.steps + 1) m
         → after + 100 * m ≤ start + 100 * n
         → LeftAt (mark_of bots) (stepped (with_command p command) (Goes u)) rest v start after n
@@ -138,7 +138,7 @@ left_on p q command rest v start before after n t space h l = by p.mark refl h l
         let no_step_here = no_step progress.Followed e (λ f. cc) in
         subst (λ (x : Progress). Left x rest v start after n) (sym j) (subst (λ (m : progress.Mark). LeftAt m p rest v start after n) (sym e) (omega (arith, no_step_here, w)))
 
--- ---- commands that come one after another
+-- ---- commands one after another
 
 pub paid_at_first : (source : Matrix) (profile : Profile) (p : Progress) (start : ℕ) → p ≡ begun source profile
     → IsPaid source profile [] p start start
@@ -206,7 +206,7 @@ judging_on source profile commands i old new command start before after l e h p 
     one_more : take (i + 1) commands ≡ take i commands ++ command ∷ []
     one_more = rw add-one (take-suc commands i command l ∙ ap (λ k. take i commands ++ k ∷ []) (sym e))
 
--- what was touched until no command is left
+-- the touches until no command is left
 pub judged_within : (source : Matrix) (profile : Profile) (commands : List Command) (i : ℕ) (runner : Course)
     (start now n : ℕ) → IsJudging source profile commands i runner start now → Work source commands profile n
     → now ≤ start + 100 * n + volume source.resolution

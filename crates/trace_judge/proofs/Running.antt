@@ -1,4 +1,4 @@
--- What one more command changes of a runner.
+-- The effect of one more command on a runner.
 use Rattle.std.proofs.Common.{◌≡◌, ℕ, ◌+◌, ◌<◌, ◌==◌, arith, refl, sym, ◌∙◌, ap, subst, eq-eqb, List, [], ◌∷◌, ◌++◌, Bool, true, false, length, length-append}
 use Rattle.std.specs.Prelude.{MatchBool, ◌↔◌, Result, Ok}
 use Rattle.nano_spec.specs.declared.commands.Command.{Command}
@@ -16,7 +16,7 @@ use Rattle.step_machine.specs.Situation.{Situation}
 use Rattle.step_machine.specs.Stepped.{Stepped}
 
 module _ (machine : Situation) (pending : List Command) (m : Mark) (v : Course) (seen : course_of machine pending m ≡ v) (runs : m ≡ mark.Running) where
-  -- the last command of a step, by what comes of the step
+  -- the last command of a step, by the outcome of the step
   pub made : (command : Command) (outcome : Outcome) (q : Progress) → length pending + 1 ≡ length machine.state.bots
       → Next machine.state (pending ++ command ∷ []) (machine.steps + 1) outcome
       → q ≡ stepped (with_command (course_of machine pending m).progress command) outcome → Pushes v.progress command q
@@ -43,7 +43,7 @@ pub running_mark : (bots : List Bot) (halted : Bool) → (halted ≡ true ↔ bo
 running_mark [] halted h e = let f = h.1 refl in cc
 running_mark (b ∷ bots) halted h e = refl
 
--- the answer of the step of a machine that stands where it stood, by the commands that waited and one more
+-- the answer of the machine's step, from the pending commands and one more
 pub step_answered : (old now new : Situation) (before pending all : List Command) (command : Command)
     (answer : Result StepOk StepFault) (ok : StepOk) (halted : Bool) (began start ended : ℕ) → now ≡ old
     → pending ≡ before → all ≡ pending ++ command ∷ [] → start ≡ began → answer ≡ Ok ok → ok.halted ≡ halted
@@ -57,7 +57,7 @@ step_answered old now new before pending all command answer ok halted began star
     (subst (λ (n : ℕ). Stepped now new all answer n ended) s stepped))) in
     subst (λ (r : Result StepOk StepFault). Stepped old new (before ++ command ∷ []) r began ended) (λ i. Ok (record { energy = here.energy i; halted = h i })) here
 
--- the same of any answer
+-- the same for any answer
 pub step_moved : (old now new : Situation) (before pending all : List Command) (command : Command)
     (result answer : Result StepOk StepFault) (began start ended : ℕ) → now ≡ old → pending ≡ before
     → all ≡ pending ++ command ∷ [] → start ≡ began → result ≡ answer → Stepped now new all result start ended
@@ -68,8 +68,8 @@ step_moved old now new before pending all command result answer began start ende
     (subst (λ (r : Result StepOk StepFault). Stepped now new all r began ended) a
     (subst (λ (n : ℕ). Stepped now new all result n ended) s stepped)))
 
--- some bot has no command yet: where one command more waits, where a step was made that leaves some bot, and where no
--- steps are made
+-- some bot has no command yet: if one more command is pending, if a made step leaves some bot, and if no steps are
+-- made
 pub waits_on : (old new : Situation) (before after : List Command) (command : Command) (m : Mark) → new ≡ old
     → after ≡ before ++ command ∷ [] → length before + 1 < length old.state.bots → m ≡ mark.Running
     → IsUnderway new after m
@@ -96,7 +96,7 @@ ended_on machine pending (mark.Refused b) h = tt
 ended_on machine pending mark.Halted h = tt
 ended_on machine pending mark.Followed h = tt
 
--- that an end of a call has one answer, by what a command came to
+-- each end of a call has one answer, by the outcome of the command
 pub made_waits : {A : Type 0} → taken.Made ≡ taken.Waits → A
 made_waits e = cc
 

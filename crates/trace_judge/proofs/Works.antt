@@ -1,4 +1,4 @@
--- Every run has a work; and what is within the work of a step.
+-- Every run has a work; and touches within the work of a step.
 use Rattle.std.proofs.Common.{◌≡◌, ℕ, zero, suc, ◌+◌, ◌*◌, ◌≤◌, refl, ap, arith, List, [], ◌∷◌, ◌++◌, length, take, drop}
 use Rattle.std.specs.Prelude.{Some, option_map, slice_get}
 use Rattle.std.proofs.lemmas.List.{length-drop}
@@ -22,7 +22,7 @@ use Rattle.step_machine.proofs.Weighing.{next_of, step_work, within_one}
 
 -- ---- the work of a run
 
--- a step without commands breaks a rule, where a bot is active
+-- a step without commands breaks a rule if a bot is active
 no_step : (s : State) (commands : List Command) (step : ℕ) (t : State) (bot : Bot) (bots : List Bot)
     → s.bots ≡ bot ∷ bots → length commands ≡ 0 → Next s commands step (Goes t) → ⊥
 no_step s commands step t bot bots e l next = let keeps = (accepted_step s t commands step next).keeps in let breaks = ends in cc
@@ -73,7 +73,7 @@ run_work source commands profile = work_from (length commands) (opening source p
 
 -- ---- touches within the work of a step
 
--- what is within one work of a step is within each: it has no two
+-- touches within one work of a step are within each: the work is unique
 pub within_each : (s : State) (commands : List Command) (step began ended n : ℕ)
     → IsWithinWork s commands step began ended → WorkOfStep s commands step n → ended ≤ began + 100 * n
 within_each s commands step began ended n h w =

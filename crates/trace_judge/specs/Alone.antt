@@ -1,4 +1,4 @@
--- The run of an only bot, and what one command more changes of it.
+-- The run of an only bot, and the effect of one more command on it.
 use Rattle.std.specs.Prelude.{◌≡◌, ℕ, false, [], length, None}
 use Rattle.nano_spec.specs.declared.commands.Command.{Command}
 use Rattle.nano_spec.specs.declared.system.Harmonics.TheVariants.{Low}
@@ -8,7 +8,7 @@ use Rattle.run_progress.specs.Progress.{Pushes}
 use Rattle.trace_judge.specs.Course.{Course}
 use Rattle.trace_judge.specs.Payment.{Touches}
 
--- the run goes on with one bot, for which no command waits, and each full voxel is grounded where it has to be
+-- the run continues with one bot, no command is pending, and each full voxel is grounded if the harmonics require it
 pub record RunsAlone (c : Course) : Type 0 where
   pub stands : c.spent ≡ false
   pub runs : c.progress.mark ≡ progress.Running
@@ -16,7 +16,7 @@ pub record RunsAlone (c : Course) : Type 0 where
   pub one : length c.progress.state.bots ≡ 1
   pub held : c.progress.state.harmonics ≡ Low → FirstUngrounded c.progress.state.matrix None
 
--- a run has taken one command more, with voxels touched so often before and after
+-- a run has taken one more command, with these counts of touches before and after
 pub record HasPushed (old : Course) (command : Command) (new : Course) (began ended : ℕ) : Type 0 where
   pub progress : Pushes old.progress command new.progress
   pub stands : new.spent ≡ false

@@ -7,7 +7,7 @@ use Rattle.nano_spec.specs.Profile.{full_profile}
 use Rattle.nano_spec.specs.Worked.{diff}
 use Rattle.trace_judge.specs.Payment.{IsWithinWorkOfRun}
 
--- a Fission that is refused for want of seeds, whose work is 2
+-- a Fission that is refused because it lacks seeds, whose work is 2
 abbrev pub refused_fission : List Command
 refused_fission = Fission (diff (pos 0) (pos 0) (pos 1)) 39 ∷ []
 

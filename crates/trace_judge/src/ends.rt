@@ -1,4 +1,4 @@
-//! How a run ends, where no further command comes.
+//! The end of a run, after its last command.
 ghost use Rattle.std.specs.Prelude.{◌≡◌, ◌+◌, ◌*◌, ◌<◌, ◌≤◌, false, length};
 ghost use Rattle.nano_spec.specs.Matrix.{Matrix};
 ghost use Rattle.nano_spec.specs.Model.{volume};
@@ -14,7 +14,7 @@ use step_machine::Machine;
 use vox_geom::{Coord, Steps};
 use vox_planes::Planes;
 
-/// The verdict of a run by its parts, where no further command comes. The runner is dropped at one place then, and not at each end.
+/// Returns the verdict of a run by its parts, after its last command. Drops the runner in one place, not at each end.
 pub(crate) fn judge_end<L: Ledger>(
     machine: &Machine,
     pending: &Pending,
@@ -43,7 +43,7 @@ pub(crate) fn judge_end<L: Ledger>(
     }
 }
 
-/// The verdict of a trace that ends within a step, before the command of some bot.
+/// Returns the verdict of a trace that ends within a step, before the command of some bot.
 fn trace_ends(machine: &Machine, pending: &Pending) -> Verdict
     requires lacks { length pending.now < length machine.now.state.bots }
     requires steps { machine.now.steps ≤ 1073741824 }
@@ -53,7 +53,7 @@ fn trace_ends(machine: &Machine, pending: &Pending) -> Verdict
     refuse(machine.steps_done() + 1, bot.bid, Rule::TraceEnds, bot.pos)
 }
 
-/// The verdict of a rule that is broken.
+/// Returns the verdict of a broken rule.
 fn refuse(step: u32, bid: u8, rule: Rule, at: Coord) -> Verdict
     ensures { result ≡ Verdict.Refused (record { step = step; bid = bid; rule = rule; at = at }) }
 {

@@ -10,7 +10,7 @@ ghost use Rattle.run_progress.specs.Progress.{Progress, Pushes, begun};
 ghost use Rattle.trace_judge.specs.Payment.{IsPaid, Touches};
 ghost use Rattle.trace_judge.specs.Worked.{WorkedTouches};
 
-/// Every matrix has its levels, and so every step has a work, and every run.
+/// Every matrix has its levels, and so every step and every run has a work.
 pub fn every_run_has_work()
     ensures levels { (m : Matrix) → (levels : List (Option ℕ)) × Levels m levels }
     ensures step { (s : State) (commands : List CommandOf) (step : ℕ) → (n : ℕ) × WorkOfStep s commands step n }
@@ -18,8 +18,8 @@ pub fn every_run_has_work()
         → (n : ℕ) × Work source commands profile n }
 {}
 
-/// The work of a run pays for its touches, command by command: from its opening on, after each more command, and so in
-/// all, but for one search of the matrix.
+/// The work of a run pays for its touches, command by command: from its opening on, after each more command, and so in total,
+/// except one search of the matrix.
 pub fn the_work_pays()
     ensures first { (source : Matrix) (profile : Profile) (p : Progress) (start : ℕ) → p ≡ begun source profile
         → IsPaid source profile [] p start start }

@@ -1,4 +1,4 @@
-//! The commands of the next step that have come so far.
+//! The pending commands of the next step.
 ghost use Rattle.std.specs.Prelude.{◌≡◌, ◌<◌, [], ◌∷◌, ◌++◌, length, IfOk};
 ghost use Rattle.bot_crew.specs.declared.crew.TheConstants.{MOST_BOTS};
 
@@ -8,7 +8,7 @@ use std::alloc::Global;
 use std::marker::Model;
 use vox_geom::Memory;
 
-/// The commands of the next step that have come so far, at most one for each of 40 bots. Only its making takes memory.
+/// The pending commands of the next step, at most one for each of 40 bots. Only `new` allocates.
 #[derive(Drop)]
 pub(crate) struct Pending {
     commands: Vec<Command>,
@@ -27,7 +27,7 @@ impl Model for Pending {
 }
 
 impl Pending {
-    /// No command.
+    /// Returns an empty list.
     pub(crate) fn new(alloc: Global) -> Result<Pending, Memory>
         ensures { IfOk result (λ p. p ≡ []) }
     {
@@ -35,7 +35,7 @@ impl Pending {
         Ok(Pending { commands })
     }
 
-    /// One command more.
+    /// Appends a command.
     pub(crate) fn push(&mut self, command: Command)
         requires { length self.old < MOST_BOTS }
         ensures { self.new ≡ self.old ++ command ∷ [] }
@@ -43,14 +43,14 @@ impl Pending {
         let _ = self.commands.push(command);
     }
 
-    /// Takes all commands out.
+    /// Removes all commands.
     pub(crate) fn clear(&mut self)
         ensures { self.new ≡ [] }
     {
         self.commands.clear();
     }
 
-    /// The commands, in the order in which they came.
+    /// Returns the commands, in the order in which they came.
     pub(crate) fn as_slice(&self) -> &[Command]
         ensures { result.now ≡ self.now }
     {

@@ -23,7 +23,7 @@ use step_machine::{Machine, StepFault, Tried};
 use vox_geom::{Memory, Steps};
 use vox_planes::Planes;
 
-/// Where a run stands: it goes on, or a step was refused, or the last bot has halted, or a command came after that.
+/// The state of a run: it continues, a step was refused, the last bot has halted, or a command came after that.
 #[derive(Clone, Copy, PartialEq, Eq, Debug)]
 pub(crate) enum Mark {
     Running,
@@ -32,14 +32,14 @@ pub(crate) enum Mark {
     Followed,
 }
 
-/// A run that takes the commands of a trace one by one, and keeps none of them once their step is made. Contracts see
-/// its progress, and whether it is spent.
+/// A run that takes the commands of a trace one by one, and keeps none of them once their step is made. Contracts see its progress,
+/// and whether it is poisoned (`spent`).
 #[derive(Drop)]
 pub struct Runner {
     machine: Machine,
     pending: Pending,
     mark: Mark,
-    // What the last refusal was: a place for one that is not made anew at each command.
+    // Out-slot for a refusal, reused so that no command has to zero it.
     fault: StepFault,
 }
 
@@ -53,7 +53,7 @@ impl Model for Runner {
     ghost invariant = { λ r. IsUnderway r.machine r.pending r.mark };
 }
 
-/// The mark after a command where no steps are made any more. In a function of its own what a run asks at each command is one
+/// Returns the mark after a command once no steps are made any more. Out of line so that the hot path is one test.
 /// test.
 #[inline(never)]
 fn next_mark(mark: Mark) -> Mark
@@ -67,7 +67,7 @@ fn next_mark(mark: Mark) -> Mark
 }
 
 impl Runner {
-    /// The run before its first command, over a source whose full voxels are grounded. At most 91 touches for each voxel.
+    /// Returns the run before its first command, over a source whose full voxels are grounded. At most 91 touches for each voxel.
     pub fn start<L: Ledger>(
         alloc: Global,
         source: Planes,
@@ -91,8 +91,8 @@ impl Runner {
         })
     }
 
-    /// What one more command changes. Memory spends the runner, and comes only where the command makes a step in which
-    /// some command fills or voids. No touch where it makes no step.
+    /// Takes one more command. A failed allocation poisons the runner, and is possible only if the command makes a step in which
+    /// some command fills or voids. Touches nothing if it makes no step.
     #[inline(always)]
     pub fn push<L: Ledger>(&mut self, command: Command, steps: &mut Steps<L>) -> Result<(), Memory>
         requires stands { self.old.spent ≡ false }
@@ -141,7 +141,7 @@ impl Runner {
         }
     }
 
-    /// Whether the run goes on with one bot, for which no command waits, and each full voxel is held up, where it has to be.
+    /// Returns whether the run continues with one bot, no command is pending, and each full voxel is grounded if it must be.
     #[inline(always)]
     pub fn is_alone(&self) -> bool
         ensures { result ≡ true → RunsAlone self.now }
@@ -155,7 +155,7 @@ impl Runner {
         }
     }
 
-    /// [`Runner::push`] where the bot is alone. Whether it still is, as after each frequent command whose step is made.
+    /// [`Runner::push`] if the bot is alone. Returns whether it still is, as after each frequent command whose step is made.
     #[inline(always)]
     pub fn push_alone<L: Ledger>(
         &mut self,
@@ -186,7 +186,7 @@ impl Runner {
         }
     }
 
-    /// [`Runner::push`] of a command that is not frequent: a call of its own, so that the rest is written out for its callers.
+    /// [`Runner::push`] of a rare command. Out of line: keeps the fast path small enough to inline.
     #[inline(never)]
     fn push_other<L: Ledger>(
         &mut self,
@@ -205,7 +205,7 @@ impl Runner {
         Ok(false)
     }
 
-    /// The verdict where no further command comes. At most two touches for each voxel.
+    /// Returns the verdict after the last command. At most two touches for each voxel.
     pub fn finish<L: Ledger>(self, target: &Planes, steps: &mut Steps<L>) -> Verdict
         requires stands { self.spent ≡ false }
         requires resolution { self.progress.state.matrix.resolution ≡ target.now.resolution }
@@ -216,7 +216,7 @@ impl Runner {
     }
 }
 
-/// One command more, which is made in the way of an only bot where one is alone.
+/// Takes one more command, by the fast path of an only bot if one is alone.
 #[inline(always)]
 fn push_next<L: Ledger>(
     runner: &mut Runner,
@@ -236,7 +236,7 @@ fn push_next<L: Ledger>(
     Ok(())
 }
 
-/// The verdict of a trace that is to make the target of the source, by a profile.
+/// Returns the verdict of a trace from the source to the target, by a profile.
 pub fn judge_by<L: Ledger>(
     alloc: Global,
     source: Planes,
@@ -260,7 +260,7 @@ pub fn judge_by<L: Ledger>(
     Ok(runner.finish(target, steps))
 }
 
-/// The same by the full profile.
+/// [`judge_by`] with the full profile.
 pub fn judge<L: Ledger>(
     alloc: Global,
     source: Planes,

@@ -1,4 +1,4 @@
-//! What one command more comes to: it waits for those of other bots, or a step is made of it.
+//! One more command: it is pending, or completes a step.
 ghost use Rattle.std.specs.Prelude.{◌≡◌, ◌≢◌, ◌+◌, ◌<◌, ◌≤◌, ◌∷◌, [], ◌++◌, length, count_by, IfOk, IfSome};
 ghost use Rattle.step_machine.specs.Edits.{is_edit};
 ghost use Rattle.step_machine.specs.Stepped.{Stepped};
@@ -10,8 +10,7 @@ use std::sync::ledger::Ledger;
 use step_machine::{Machine, StepFault};
 use vox_geom::Steps;
 
-/// What one command more came to: it waits for those of other bots, or its step was made, after which some bot is left or none is,
-/// or its step was refused.
+/// The outcome of one more command: it is pending, its step was made and left some bot or none, or its step was refused.
 #[derive(Clone, Copy, PartialEq, Eq)]
 pub(crate) enum Taken {
     Waits,
@@ -20,7 +19,7 @@ pub(crate) enum Taken {
     Refused,
 }
 
-/// One command more for the next step, which is made where each bot has one then. `fault` is written only where it is refused.
+/// Takes one more command for the next step, and makes the step once each bot has one. Writes `fault` only if it is refused.
 #[inline(always)]
 pub(crate) fn take<L: Ledger>(
     machine: &mut Machine,

@@ -1,4 +1,4 @@
--- What a line says by its word.
+-- The meaning of a line by its word.
 use Rattle.std.proofs.Common.{◌≡◌, ℕ, suc, ◌+◌, ◌<◌, refl, sym, ◌∙◌, ap, arith, Bool, true, false, cond, ◌&&◌, List, [], ◌∷◌, length, drop}
 use Rattle.std.specs.Prelude.{Some, None, IsAscii, ◌==◌, ◌||◌, find, nat_lt, take_while}
 use Rattle.std.specs.List.{list_all, prefix_len}
@@ -36,7 +36,7 @@ no_high (b ∷ bs) h = by (nat_lt 127 b) refl (no_high bs (λ i. h (suc i)))
     by true e later = absurd (contrary e)
     by false e later = later
 
--- the line's parts, as the reader has them
+-- the line's parts, in the reader's form
 pub record HasParts (line middle rest : List ℕ) : Type 0 where
   pub low : has_high_byte line ≡ false
   pub middle_is : middle ≡ line_content line

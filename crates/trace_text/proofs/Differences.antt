@@ -1,4 +1,4 @@
--- Differences, and what is left of a line after them.
+-- The readings of a line's differences and numbers, by the parts that were read.
 use Rattle.std.proofs.Common.{◌≡◌, ℕ, refl, sym, ◌∙◌, ap, true, false, List, [], ◌∷◌, ◌++◌, map, ℤ}
 use Rattle.std.specs.Prelude.{Option, Some, None, Ok, Err}
 use Rattle.vox_geom.specs.declared.difference.Diff.{Diff}
@@ -8,11 +8,11 @@ use Rattle.trace_text.specs.Forms.{IsOne, IsTwo}
 use Rattle.trace_text.specs.Parts.{after_difference, after_number}
 use Rattle.trace_text.proofs.Readings.{TakesBlanks, TakesMark, TakesNumber}
 
--- a number and the mark behind it were taken, or are not there
+-- a number and the mark after it were read, or are missing
 abbrev pub TakesPart : ℕ → List ℕ → Option ℤ → List ℕ → Type 0
 TakesPart m old number new = (ps : List Part) → readings (Blanks ∷ Number ∷ Blanks ∷ Mark m ∷ ps) old ≡ after_number number ps new
 
--- a difference was taken, or is not there
+-- a difference was read, or is missing
 abbrev pub TakesDifference : List ℕ → Option Diff → List ℕ → Type 0
 TakesDifference old d new = (ps : List Part) → readings (difference_parts ++ ps) old ≡ after_difference d ps new
 
@@ -54,7 +54,7 @@ all_there old a b c d e x y z p q r i j k h m f g o ps =
     let readings_is : readings (difference_parts ++ ps) old ≡ map (λ ns. x ∷ y ∷ z ∷ ns) (readings ps e) = h (Mark 60 ∷ parts_one ps) refl ∙ (m (parts_one ps) ∙ (f (parts_two ps) ∙ (ap (λ xs. map (λ ns. x ∷ ns) xs) (g (parts_three ps)) ∙ (ap (λ xs. map (λ ns. x ∷ ns) (map (λ ns. y ∷ ns) xs)) (o ps) ∙ fused x y z (readings ps e))))) in
     readings_is ∙ (ap (λ v. map (λ ns. v ∷ y ∷ z ∷ ns) (readings ps e)) (sym i) ∙ (ap (λ v. map (λ ns. p ∷ v ∷ z ∷ ns) (readings ps e)) (sym j) ∙ ap (λ v. map (λ ns. p ∷ q ∷ v ∷ ns) (readings ps e)) (sym k)))
 
--- ---- one difference to the end, and two
+-- ---- a line of one difference, or of two
 
 pub one_ends : (old b : List ℕ) (d : Diff) → TakesDifference old (Some d) b → readings (Blanks ∷ []) b ≡ [] ∷ []
     → readings (difference_parts ++ Blanks ∷ []) old ≡ (d.dx ∷ d.dy ∷ d.dz ∷ []) ∷ []
@@ -74,7 +74,7 @@ pub no_second_there : (old b : List ℕ) (d : Diff) (f : Fault) → TakesDiffere
     → IsTwo (readings (difference_parts ++ difference_parts ++ Blanks ∷ []) old) (Err f)
 no_second_there old b d f h k = (h (difference_parts ++ Blanks ∷ []) ∙ ap (map (λ ns. d.dx ∷ d.dy ∷ d.dz ∷ ns)) k.0, k.1)
 
--- ---- a number to the end
+-- ---- a line of one number
 
 pub no_last : (old a b : List ℕ) → TakesBlanks old a → TakesNumber a None b
     → readings (Blanks ∷ Number ∷ Blanks ∷ []) old ≡ []

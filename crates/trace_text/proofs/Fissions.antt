@@ -1,4 +1,4 @@
--- What a line with the word Fission says.
+-- The meaning of a line with the word Fission.
 use Rattle.std.proofs.Common.{◌≡◌, ℕ, ◌<◌, refl, sym, ◌∙◌, ap, arith, Bool, true, false, cond, ◌&&◌, List, [], ◌∷◌, map, ℤ, pos, negsuc, ◌<ℤ◌}
 use Rattle.std.specs.Prelude.{Some, Err, int_le, nat_le, nat_lt, option_map, unsigned_abs}
 use Rattle.std.proofs.lemmas.Bool.Decides.{nat_tests}
@@ -23,7 +23,7 @@ pub no_number : (old b : List ℕ) (d : Diff) (f : Fault) → TakesDifference ol
 no_number old b d f h k =
     ap (λ g. Faulty (fault_of g)) k.1 ∙ no_shape (readings fission_word.form old) (h (Blanks ∷ Number ∷ Blanks ∷ []) ∙ ap (map (λ ns. d.dx ∷ d.dy ∷ d.dz ∷ ns)) k.0)
 
--- what the difference and the number say
+-- the meaning of the difference and the number
 abbrev verdict : Diff → ℤ → Line
 verdict d n = checked (option_map (Fission d) (natural n))
 
@@ -32,7 +32,7 @@ said_is_verdict : (old b : List ℕ) (d : Diff) (n : ℤ) → TakesDifference ol
     → said fission_word (readings fission_word.form old) ≡ verdict d n
 said_is_verdict old b d n h k = ap (said fission_word) (h (Blanks ∷ Number ∷ Blanks ∷ []) ∙ ap (map (λ ns. d.dx ∷ d.dy ∷ d.dz ∷ ns)) k)
 
--- what is said where the number is one, by two tests
+-- the meaning if the number is one, by two tests
 abbrev by_tests : Diff → ℕ → Bool → Bool → Line
 by_tests d m near fits = cond (near && fits) (Says (Fission d m)) (Faulty Range)
 

@@ -17,7 +17,7 @@ print_joined : (xs ys : List Command) → print (xs ++ ys) ≡ print xs ++ print
 print_joined [] ys = refl
 print_joined (c ∷ xs) ys = ap (λ v. (printed c ++ 10 ∷ []) ++ v) (print_joined xs ys) ∙ sym (append_assoc (printed c ++ 10 ∷ []) (print xs) (print ys))
 
--- one more command is printed behind those before it
+-- one more command is printed after those before it
 pub printed_on : (before more : List Command) (c : Command) (old mid new : List ℕ) → more ≡ before ++ c ∷ []
     → old ≡ print before → mid ≡ old ++ printed c → new ≡ mid ++ 10 ∷ [] → new ≡ print more
 printed_on before more c old mid new m o p n =

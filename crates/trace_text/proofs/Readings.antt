@@ -1,4 +1,4 @@
--- What is left to be read once a part of a line was taken.
+-- The rest of a line after a part was taken.
 use Rattle.std.proofs.Common.{◌≡◌, ℕ, zero, suc, ◌+◌, ◌-◌, ◌*◌, refl, sym, ◌∙◌, ap, arith, Bool, true, false, cond, not, List, [], ◌∷◌, ◌++◌, map, length, drop, ℤ, pos, neg_ℤ}
 use Rattle.std.specs.Prelude.{IsTrue, IsFalse, ◌==◌, Option, Some, None, flat_map}
 use Rattle.std.specs.List.{prefix_len}
@@ -12,7 +12,7 @@ contrary : (t : Bool) → IsTrue t → IsTrue (not t) → ⊥
 contrary true p q = cc
 contrary false p q = cc
 
--- blanks before a sharp form are taken all
+-- all blanks before a sharp form are taken
 pub without_blanks : (ps : List Part) (line : List ℕ) → IsTrue (is_sharp ps)
     → readings (Blanks ∷ ps) line ≡ readings ps (drop (prefix_len is_blank line) line)
 without_blanks ps [] h = append_none (readings ps [])
@@ -27,7 +27,7 @@ without_blanks ps (b ∷ more) h = by (is_blank b) refl (without_blanks ps more 
         one_more = omega arith
     by false e later = append_none (readings ps (b ∷ more))
 
--- the readings behind a number
+-- the readings after a number
 abbrev behind : (Read → ℤ) → List Part → Read → List (List ℤ)
 behind value ps r = map (λ ns. value r ∷ ns) (readings ps r.rest)
 
@@ -62,7 +62,7 @@ further value ps first n so_far more f h (Some q) e later = no_first (none_behin
         → behind value ps first ++ flat_map (behind value ps) (digits n so_far more) ≡ behind_any value ps (Some q)
     no_first k = ap (λ xs. xs ++ flat_map (behind value ps) (digits n so_far more)) (no_more (readings ps first.rest) (ap (readings ps) f ∙ k)) ∙ later
 
--- the digits of a number before a free form are taken all
+-- all digits of a number before a free form are taken
 longest_taken : (value : Read → ℤ) (ps : List Part) (n so_far : ℕ) (line : List ℕ) → IsTrue (is_free ps)
     → flat_map (behind value ps) (digits n so_far line) ≡ behind_any value ps (longest n so_far line)
 longest_taken value ps zero so_far line h = refl
@@ -115,7 +115,7 @@ pub plain_number : (old new : List ℕ) (r : Option ℕ) → begins_with 45 old 
     → readings (Number ∷ ps) old ≡ after_number (signed_by (λ n. pos n) r) ps new
 plain_number old new r e f ps h = plain_digits ps old e ∙ (longest_taken (λ q. q.number) ps 3 0 old h ∙ (ap (behind_any (λ q. q.number) ps) (sym f) ∙ after_plain ps new r))
 
--- the same of a number that is given by an equation
+-- the same for a number given by an equation
 pub minus_number_is : (old rest new : List ℕ) (n : ℕ) (z : ℤ) → z ≡ neg_ℤ (pos n) → old ≡ 45 ∷ rest
     → number_read (Some n) new ≡ longest 3 0 rest → (ps : List Part) → IsTrue (is_free ps)
     → readings (Number ∷ ps) old ≡ map (λ ns. z ∷ ns) (readings ps new)
@@ -136,7 +136,7 @@ TakesBlanks old new = (ps : List Part) → IsTrue (is_sharp ps) → readings (Bl
 abbrev pub TakesNumber : List ℕ → Option ℤ → List ℕ → Type 0
 TakesNumber old number new = (ps : List Part) → IsTrue (is_free ps) → readings (Number ∷ ps) old ≡ after_number number ps new
 
--- the mark was taken, or it is not there
+-- the mark was taken, or it is missing
 abbrev pub TakesMark : ℕ → List ℕ → Bool → List ℕ → Type 0
 TakesMark m old found new = (ps : List Part) → readings (Mark m ∷ ps) old ≡ cond found (readings ps new) []
 

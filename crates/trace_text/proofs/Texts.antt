@@ -1,4 +1,4 @@
--- What was read of a text, and what is left.
+-- The part of a text that was read, and the rest.
 use Rattle.std.proofs.Common.{◌≡◌, ℕ, ◌+◌, ◌<◌, ◌≤◌, refl, sym, ◌∙◌, ap, arith, List, [], ◌∷◌, ◌++◌, map, length}
 use Rattle.std.specs.Prelude.{Result, Ok, Err}
 use Rattle.std.proofs.lemmas.List.{append_assoc}
@@ -15,7 +15,7 @@ abbrev pub onto : List Command → Result (List Command) FaultyLine → Result (
 onto before (Ok commands) = Ok (before ++ commands)
 onto before (Err e) = Err e
 
--- the commands so far and what the lines that are left say make the answer to the text
+-- the commands so far and the meaning of the remaining lines make the answer to the text
 pub record HasRead (text : List ℕ) (commands : List Command) (left : List ℕ) (number : ℕ) : Type 0 where
   pub is : read text ≡ onto commands (read_lines (number + 1) (map line_of (lines left)))
   pub within : number + length left ≤ length text
@@ -32,7 +32,7 @@ onto_more : (before : List Command) (c : Command) (r : Result (List Command) Fau
 onto_more before c (Ok commands) = ap Ok (sym (append_assoc before (c ∷ []) commands))
 onto_more before c (Err e) = refl
 
--- the answer to the text, where the next line says this
+-- the answer to the text, if the next line has this meaning
 next : (text : List ℕ) (commands : List Command) (left : List ℕ) (number : ℕ) (line more : List ℕ) (said : Line)
     → HasRead text commands left number → lines left ≡ line ∷ lines more → said ≡ line_of line
     → read text ≡ onto commands (read_lines (number + 1) (said ∷ map line_of (lines more)))

@@ -1,4 +1,4 @@
--- What was read behind a word.
+-- The readings after a word.
 use Rattle.std.specs.Prelude.{◌≡◌, Bool, true, false, ℤ, List, [], ◌∷◌, Result, Ok, Err}
 use Rattle.vox_geom.specs.declared.difference.Diff.{Diff}
 use Rattle.nano_spec.specs.declared.commands.Command.{Command}
@@ -7,12 +7,12 @@ use Rattle.trace_text.specs.declared.fault.Fault.{Fault}
 use Rattle.trace_text.specs.declared.fault.Fault.TheVariants.{Shape, Range}
 use Rattle.trace_text.specs.Text.{fault_of}
 
--- what a line says of which a command was read, or a fault was found
+-- the meaning of a line with a command, or with a fault
 abbrev pub said_is : Result Command Fault → Line
 said_is (Ok command) = Says command
 said_is (Err fault) = Faulty (fault_of fault)
 
--- nothing follows, and the command is answered, or something does
+-- nothing follows, and the answer is the command, or something does
 abbrev pub StandsAlone : List (List ℤ) → Command → Result Command Fault → Type 0
 StandsAlone readings command (Ok answer) = (readings ≡ [] ∷ []) × (answer ≡ command)
 StandsAlone readings command (Err fault) = (readings ≡ []) × (fault ≡ Shape)

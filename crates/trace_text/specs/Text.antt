@@ -1,4 +1,4 @@
--- What is answered to a text, and what each type of the reader stands for in the definitions.
+-- The answer to a text, and the types of the reader in the definitions.
 use Rattle.std.specs.Prelude.{◌≡◌, ℕ, List, [], ⊤, Option, Some, None, Result, Ok, Err, slice_index_or}
 use Rattle.nano_spec.specs.declared.commands.Command.{Command}
 use Rattle.nano_spec.specs.Line as line
@@ -15,28 +15,28 @@ use Rattle.trace_text.specs.declared.line.Line.TheVariants as said
 use Rattle.trace_text.specs.declared.word.Word.{Word}
 use Rattle.trace_text.specs.declared.word.Word.TheVariants as word
 
--- what is wrong with a line, by the definitions
+-- the fault of a line, by the definitions
 abbrev pub fault_of : Fault → line.Fault
 fault_of fault.NotAscii = line.NotAscii
 fault_of fault.UnknownWord = line.UnknownWord
 fault_of fault.Shape = line.Shape
 fault_of fault.Range = line.Range
 
--- the faulty line that a refusal tells of, by the definitions
+-- the faulty line of a refusal, by the definitions
 abbrev pub faulty_line : TextRefusal → FaultyLine
 faulty_line (refusal.NotAscii n) = record { fault = line.NotAscii; line = n }
 faulty_line (refusal.UnknownWord n) = record { fault = line.UnknownWord; line = n }
 faulty_line (refusal.Shape n) = record { fault = line.Shape; line = n }
 faulty_line (refusal.Range n) = record { fault = line.Range; line = n }
 
--- the number by which a refusal is printed
+-- the printed number of a refusal
 abbrev pub text_refusal_number : TextRefusal → ℕ
 text_refusal_number (refusal.NotAscii n) = 1
 text_refusal_number (refusal.UnknownWord n) = 2
 text_refusal_number (refusal.Shape n) = 3
 text_refusal_number (refusal.Range n) = 4
 
--- what a line says, by the definitions
+-- the meaning of a line, by the definitions
 abbrev pub line_is : Line → line.Line
 line_is said.Skipped = line.Skipped
 line_is (said.Says command) = line.Says command
@@ -68,7 +68,7 @@ abbrev pub word_if_any : Option Word → Option form.Word
 word_if_any None = None
 word_if_any (Some w) = Some (word_is w)
 
--- the text is read as the definition reads it, unless there was no memory
+-- the text is read as the definition reads it, unless allocation failed
 abbrev pub ReadsText : List ℕ → Result (List Command) TextFault → Type 0
 ReadsText text (Ok commands) = read text ≡ Ok commands
 ReadsText text (Err (Refused refusal)) = read text ≡ Err (faulty_line refusal)

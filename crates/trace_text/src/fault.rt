@@ -1,35 +1,35 @@
-//! Why a text is no trace.
+//! The reasons why a text is no trace.
 ghost use Rattle.std.specs.Prelude.{◌≡◌};
 ghost use Rattle.trace_text.specs.declared.fault.TextFault.TheVariants.{Memory as no_memory, Refused};
 ghost use Rattle.trace_text.specs.Text.{fault_of, faulty_line, text_refusal_number};
 
 use vox_geom::Memory;
 
-/// Why a text is no trace (docs/FORMATS.md, "Trace text"): what is wrong with its first faulty line, whose number is counted
-/// from 1. Where several hold of that line, the first of them here is told.
+/// The reason why a text is no trace (docs/FORMATS.md, "Trace text"): the fault of its first faulty line, whose number counts from
+/// 1. If several apply to that line, it is the first of them here.
 #[derive(Clone, Copy, PartialEq, Eq, Debug)]
 pub enum TextRefusal {
     /// The line has a byte above 7F, be it in a comment.
     NotAscii { line: u32 },
     /// The line's word is none of the twelve.
     UnknownWord { line: u32 },
-    /// What follows the word is not of the word's form.
+    /// The rest of the line does not have the word's form.
     Shape { line: u32 },
     /// A difference is not of its kind, or Fission's number is not 0 to 255.
     Range { line: u32 },
 }
 
-/// Why a text was not read.
+/// The reason why a text was not read.
 #[derive(Clone, Copy, PartialEq, Eq, Debug)]
 pub enum TextFault {
     /// The text is no trace.
     Refused(TextRefusal),
-    /// There was no memory.
+    /// Allocation failed.
     Memory,
 }
 
 impl TextRefusal {
-    /// The number by which the refusal is printed.
+    /// Returns the printed number of the refusal.
     pub fn number(self) -> u8
         ensures { result ≡ text_refusal_number self }
     {
@@ -58,7 +58,7 @@ impl From<Memory> for TextFault {
     }
 }
 
-/// What is wrong with a line.
+/// The fault of a line.
 #[derive(Clone, Copy)]
 pub(crate) enum Fault {
     NotAscii,
@@ -68,7 +68,7 @@ pub(crate) enum Fault {
 }
 
 impl Fault {
-    /// The refusal by this fault, of the line with this number.
+    /// Returns the refusal by this fault, of the line with this number.
     pub(crate) fn at(self, line: u32) -> TextRefusal
         ensures { faulty_line result ≡ record { fault = fault_of self; line = line } }
     {

@@ -1,5 +1,5 @@
 //! The text of a trace (docs/FORMATS.md, "Trace text"): a line for each command, printed and read.
-//! Only `print_trace` and `read_text` take memory, for what they give.
+//! Only `print_trace` and `read_text` allocate, for their results.
 #![tactic(auto)]
 
 mod fault;

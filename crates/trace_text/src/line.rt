@@ -1,4 +1,4 @@
-//! What a line says.
+//! Reading a line.
 ghost use Rattle.std.specs.Prelude.{◌≡◌, ◌∷◌, ◌++◌, []};
 ghost use Rattle.vox_geom.specs.Difference.{is_far, is_long, is_near, is_short};
 ghost use Rattle.nano_spec.specs.Line.{line_content as content_of, line_of, said, without_return as without_return_of};
@@ -12,14 +12,14 @@ use crate::word::Word;
 use nano_spec::Command;
 use vox_geom::{Diff, Far, Long, Near, Short};
 
-/// What a line says: nothing, a command, or it is faulty.
+/// The meaning of a line: nothing, a command, or a fault.
 pub(crate) enum Line {
     Skipped,
     Says(Command),
     Faulty(Fault),
 }
 
-/// What the line says, which has no line feed.
+/// Returns the meaning of the line, which has no line feed.
 pub(crate) fn read_line(line: &[u8]) -> Line
     ensures { line_is result ≡ line_of line.now }
 {
@@ -42,7 +42,7 @@ pub(crate) fn read_line(line: &[u8]) -> Line
     }
 }
 
-/// The line without a carriage return at its end and without its comment.
+/// Returns the line without a carriage return at its end and without its comment.
 fn content(line: &[u8]) -> &[u8]
     ensures { result.now ≡ content_of line.now }
 {
@@ -51,7 +51,7 @@ fn content(line: &[u8]) -> &[u8]
     content
 }
 
-/// The line without a carriage return at its end.
+/// Returns the line without a carriage return at its end.
 #[tactic(auto, using(crate::proofs::Returns::cut_return, crate::proofs::Returns::no_return))]
 fn without_return(line: &[u8]) -> &[u8]
     ensures { result.now ≡ without_return_of line.now }
@@ -62,7 +62,7 @@ fn without_return(line: &[u8]) -> &[u8]
     if *last == b'\r' { front } else { line }
 }
 
-/// The command of a word and what follows it.
+/// Returns the command of a word and the rest of its line.
 fn command(word: Word, rest: &mut Rest) -> Result<Command, Fault>
     ensures { said_is result ≡ said (word_is word) (readings (word_is word).form rest.old.bytes.now) }
 {
@@ -91,7 +91,7 @@ fn command(word: Word, rest: &mut Rest) -> Result<Command, Fault>
     }
 }
 
-/// A command that has no difference, where nothing follows it.
+/// Returns a command without a difference, if nothing follows it.
 fn alone(command: Command, rest: &mut Rest) -> Result<Command, Fault>
     ensures { StandsAlone (readings (Blanks ∷ []) rest.old.bytes.now) command result }
 {
@@ -102,7 +102,7 @@ fn alone(command: Command, rest: &mut Rest) -> Result<Command, Fault>
     }
 }
 
-/// The one difference that follows a word.
+/// Returns the one difference after a word.
 fn one(rest: &mut Rest) -> Result<Diff, Fault>
     ensures { IsOne (readings (difference_parts ++ Blanks ∷ []) rest.old.bytes.now) result }
 {
@@ -116,7 +116,7 @@ fn one(rest: &mut Rest) -> Result<Diff, Fault>
     }
 }
 
-/// The two differences that follow a word.
+/// Returns the two differences after a word.
 fn two(rest: &mut Rest) -> Result<(Diff, Diff), Fault>
     ensures { IsTwo (readings (difference_parts ++ difference_parts ++ Blanks ∷ []) rest.old.bytes.now) result }
 {
@@ -127,7 +127,7 @@ fn two(rest: &mut Rest) -> Result<(Diff, Diff), Fault>
     Ok((first, second))
 }
 
-/// What follows the word Fission, and the command.
+/// Returns the command of the word Fission and the rest of its line.
 fn fission(rest: &mut Rest) -> Result<Command, Fault>
     ensures { said_is result ≡ said fission_word (readings fission_word.form rest.old.bytes.now) }
 {
@@ -145,7 +145,7 @@ fn fission(rest: &mut Rest) -> Result<Command, Fault>
     Ok(Command::Fission(near, number as u8))
 }
 
-/// The number at the end of a line.
+/// Returns the number at the end of a line.
 fn last_number(rest: &mut Rest) -> Result<i16, Fault>
     ensures { IsNumber (readings (Blanks ∷ Number ∷ Blanks ∷ []) rest.old.bytes.now) result }
 {
@@ -160,28 +160,28 @@ fn last_number(rest: &mut Rest) -> Result<i16, Fault>
     }
 }
 
-/// The difference as a near one.
+/// Returns the difference as a near one.
 fn near(difference: Diff) -> Result<Near, Fault>
     ensures { IsKind (is_near difference) difference result }
 {
     Near::of(difference).ok_or(Fault::Range)
 }
 
-/// The difference as a far one.
+/// Returns the difference as a far one.
 fn far(difference: Diff) -> Result<Far, Fault>
     ensures { IsKind (is_far difference) difference result }
 {
     Far::of(difference).ok_or(Fault::Range)
 }
 
-/// The difference as a short one.
+/// Returns the difference as a short one.
 fn short(difference: Diff) -> Result<Short, Fault>
     ensures { IsKind (is_short difference) difference result }
 {
     Short::of(difference).ok_or(Fault::Range)
 }
 
-/// The difference as a long one.
+/// Returns the difference as a long one.
 fn long(difference: Diff) -> Result<Long, Fault>
     ensures { IsKind (is_long difference) difference result }
 {

@@ -6,20 +6,20 @@ ghost use Rattle.trace_text.specs.Parts.{TakesDigit, after_difference, after_num
 
 use vox_geom::Diff;
 
-/// What is left of a line.
+/// The rest of a line.
 #[derive(Drop)]
 pub(crate) struct Rest<'a> {
     pub(crate) bytes: &'a [u8],
 }
 
-/// A space or a tab.
+/// Returns whether the byte is a space or a tab.
 fn is_blank(byte: u8) -> bool
     ensures { result ≡ is_blank_byte byte }
 {
     byte == b' ' || byte == b'\t'
 }
 
-/// How many blanks stand at the front.
+/// Returns the number of blanks at the front.
 #[tactic(auto, using(crate::proofs::Runs::none_yet, crate::proofs::Runs::passes_on, crate::proofs::Runs::stops_at, crate::proofs::Runs::ends_at))]
 fn blanks(bytes: &[u8]) -> usize
     ensures value { result ≡ prefix_len is_blank_byte bytes.now }
@@ -35,7 +35,7 @@ fn blanks(bytes: &[u8]) -> usize
     len
 }
 
-/// How many letters stand at the front.
+/// Returns the number of letters at the front.
 #[tactic(auto, using(crate::proofs::Runs::none_yet, crate::proofs::Runs::passes_on, crate::proofs::Runs::stops_at, crate::proofs::Runs::ends_at))]
 fn letters(bytes: &[u8]) -> usize
     ensures value { result ≡ prefix_len is_letter bytes.now }
@@ -51,14 +51,14 @@ fn letters(bytes: &[u8]) -> usize
     len
 }
 
-/// An ASCII letter.
+/// Returns whether the byte is an ASCII letter.
 fn is_letter_byte(byte: u8) -> bool
     ensures { result ≡ is_letter byte }
 {
     byte.is_ascii_alphabetic()
 }
 
-/// Where the byte first stands, or how many bytes there are.
+/// Returns the first index of the byte, or the number of bytes.
 #[tactic(auto, using(crate::proofs::Runs::none_yet, crate::proofs::Runs::passes_on, crate::proofs::Runs::stops_at, crate::proofs::Runs::ends_at))]
 pub fn find_byte(byte: u8, bytes: &[u8]) -> usize
     ensures value { result ≡ position_or_len (λ b. b == byte) bytes.now }
@@ -74,7 +74,7 @@ pub fn find_byte(byte: u8, bytes: &[u8]) -> usize
     len
 }
 
-/// The number, which has three digits at most, with a sign.
+/// Returns the number, which has at most three digits, as a signed one.
 fn to_signed(number: u16) -> i16
     requires { number ≤ 999 }
     ensures { result ≡ pos number }
@@ -82,7 +82,7 @@ fn to_signed(number: u16) -> i16
     number as i16
 }
 
-/// The number, which has three digits at most, with a minus sign.
+/// Returns the negation of the number, which has at most three digits.
 fn negative(number: u16) -> i16
     requires { number ≤ 999 }
     ensures { result ≡ neg_ℤ (pos number) }
@@ -112,7 +112,7 @@ impl<'a> Rest<'a> {
         letters
     }
 
-    /// Takes the mark, if it stands at the front.
+    /// Takes the mark, if it is at the front.
     fn mark(&mut self, mark: u8) -> bool
         ensures readings { (parts : List Part)
             → readings (Mark mark ∷ parts) self.old.bytes.now ≡ cond result (readings parts self.new.bytes.now) [] }
@@ -144,7 +144,7 @@ impl<'a> Rest<'a> {
         Some(u16::from(*first - b'0'))
     }
 
-    /// Takes one to three digits, as many as stand there.
+    /// Takes one to three digits, as many as there are.
     fn digits(&mut self) -> Option<u16>
         ensures value { number_read result self.new.bytes.now ≡ longest 3 0 self.old.bytes.now }
         ensures bound { IfSome result (λ n. n ≤ 999) }
@@ -159,7 +159,7 @@ impl<'a> Rest<'a> {
         Some(100 * first + 10 * second + third)
     }
 
-    /// Takes a number: a minus sign or none, and one to three digits, as many as stand there.
+    /// Takes a number: an optional minus sign, and one to three digits, as many as there are.
     pub(crate) fn number(&mut self) -> Option<i16>
         ensures { (parts : List Part) → IsTrue (is_free parts)
             → readings (Number ∷ parts) self.old.bytes.now ≡ after_number result parts self.new.bytes.now }
@@ -172,7 +172,7 @@ impl<'a> Rest<'a> {
         Some(to_signed(number))
     }
 
-    /// Takes a number and the mark behind it, with blanks round the number.
+    /// Takes a number and the mark after it, with blanks around the number.
     #[tactic(auto, using(crate::proofs::Readings::no_number_there, crate::proofs::Readings::number_there))]
     fn number_and(&mut self, mark: u8) -> Option<i16>
         requires no_blank { IsFalse (is_blank_byte mark) }
@@ -206,7 +206,7 @@ impl<'a> Rest<'a> {
         Some(Diff { dx, dy, dz })
     }
 
-    /// Whether blanks alone are left.
+    /// Returns whether only blanks are left.
     #[tactic(auto, using(crate::proofs::Readings::nothing_left))]
     pub(crate) fn ends(&mut self) -> bool
         ensures { readings (Blanks ∷ []) self.old.bytes.now ≡ cond result ([] ∷ []) [] }

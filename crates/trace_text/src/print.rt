@@ -8,7 +8,7 @@ use nano_spec::Command;
 use std::alloc::Global;
 use vox_geom::{Diff, Memory};
 
-/// The text of the commands: a line for each (docs/FORMATS.md, "Trace text").
+/// Returns the text of the commands: a line for each (docs/FORMATS.md, "Trace text").
 #[tactic(auto, using(crate::proofs::Joined::printed_on))]
 pub fn print_trace(alloc: Global, commands: &[Command]) -> Result<Vec<u8>, Memory>
     ensures { IfOk result (λ text. text.items ≡ print commands.now) }
@@ -21,14 +21,14 @@ pub fn print_trace(alloc: Global, commands: &[Command]) -> Result<Vec<u8>, Memor
     Ok(text)
 }
 
-/// Puts bytes at the end of the text.
+/// Appends bytes to the text.
 fn put(text: &mut Vec<u8>, bytes: &[u8]) -> Result<(), Memory>
     ensures { OnOk result (text.new.items ≡ text.old.items ++ bytes.now) }
 {
     text.extend_from_slice(bytes).map_err(|_| Memory)
 }
 
-/// Puts a command at the end of the text, without the end of its line.
+/// Appends a command to the text, without the end of its line.
 fn print_command(text: &mut Vec<u8>, command: &Command) -> Result<(), Memory>
     ensures { OnOk result (text.new.items ≡ text.old.items ++ printed command.now) }
 {
@@ -52,7 +52,7 @@ fn print_command(text: &mut Vec<u8>, command: &Command) -> Result<(), Memory>
     }
 }
 
-/// Puts a word and a difference at the end of the text.
+/// Appends a word and a difference to the text.
 fn one(text: &mut Vec<u8>, word: &[u8], difference: Diff) -> Result<(), Memory>
     requires { clen difference ≤ 30 }
     ensures { OnOk result (text.new.items ≡ text.old.items ++ word.now ++ spaced difference) }
@@ -61,7 +61,7 @@ fn one(text: &mut Vec<u8>, word: &[u8], difference: Diff) -> Result<(), Memory>
     print_difference(text, difference)
 }
 
-/// Puts a word and two differences at the end of the text.
+/// Appends a word and two differences to the text.
 fn two(text: &mut Vec<u8>, word: &[u8], first: Diff, second: Diff) -> Result<(), Memory>
     requires first { clen first ≤ 30 }
     requires second { clen second ≤ 30 }
@@ -71,7 +71,7 @@ fn two(text: &mut Vec<u8>, word: &[u8], first: Diff, second: Diff) -> Result<(),
     print_difference(text, second)
 }
 
-/// Puts a space and a difference at the end of the text.
+/// Appends a space and a difference to the text.
 fn print_difference(text: &mut Vec<u8>, difference: Diff) -> Result<(), Memory>
     requires { clen difference ≤ 30 }
     ensures { OnOk result (text.new.items ≡ text.old.items ++ spaced difference) }
@@ -85,7 +85,7 @@ fn print_difference(text: &mut Vec<u8>, difference: Diff) -> Result<(), Memory>
     put(text, b">")
 }
 
-/// Puts a component at the end of the text.
+/// Appends a component to the text.
 fn print_signed(text: &mut Vec<u8>, number: i16) -> Result<(), Memory>
     requires { unsigned_abs number ≤ 255 }
     ensures { OnOk result (text.new.items ≡ text.old.items ++ signed_decimal number) }
@@ -96,7 +96,7 @@ fn print_signed(text: &mut Vec<u8>, number: i16) -> Result<(), Memory>
     print_number(text, number.unsigned_abs() as u8)
 }
 
-/// Puts a number at the end of the text.
+/// Appends a number to the text.
 #[tactic(auto, using(crate::proofs::Decimals::one_digit, crate::proofs::Decimals::two_digits, crate::proofs::Decimals::three_digits))]
 fn print_number(text: &mut Vec<u8>, number: u8) -> Result<(), Memory>
     ensures { OnOk result (text.new.items ≡ text.old.items ++ decimal number) }

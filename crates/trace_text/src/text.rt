@@ -1,4 +1,4 @@
-//! What a text says.
+//! Reading a text.
 ghost use Rattle.std.specs.Prelude.{◌≡◌, ◌<◌, ◌≤◌, ◌^◌, ◌∷◌, length};
 ghost use Rattle.nano_spec.specs.Reading.{lines};
 ghost use Rattle.trace_text.specs.Text.{ReadsText};
@@ -9,7 +9,7 @@ use crate::parts::find_byte;
 use nano_spec::CommandList;
 use std::alloc::Global;
 
-/// The commands that the lines of the text say (docs/FORMATS.md, "Trace text").
+/// Returns the commands in the lines of the text (docs/FORMATS.md, "Trace text").
 #[tactic(auto, using(crate::proofs::Texts::nothing_read, crate::proofs::Texts::skipped_on, crate::proofs::Texts::says_on, crate::proofs::Texts::faulty_here, crate::proofs::Texts::all_read))]
 pub fn read_text(alloc: Global, bytes: &[u8]) -> Result<CommandList, TextFault>
     requires { length bytes.now ≤ 2 ^ 30 }
@@ -31,7 +31,7 @@ pub fn read_text(alloc: Global, bytes: &[u8]) -> Result<CommandList, TextFault>
     Ok(commands)
 }
 
-/// The first line of a text without its line feed, and the lines after it.
+/// Returns the first line of a text without its line feed, and the lines after it.
 #[tactic(auto, using(crate::proofs::Cuts::last_line, crate::proofs::Cuts::first_line))]
 pub fn cut_line(text: &[u8]) -> (&[u8], &[u8])
     requires { 0 < length text.now }

@@ -22,7 +22,7 @@ pub(crate) enum Word {
 }
 
 impl Word {
-    /// The word with these letters.
+    /// Returns the word with these letters.
     pub(crate) fn of(letters: &[u8]) -> Option<Word>
         ensures { word_if_any result ≡ find (λ w. bytes_eq w.letters letters.now) words }
     {

@@ -78,7 +78,7 @@ pub record StayApart (c : Coord) (w d : ℕ) (n : Coord) (width depth : ℕ) : T
 below : (a b c d : ℕ) → a < c → a < d → b < c → b < d → AreBelow (pos a) (pos b) (pos c) (pos d)
 below a b c d h i j k = record { near = omega (arith, ints); far = omega (arith, ints); next_near = omega (arith, ints); next_far = omega (arith, ints) }
 
--- each of the four goes from a corner of one rectangle to that of another
+-- each of the four moves from a corner of one rectangle to that of another
 pub record FourGoes (c : Coord) (w d : ℕ) (n : Coord) (width depth : ℕ) (k l m o : Command) : Type 0 where
   pub first : Goes (bot_with 1 c (2 ^ 41 - 2 ^ 5)) k n
   pub second : Goes (bot_with 2 (coord (c.x + w) c.y c.z) 0) l (coord (n.x + width) n.y n.z)
@@ -106,7 +106,7 @@ module _ (p : TapeState) (c : Coord) (w d : ℕ) (n : Coord) (width depth : ℕ)
         ),
       )
 
-  -- ways by what they lead from and to
+  -- moves by their begin and end
   lie : (a b : Bot) (k l : Command) (q r : Coord) → Goes a k q → Goes b l r
       → LieApart (between (point a.pos) (point q)) (between (point b.pos) (point r))
       → LieApart (way (act a k)) (way (act b l))
@@ -215,7 +215,7 @@ shift_goes Z c f at next a b e g here ea eb ee eg = record {
   fourth = moves g refl (ap (plus (point (coord c.x c.y (c.z + f)))) eg ∙ along_z (coord c.x c.y (c.z + f)) (coord c.x c.y (next + f)) at next (omega arith) refl refl);
 }
 
--- the ways of a tile's four bots lie apart: where there is more than one tile along an axis, bots are further from each
+-- the moves of a tile's four bots are disjoint: if there is more than one tile along an axis, bots are farther from each
 -- other than a move leads
 pub shift_apart : (axis : Axis) (m : Matrix) (c : Coord) (at next : ℕ) → 1 ≤ far_of m.resolution
     → component_of axis c ≡ at → next ≤ at + 15 → at ≤ next + 15
@@ -257,7 +257,7 @@ pub stay_apart : (c : Coord) (w d width depth : ℕ) → 1 ≤ w → 1 ≤ d →
     → StayApart c w d c width depth
 stay_apart c w d width depth h i j k = record { wide = h; wide_then = j; deep = i; deep_then = k; right = omega arith; left = omega arith; rear = omega arith; front = omega arith }
 
--- ---- the three ways to go
+-- ---- the three directions of moves
 
 module _ (p : TapeState) (axis : Axis) (at next : ℕ) (a b e g : Diff) (square : IsRectangle p (far_of p.matrix.resolution) (far_of p.matrix.resolution)) (here : component_of axis (spot p.bots) ≡ at) (near : next ≤ at + 15) (back : at ≤ next + 15) (then : CanStand p.matrix (far_of p.matrix.resolution) (far_of p.matrix.resolution) (put axis (spot p.bots) next)) (ea : a ≡ along axis (pos next -ℤ pos at)) (eb : b ≡ along axis (pos next -ℤ pos at)) (ee : e ≡ along axis (pos next -ℤ pos at)) (eg : g ≡ along axis (pos next -ℤ pos at)) where
   pub can_shift : CanMoveAll p (SMove a ∷ SMove b ∷ SMove e ∷ SMove g ∷ [])

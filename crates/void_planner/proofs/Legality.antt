@@ -1,4 +1,4 @@
--- Where a legal model is void.
+-- The void voxels of a legal model.
 use Rattle.std.proofs.Common.{◌≡◌, ℕ, ◌<◌, ◌≤◌, refl, ◌∙◌, ap, inl, inr, ◌⊎◌, arith, List, [], ◌∷◌, Bool, true, false, cond}
 use Rattle.std.specs.Prelude.{count_by}
 use Rattle.std.proofs.lemmas.List.Sums.{sum_by-cons}
@@ -14,7 +14,7 @@ use Rattle.plan_tape.proofs.LegalModels.{outside_is_void, void_by_space}
 pub small_is_void : (m : Matrix) → IsLegal m → m.resolution ≤ 2 → IsVoidModel m
 small_is_void m h l = λ c. outside_is_void m c h (λ b. let along_x = b.x in let end = b.x_end in omega arith)
 
--- ---- how many voxels are full
+-- ---- the number of full voxels
 
 none_full : (m : Matrix) (cs : List Coord) → IsVoidModel m → count_by (is_full m) cs ≡ 0
 none_full m [] v = refl
@@ -39,7 +39,7 @@ count_void m (d ∷ cs) e c i = by i (count_void m cs (let sum_is = sum_by-cons 
     by (inl f) later = ap (is_full m) f ∙ here (is_full m d) (let sum_is = sum_by-cons (λ x. cond {A = ℕ} (is_full m x) 1 0) d cs in omega (arith, sum_is, e))
     by (inr j) later = later j
 
--- where no voxel is counted, all is void
+-- if no voxel is counted, all is void
 pub none_counted : (m : Matrix) → count_by (is_full m) (all_of m) ≡ 0 → IsVoidModel m
 none_counted m e = λ c. void_by_space m c (λ i. count_void m (all_of m) e c (in_coordinates m.resolution c i))
 

@@ -1,4 +1,4 @@
--- Where the bots stand as they part.
+-- The positions of the bots as they part.
 use Rattle.std.proofs.Common.{◌≡◌, ℕ, ◌+◌, ◌-◌, ◌*◌, ◌<◌, ◌≤◌, refl, sym, ◌∙◌, ap, subst, arith, List, lit≤, mul-le-mul}
 use Rattle.vox_geom.specs.declared.coordinate.Coord.{Coord}
 use Rattle.nano_spec.specs.declared.system.Bot.{Bot}
@@ -20,7 +20,7 @@ risen_stands t h some =
     let resolution_is = ap (λ (m : Matrix). m.resolution) h.matrix in
     record { x = omega (arith, same_x, resolution_is); y = omega (arith, same_y, resolution_is); z = omega (arith, same_z, resolution_is); above = h.clear }
 
--- bots that come of others stand where they can
+-- the bots after fissions or fusions keep the condition on positions
 pub becomes_stands : (p q : TapeState) (bots : List Bot) (made w d : ℕ) → Becomes p q bots made
     → spot bots ≡ spot p.bots → CanStand p.matrix w d (spot p.bots) → CanStand q.matrix w d (spot q.bots)
 becomes_stands p q bots made w d h e s =
@@ -37,11 +37,11 @@ becomes_four p q made h s = record {
   stand = becomes_stands p q (four (spot p.bots) 1 1) made 1 1 h refl s;
 }
 
--- where all is void from the floor on, all is void
+-- if all is void from the floor on, all is void
 pub void_all_over : (m : Matrix) → IsVoidFrom m 0 → IsVoidModel m
 void_all_over m h = λ c. h c (omega arith)
 
--- ---- how many steps
+-- ---- the number of steps
 
 swept : (r m : ℕ) → 2 ≤ r → 34 + (r - 1) * (8 * m + 8) + 6 + 2 ≤ 8 * r * m + 8 * r + 200
 swept r m some = let r_is : r ≡ (r - 1) + 1 = omega arith in by (r - 1) r r_is
@@ -57,7 +57,7 @@ steps_fit r l =
     let cube : r * (tiles_of r * tiles_of r) ≤ 400 * (13 * 13) = mul-le-mul l square in
     omega arith
 
--- the four stand where the voiding begins
+-- the four are at the beginning of the sweep
 pub no_way_yet : (b : TapeState) → IsSpread b → steps_to b (coord 0 (b.matrix.resolution - 1) 0) ≤ 34
 no_way_yet b h =
     let at : spot b.bots ≡ top b.matrix = h.there ∙ ap top (sym h.matrix) in
@@ -75,7 +75,7 @@ voiding_fits b m h e some most =
     let same = ap (λ (k : Matrix). (k.resolution - 1) * voiding_steps k.resolution) e in
     omega (arith, first, all, same)
 
--- all that is done with the way home, a Flip and the Halt
+-- all steps with the path home, a Flip and the Halt
 pub steps_home : (b d g : TapeState) (m : Matrix) → IsSpread b → b.matrix ≡ m → 2 ≤ m.resolution
     → Clears b d (coord 0 (b.matrix.resolution - 1) 0) (coord 0 0 0)
     ((b.matrix.resolution - 1) * voiding_steps b.matrix.resolution) → IsGathered g (steps_to d (coord 0 0 0) + 6)

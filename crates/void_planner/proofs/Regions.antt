@@ -1,4 +1,4 @@
--- Matrices of which a region was voided, and what is outside space.
+-- Matrices with a voided region, and coordinates outside space.
 use Rattle.std.proofs.Common.{◌≡◌, ℕ, ◌+◌, ◌≤◌, refl, sym, ◌∙◌, ap, arith, Bool, true, false, cond, ◌&&◌, not, Option, Some, None}
 use Rattle.std.specs.Prelude.{pos, find, is_some}
 use Rattle.vox_geom.specs.declared.coordinate.Coord.{Coord}
@@ -37,7 +37,7 @@ in_tile far t c a b e f g = three_true (is_between (pos t.x) (pos (t.x + far)) (
 pub tile_void : (m : Matrix) (far x y z : ℕ) → IsVoidTile (with_region m (tile far (coord x y z)) false) far x y z
 tile_void m far x y z = λ c a b e f g. region_void m (tile far (coord x y z)) c (in_tile far (coord x y z) c a b e f g)
 
--- ---- what is not found
+-- ---- no full voxel found
 
 none_is : {A : Type 0} (o : Option A) (t : Bool) → is_some o ≡ not t → t ≡ true → o ≡ None
 none_is None t e f = refl

@@ -1,4 +1,4 @@
--- How one bot becomes four, and four become one again.
+-- Fission of one bot into four, and fusion into one.
 use Rattle.std.proofs.Common.{◌≡◌, ℕ, ◌+◌, ◌-◌, ◌^◌, ◌<◌, refl, sym, ◌∙◌, ap, subst, inl, inr, arith, List, [], ◌∷◌, ◌++◌, true, length, lit<}
 use Rattle.std.specs.Prelude.{ℤ, count_by, pos, negsuc, IsTrue}
 use Rattle.std.specs.List.{Contains}
@@ -32,7 +32,7 @@ use Rattle.plan_tape.proofs.Fissions.{fissions_more}
 use Rattle.plan_tape.proofs.ClearWays.{free_place}
 use Rattle.void_planner.proofs.Corners.{point_by}
 
--- ---- what a step makes
+-- ---- the result of a step
 
 pub becomes : (p q : TapeState) (k : List Command) (some bots : List Bot) (made : ℕ) → count_by is_fission k ≡ made
     → some ≡ bots → p.harmonics ≡ High → p.profile ≡ full_profile → AllStep p q k p.matrix p.harmonics some
@@ -52,7 +52,7 @@ becomes p q k some bots made n e high full s = record {
 abbrev to : ℤ → ℤ → Diff
 to dx dz = record { dx = dx; dy = pos 0; dz = dz }
 
--- the coordinate beside one along x, along z, and back
+-- the neighbor along x, along z, and back
 beside_x : (c : Coord) → plus (point c) (to (pos 1) (pos 0)) ≡ point (coord (c.x + 1) c.y c.z)
 beside_x c = point_by c (to (pos 1) (pos 0)) (coord (c.x + 1) c.y c.z) (plus_one c.x) (plus_none c.y) (plus_none c.z)
 
@@ -65,7 +65,7 @@ back_x c = point_by (coord (c.x + 1) c.y c.z) (to (negsuc 0) (pos 0)) c (less_on
 back_z : (c : Coord) → plus (point (coord c.x c.y (c.z + 1))) (to (pos 0) (negsuc 0)) ≡ point c
 back_z c = point_by (coord c.x c.y (c.z + 1)) (to (pos 0) (negsuc 0)) c (plus_none c.x) (plus_none c.y) (less_one c.z)
 
--- a way of one coordinate that is in space, where all is void from its height on
+-- a move within one coordinate that is in space, if all is void from its height on
 free_spot : (m : Matrix) (w d : ℕ) (c q : Coord) (u : Point) → CanStand m w d c → u ≡ point q → IsInSpace m.resolution q
     → q.y ≡ c.y → IsFreeWay m u u
 free_spot m w d c q u stand e i same = free_place m q u e i (λ a l. stand.above a (omega arith))
@@ -346,7 +346,7 @@ module _ (p : TapeState) (c : Coord) (d e f g : Diff) (bots : p.bots ≡ four c 
       → bots_fused p.bots commands ≡ two c
   fuse_both_makes h k = ap (λ (bs : List Bot). bots_fused bs commands) bots ∙ ((λ i. h i ++ (k i ++ [])) ∙ fused_four c right behind behind_right)
 
--- ---- what holds of the acts of bots that are known
+-- ---- facts of the acts of known bots
 
 pub contains_as : (bs cs : List Bot) (k : List Command) (a : Act) → bs ≡ cs → Contains (acts cs k) a
     → Contains (acts bs k) a

@@ -28,7 +28,7 @@ clears_more a b c p q s k n most h g l = record {
   steps_are = let its_steps_are = h.steps_are in let steps_are = g.steps_are in omega arith;
 }
 
--- the way to another coordinate
+-- the path to another coordinate
 pub clears_to : (a b : TapeState) (p q s : Coord) (k n most : ℕ) → Clears a b p q k → moves_to q s ≤ n → k + n ≤ most
     → Clears a b p s most
 clears_to a b p q s k n most h l m = record {
@@ -40,7 +40,7 @@ clears_to a b p q s k n most h l m = record {
   steps_are = let steps_are = h.steps_are in let onward = moves_on (spot b.bots) q s in omega arith;
 }
 
--- the four can go on where they have voided
+-- the four can continue after they have voided
 pub clears_on : (a b : TapeState) (p q : Coord) (k y : ℕ) → CanVoidLayers a y → Clears a b p q k → CanVoidLayers b y
 clears_on a b p q k y c h = record {
   square = subst (λ r. IsRectangle b (far_of r) (far_of r)) (sym h.resolution) h.square;
@@ -99,14 +99,14 @@ turned_below : (n : ℕ) (back : Bool) (j : ℕ) → j < n → turned n back j <
 turned_below n true j h = let below_n : n - 1 - j < n = omega arith in below_n
 turned_below n false j h = h
 
--- a place is in the tile of its number
+-- a position is in the tile of its number
 in_tile : (r z : ℕ) → z < r → (z / 31 < tiles_of r) × (place_of r (z / 31) ≤ z) × (z ≤ place_of r (z / 31) + far_of r)
 in_tile r z h = (omega arith, omega arith, omega arith)
 
 pub less_or_not : (a b : ℕ) → (a < b) ⊎ (b ≤ a)
 less_or_not a b = grind arith
 
--- what holds of all that were taken before holds of them and the next one
+-- a fact of all tiles taken before holds of them and the next one
 taken_more : (P Q : ℕ → Type 0) (k : ℕ) → ((i : ℕ) → P i → Q i) → ((i : ℕ) → i < k → P i) → Q k → (i : ℕ) → i < k + 1
     → Q i
 taken_more P Q k f h q i l = by (less_or_not i k)
@@ -115,7 +115,7 @@ taken_more P Q k f h q i l = by (less_or_not i k)
     by (inl m) = f i (h i m)
     by (inr m) = let k_is : k ≡ i = omega arith in subst Q k_is q
 
--- what holds of all that were taken holds of each
+-- a fact of all taken tiles holds of each
 each_taken : (P : ℕ → Type 0) (n : ℕ) (back : Bool) → ((i : ℕ) → i < n → P (turned n back i)) → (j : ℕ) → j < n → P j
 each_taken P n back h j l = subst P (twice n back j l) (h (turned n back j) (turned_below n back j l))
 
@@ -188,7 +188,7 @@ layer_limit a b r turn first now y k limit h p q =
         → s + m < limit → b + t + 4 * n < limit
     within s b u t w n k m limit e f g h q = let product_is : (4 * n + 3) * (k + 1) ≡ (4 * n + 3) * k + (4 * n + 3) = omega arith in omega arith
 
--- one strip more, and the way to it
+-- one strip more, and the path to it
 pub layer_on : (a b c : TapeState) (r : ℕ) (turn first now : Bool) (y k : ℕ)
     → Clears a b (coord (edge r turn) (y + 1) (edge r first))
     (coord (place_of r (turned (tiles_of r) turn (k - 1))) (y + 1) (edge r now)) (strip_steps r * k)
@@ -212,7 +212,7 @@ layer_on a b c r turn first now y k p q =
 
 -- ---- all layers
 
--- the steps of a layer and of the way to the one below
+-- the steps of a layer and of the path to the one below
 abbrev pub fro_steps : ℕ → ℕ
 fro_steps r = strip_steps r * tiles_of r + 1
 
@@ -233,7 +233,7 @@ layers_on a b c r y turn back next h l p q =
     one_down : (x y z : ℕ) → moves_to (coord x y z) (coord x (y - 1) z) ≤ 1
     one_down x y z = omega arith
 
--- ---- the way back to the origin
+-- ---- the path back to the origin
 
 edge_near : (r : ℕ) (back : Bool) → moves (edge r back) 0 ≤ 3 * tiles_of r
 edge_near r true = omega arith
@@ -248,7 +248,7 @@ nine (suc (suc (suc k))) = let at_most_k : 3 * suc (suc (suc k)) ≤ suc (suc (s
 squares : (n : ℕ) → (4 * n + 3) * n ≡ 4 * (n * n) + 3 * n
 squares n = omega arith
 
--- a layer's steps leave room for a way back
+-- a layer's steps leave room for a path back
 with_way : (n : ℕ) → ((4 * n + 3) * n + 1) + 6 * n ≤ 8 * (n * n) + 8
 with_way n = let squares_here = squares n in let nine_here = nine n in omega arith
 
@@ -274,7 +274,7 @@ layers_limit a b r y turn back limit h l p q =
     within : (s t m n k limit : ℕ) → t ≤ s + m → m + (n + 1) ≤ k → s + k < limit → t + n < limit
     within s t m n k limit e f g = omega arith
 
--- once all layers are void, the way to the origin is within the steps of the layers
+-- once all layers are void, the path to the origin is within the steps of the layers
 pub layers_all : (a b : TapeState) (r y : ℕ) (turn back : Bool) → 2 ≤ r → y ≡ 0
     → Clears a b (coord 0 (r - 1) 0) (coord (edge r turn) y (edge r back)) ((r - 1 - y) * fro_steps r)
     → Clears a b (coord 0 (r - 1) 0) (coord 0 0 0) ((r - 1) * voiding_steps r)

@@ -1,7 +1,7 @@
--- How many steps a void plan has at most, by the square tiles of a layer (docs/FORMATS.md, "Printed lines").
+-- The most steps of a void plan, by the square tiles of a layer (docs/FORMATS.md, "Printed lines").
 use Rattle.std.specs.Prelude.{ℕ, ◌+◌, ◌*◌, ◌/◌}
 
--- how many tiles a layer has along x, and along z
+-- the number of tiles of a layer along x, and along z
 abbrev pub tiles_of : ℕ → ℕ
 tiles_of r = (r + 30) / 31
 

@@ -21,7 +21,7 @@ pub record IsSpread (t : TapeState) : Type 0 where
   pub there : spot t.bots ≡ top t.source
   pub steps_are : t.steps ≤ 34
 
--- under High, all is void, and there is one bot, which has no more than so many steps to go home
+-- under High, all is void, and there is one bot, at most this many steps from home
 pub record IsGathered (t : TapeState) (most : ℕ) : Type 0 where
   pub void : IsVoidFrom t.matrix 0
   pub high : t.harmonics ≡ High

@@ -1,4 +1,4 @@
--- Four bots at the corners of a rectangle, and what their steps leave.
+-- Four bots at the corners of a rectangle, and the effects of their steps.
 use Rattle.std.specs.Prelude.{◌≡◌, ℕ, ◌+◌, ◌-◌, ◌*◌, ◌^◌, ◌<◌, ◌≤◌, false, List, [], ◌∷◌}
 use Rattle.vox_geom.specs.declared.coordinate.Coord.{Coord}
 use Rattle.vox_geom.specs.Region.{Span}
@@ -21,7 +21,7 @@ bot_with bid c seeds = record { bid = bid; pos = c; seeds = seeds }
 abbrev pub one : Coord → List Bot
 one c = bot_with 1 c (2 ^ 41 - 2 ^ 2) ∷ []
 
--- it and one beside it along x: the seeds 4 to 40, and 3
+-- it and its neighbor along x: the seeds 4 to 40, and 3
 abbrev pub two : Coord → List Bot
 two c = bot_with 1 c (2 ^ 41 - 2 ^ 4) ∷ bot_with 2 (coord (c.x + 1) c.y c.z) (2 ^ 3) ∷ []
 
@@ -31,7 +31,7 @@ four c w d =
     bot_with 1 c (2 ^ 41 - 2 ^ 5) ∷ bot_with 2 (coord (c.x + w) c.y c.z) 0
     ∷ bot_with 3 (coord (c.x + w) c.y (c.z + d)) 0 ∷ bot_with 4 (coord c.x c.y (c.z + d)) 0 ∷ []
 
--- bots at the corners of a rectangle stand in space, and all is void from their height on
+-- bots at the corners of a rectangle are in space, and all is void from their height on
 pub record CanStand (m : Matrix) (w d : ℕ) (c : Coord) : Type 0 where
   pub x : c.x + w < m.resolution
   pub y : c.y < m.resolution
@@ -45,7 +45,7 @@ pub record CanRegroup (p : TapeState) : Type 0 where
   pub stand : CanStand p.matrix 1 1 (spot p.bots)
   pub limit : p.steps < 1073741824
 
--- under High, four bots stand at the corners of a rectangle
+-- under High, four bots are at the corners of a rectangle
 pub record IsRectangle (p : TapeState) (w d : ℕ) : Type 0 where
   pub bots_are : p.bots ≡ four (spot p.bots) w d
   pub high : p.harmonics ≡ High
@@ -54,7 +54,7 @@ pub record IsRectangle (p : TapeState) (w d : ℕ) : Type 0 where
   pub deep : 1 ≤ d
   pub stand : CanStand p.matrix w d (spot p.bots)
 
--- in so many steps the four have come to stand at the corners of a rectangle with this least corner, and no voxel has
+-- in this many steps the four have come to the corners of a rectangle with this least corner, and no voxel has
 -- changed
 pub record FourGo (old new : TapeState) (w d : ℕ) (c : Coord) (count : ℕ) : Type 0 where
   pub source : new.source ≡ old.source
@@ -64,7 +64,7 @@ pub record FourGo (old new : TapeState) (w d : ℕ) (c : Coord) (count : ℕ) : 
   pub fissions_are : fissions new ≡ fissions old
   pub steps : new.steps ≡ old.steps + count
 
--- in one step the four have voided a region and stayed where they stand
+-- in one step the four have voided a region and kept their positions
 pub record FourVoid (old new : TapeState) (far : ℕ) (region : Span) (m : Matrix) : Type 0 where
   pub source : new.source ≡ old.source
   pub matrix : new.matrix ≡ m
@@ -81,8 +81,8 @@ AreFewer new old = (c : Coord) → is_full old c ≡ false → is_full new c ≡
 abbrev pub steps_to : TapeState → Coord → ℕ
 steps_to p c = p.steps + moves_to (spot p.bots) c
 
--- the four have voided some voxels; with the way to a coordinate the tape has so many steps more at most than it had
--- with the way to another
+-- the four have voided some voxels; the tape's steps with those to `last` exceed the earlier ones with those to `first` by
+-- at most `most`
 pub record Clears (old new : TapeState) (first last : Coord) (most : ℕ) : Type 0 where
   pub source : new.source ≡ old.source
   pub resolution : new.matrix.resolution ≡ old.matrix.resolution
@@ -91,21 +91,21 @@ pub record Clears (old new : TapeState) (first last : Coord) (most : ℕ) : Type
   pub fissions_are : fissions new ≡ fissions old
   pub steps_are : steps_to new last ≤ steps_to old first + most
 
--- the four stand under High, and all is void above the layer of y
+-- the four are under High, and all is void above the layer of y
 pub record CanVoidLayers (p : TapeState) (y : ℕ) : Type 0 where
   pub square : IsRectangle p (far_of p.matrix.resolution) (far_of p.matrix.resolution)
   pub within : y + 1 < p.matrix.resolution
   pub above : IsVoidFrom p.matrix (y + 1)
 
--- how many steps a strip takes at most, with the way to the next one
+-- the most steps of a strip, with the path to the next one
 abbrev pub strip_steps : ℕ → ℕ
 strip_steps r = 4 * tiles_of r + 3
 
--- how many steps a layer takes at most, with the way to the one below, and a way back to the origin
+-- the most steps of a layer, with the path to the one below, and a path back to the origin
 abbrev pub voiding_steps : ℕ → ℕ
 voiding_steps r = 8 * (tiles_of r * tiles_of r) + 8
 
--- under High, a step has made these bots of the tape's, by so many Fissions, and no voxel has changed
+-- under High, a step has made these bots of the tape's, by this many Fissions, and no voxel has changed
 pub record Becomes (old new : TapeState) (bots : List Bot) (made : ℕ) : Type 0 where
   pub source : new.source ≡ old.source
   pub matrix : new.matrix ≡ old.matrix

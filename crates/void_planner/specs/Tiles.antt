@@ -10,7 +10,7 @@ use Rattle.void_planner.specs.Bounds.{tiles_of}
 abbrev pub far_of : ℕ → ℕ
 far_of r = min 30 (r - 1)
 
--- where the k-th tile begins along x or z
+-- the begin of the k-th tile along x or z
 abbrev pub place_of : ℕ → ℕ → ℕ
 place_of r k = min (31 * k) (r - 1 - far_of r)
 
@@ -18,7 +18,7 @@ place_of r k = min (31 * k) (r - 1 - far_of r)
 abbrev pub turned : ℕ → Bool → ℕ → ℕ
 turned n back k = cond back (n - 1 - k) k
 
--- where the first tile along x or z begins, taken forth or back
+-- the begin of the first tile along x or z, forward or back
 abbrev pub edge : ℕ → Bool → ℕ
 edge r back = place_of r (turned (tiles_of r) back 0)
 

@@ -1,4 +1,4 @@
-//! How one bot becomes four, and four become one again.
+//! Fission of one bot into four, and fusion into one.
 ghost use Rattle.std.specs.Prelude.{◌≡◌, ◌+◌, ◌≤◌, OnOk};
 ghost use Rattle.plan_tape.specs.Progress.{spot, IsVoidFrom};
 ghost use Rattle.plan_tape.specs.Fissions.{fissions};
@@ -14,7 +14,7 @@ use nano_spec::Command;
 use plan_tape::{Axis, Tape, ahead, behind};
 use vox_geom::Memory;
 
-/// The only bot makes a second one beside it along x.
+/// Splits the single bot to its neighbor along x.
 fn split(tape: &mut Tape) -> Result<(), Memory>
     requires bots { tape.old.bots ≡ one (spot tape.old.bots) }
     requires can { CanRegroup tape.old }
@@ -23,7 +23,7 @@ fn split(tape: &mut Tape) -> Result<(), Memory>
     tape.split_all(&[Command::Fission(ahead(Axis::X), 1)])
 }
 
-/// Both bots make one more beside them along z.
+/// Splits both bots to their neighbors along z.
 fn split_both(tape: &mut Tape) -> Result<(), Memory>
     requires bots { tape.old.bots ≡ two (spot tape.old.bots) }
     requires can { CanRegroup tape.old }
@@ -35,7 +35,7 @@ fn split_both(tape: &mut Tape) -> Result<(), Memory>
     ])
 }
 
-/// The fourth bot fuses with the first, and the third with the second.
+/// Fuses the fourth bot with the first, and the third with the second.
 fn fuse_both(tape: &mut Tape) -> Result<(), Memory>
     requires bots { tape.old.bots ≡ four (spot tape.old.bots) 1 1 }
     requires can { CanRegroup tape.old }
@@ -49,7 +49,7 @@ fn fuse_both(tape: &mut Tape) -> Result<(), Memory>
     ])
 }
 
-/// The second bot fuses with the first.
+/// Fuses the second bot with the first.
 fn fuse(tape: &mut Tape) -> Result<(), Memory>
     requires bots { tape.old.bots ≡ two (spot tape.old.bots) }
     requires can { CanRegroup tape.old }
@@ -61,7 +61,7 @@ fn fuse(tape: &mut Tape) -> Result<(), Memory>
     ])
 }
 
-/// The only bot becomes four bots at the corners of a square.
+/// Spreads the single bot into four at the corners of a square.
 pub fn spread(tape: &mut Tape) -> Result<(), Memory>
     requires risen { HasRisen tape.old }
     requires some { 2 ≤ tape.old.source.resolution }
@@ -76,7 +76,7 @@ pub fn spread(tape: &mut Tape) -> Result<(), Memory>
     set_depth(tape, 1, far)
 }
 
-/// The four become one bot.
+/// Fuses the four into one bot.
 pub fn gather(tape: &mut Tape) -> Result<(), Memory>
     requires square { IsRectangle tape.old (far_of tape.old.matrix.resolution) (far_of tape.old.matrix.resolution) }
     requires void { IsVoidFrom tape.old.matrix 0 }

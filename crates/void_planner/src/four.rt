@@ -12,7 +12,7 @@ use nano_spec::Command;
 use plan_tape::{Axis, Tape, component, next_stop, towards};
 use vox_geom::{Coord, Diff, Far, Memory, Near};
 
-/// Where the first bot is.
+/// Returns the position of the first bot.
 pub fn corner(tape: &Tape) -> Coord
     requires { 1 ≤ length tape.now.bots }
     ensures { result ≡ spot tape.now.bots }
@@ -20,7 +20,7 @@ pub fn corner(tape: &Tape) -> Coord
     tape.crew().bots()[0].pos
 }
 
-/// All four make the same move along an axis.
+/// Makes the same move along an axis with all four.
 fn shift(tape: &mut Tape, axis: Axis, at: u16, next: u16) -> Result<(), Memory>
     requires square { IsRectangle tape.old (far_of tape.old.matrix.resolution) (far_of tape.old.matrix.resolution) }
     requires at { component_of axis (spot tape.old.bots) ≡ at }
@@ -42,7 +42,7 @@ fn shift(tape: &mut Tape, axis: Axis, at: u16, next: u16) -> Result<(), Memory>
     ])
 }
 
-/// All four go along an axis until the first bot is there.
+/// Moves all four along an axis until the first bot is at `to`.
 fn go_along(tape: &mut Tape, axis: Axis, to: u16) -> Result<(), Memory>
     requires square { IsRectangle tape.old (far_of tape.old.matrix.resolution) (far_of tape.old.matrix.resolution) }
     requires stand { CanStand tape.old.matrix (far_of tape.old.matrix.resolution) (far_of tape.old.matrix.resolution)
@@ -61,7 +61,7 @@ fn go_along(tape: &mut Tape, axis: Axis, to: u16) -> Result<(), Memory>
     Ok(())
 }
 
-/// All four go until the first bot is there.
+/// Moves all four until the first bot is at `to`.
 pub fn go(tape: &mut Tape, to: Coord) -> Result<(), Memory>
     requires square { IsRectangle tape.old (far_of tape.old.matrix.resolution) (far_of tape.old.matrix.resolution) }
     requires stand { CanStand tape.old.matrix (far_of tape.old.matrix.resolution) (far_of tape.old.matrix.resolution)
@@ -76,7 +76,7 @@ pub fn go(tape: &mut Tape, to: Coord) -> Result<(), Memory>
     go_along(tape, Axis::Z, to.z)
 }
 
-/// The second and the third bot make the same move along x.
+/// Makes the same move along x with the second and the third bot.
 fn widen(tape: &mut Tape, at: u16, next: u16) -> Result<(), Memory>
     requires rectangle { IsRectangle tape.old at 1 }
     requires differ { at ≢ next }
@@ -95,7 +95,7 @@ fn widen(tape: &mut Tape, at: u16, next: u16) -> Result<(), Memory>
     ])
 }
 
-/// The third and the fourth bot make the same move along z.
+/// Makes the same move along z with the third and the fourth bot.
 fn deepen(tape: &mut Tape, at: u16, next: u16) -> Result<(), Memory>
     requires rectangle { IsRectangle tape.old (far_of tape.old.matrix.resolution) at }
     requires differ { at ≢ next }
@@ -114,7 +114,7 @@ fn deepen(tape: &mut Tape, at: u16, next: u16) -> Result<(), Memory>
     ])
 }
 
-/// The rectangle gets another width along x.
+/// Changes the width of the rectangle along x.
 pub fn set_width(tape: &mut Tape, from: u16, to: u16) -> Result<(), Memory>
     requires rectangle { IsRectangle tape.old from 1 }
     requires some { 1 ≤ to }
@@ -131,7 +131,7 @@ pub fn set_width(tape: &mut Tape, from: u16, to: u16) -> Result<(), Memory>
     Ok(())
 }
 
-/// The rectangle gets another depth along z.
+/// Changes the depth of the rectangle along z.
 pub fn set_depth(tape: &mut Tape, from: u16, to: u16) -> Result<(), Memory>
     requires rectangle { IsRectangle tape.old (far_of tape.old.matrix.resolution) from }
     requires some { 1 ≤ to }
@@ -149,7 +149,7 @@ pub fn set_depth(tape: &mut Tape, from: u16, to: u16) -> Result<(), Memory>
     Ok(())
 }
 
-/// The difference from a corner of a tile to the one across.
+/// Returns the difference from a corner of a tile to the opposite one.
 fn across(dx: i16, dz: i16) -> Far
     requires { IsTrue (is_far (record { dx = dx; dy = pos 0; dz = dz })) }
     ensures { result ≡ record { dx = dx; dy = pos 0; dz = dz } }
@@ -160,7 +160,7 @@ fn across(dx: i16, dz: i16) -> Far
     far
 }
 
-/// All four void the tile below them.
+/// Voids the tile below all four.
 pub fn void_below(tape: &mut Tape, far: u16) -> Result<(), Memory>
     requires far { far ≡ far_of tape.old.matrix.resolution }
     requires square { IsRectangle tape.old far far }

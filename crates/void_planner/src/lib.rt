@@ -1,5 +1,5 @@
-//! A planner with four bots, which void the source from the top down, tile by tile: they stand above the corners of a square
-//! tile and void it together.
+//! A planner for four bots, which void the source from the top down, tile by tile: from above the corners of a square tile they
+//! void it together.
 #![tactic(auto)]
 
 mod ends;

@@ -20,7 +20,7 @@ use std::sync::ledger::{Blank, Ledger};
 use vox_geom::{Memory, Steps};
 use vox_planes::Planes;
 
-/// Whether no voxel is full, counted in a ledger of its own.
+/// Returns whether no voxel is full, with touches counted in a ledger of its own.
 fn is_empty_in<L: Ledger>(planes: &Planes, blank: Blank) -> bool
     requires blank { IsBlankOf blank L.name L.parts }
     ensures { IsTrue result ↔ (full_count planes.now ≡ 0) }
@@ -29,7 +29,7 @@ fn is_empty_in<L: Ledger>(planes: &Planes, blank: Blank) -> bool
     planes.count(&mut steps) == 0
 }
 
-/// Whether no voxel is full.
+/// Returns whether no voxel is full.
 fn is_empty(planes: &Planes) -> bool
     ensures void { IsTrue result → IsVoidModel planes.now }
     ensures full { IsVoidModel planes.now → IsTrue result }
@@ -37,8 +37,8 @@ fn is_empty(planes: &Planes) -> bool
     is_empty_in::<Brand>(planes, Blank::new(1))
 }
 
-/// A plan that makes the empty model of the source, which is legal. At resolution r it takes at most 8 * r * t + 8 * r + 200 steps, where t is
-/// the square of (r + 30) / 31 in whole numbers; where no voxel is full, its commands are a Halt alone.
+/// Plans from the source, which is legal, to the empty model. At resolution r the plan takes at most 8 * r * t + 8 * r + 200 steps;
+/// t is the square of (r + 30) / 31, rounded down. If no voxel is full, its commands are a Halt alone.
 pub fn plan_void(alloc: Global, source: &Planes) -> Result<Plan, Memory>
     requires { IsLegal source.now }
     ensures accepted { IfOk result

@@ -1,4 +1,4 @@
-//! Tiles, strips and layers that are made void, from one layer above.
+//! Voids tiles, strips and layers, from one layer above.
 ghost use Rattle.std.specs.Prelude.{◌≡◌, ◌+◌, ◌-◌, ◌*◌, ◌<◌, ◌≤◌, IfOk, OnOk, not};
 ghost use Rattle.void_planner.specs.Square.{CanVoidLayers, Clears, IsRectangle, voiding_steps, steps_to, strip_steps};
 ghost use Rattle.void_planner.specs.Tiles.{IsVoidBefore, IsVoidStrip, IsVoidTile, edge, far_of};
@@ -28,7 +28,7 @@ fn void_tile(tape: &mut Tape, x: u16, y: u16, z: u16) -> Result<(), Memory>
     void_below(tape, far)
 }
 
-/// Voids the tiles of one x, forth or back along z.
+/// Voids the tiles of one x, forward or back along z.
 fn void_strip(tape: &mut Tape, x: u16, y: u16, back: bool) -> Result<(), Memory>
     requires ready { CanVoidLayers tape.old y }
     requires x { x + far_of tape.old.matrix.resolution < tape.old.matrix.resolution }
@@ -49,8 +49,8 @@ fn void_strip(tape: &mut Tape, x: u16, y: u16, back: bool) -> Result<(), Memory>
     Ok(())
 }
 
-/// Voids a layer, forth or back along x. The strips are taken forth and back along z, the first one as told; the answer says how
-/// the next one would be taken.
+/// Voids a layer, forward or back along x. The strips alternate forward and back along z, the first one by `back`. Returns the
+/// direction of the next one.
 fn void_layer(tape: &mut Tape, y: u16, turn: bool, back: bool) -> Result<bool, Memory>
     requires ready { CanVoidLayers tape.old y }
     requires limit { steps_to tape.old
@@ -74,7 +74,7 @@ fn void_layer(tape: &mut Tape, y: u16, turn: bool, back: bool) -> Result<bool, M
     Ok(next)
 }
 
-/// Voids all layers, from the top down, each from where the one above ends.
+/// Voids all layers, from the top down, each starting at the end of the one above.
 pub fn void_all(tape: &mut Tape) -> Result<(), Memory>
     requires square { IsRectangle tape.old (far_of tape.old.matrix.resolution) (far_of tape.old.matrix.resolution) }
     requires top { IsVoidFrom tape.old.matrix (tape.old.matrix.resolution - 1) }

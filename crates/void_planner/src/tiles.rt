@@ -7,10 +7,10 @@ use vox_geom::{Coord, MOST_R, Region};
 use vox_planes::Planes;
 use voxel_reads::first_full;
 
-/// The greatest number of voxels along a tile.
+/// The longest side of a tile in voxels.
 const SIDE: u16 = 31;
 
-/// How far the corners of a tile are from each other along x and along z.
+/// Returns the distance of the corners of a tile along x and along z.
 pub fn far(r: u16) -> u16
     requires { 2 ≤ r }
     ensures { result ≡ far_of r }
@@ -18,7 +18,7 @@ pub fn far(r: u16) -> u16
     if r < SIDE { r - 1 } else { SIDE - 1 }
 }
 
-/// How many tiles a layer has along x, and along z.
+/// Returns the number of tiles of a layer along x, and along z.
 pub fn tiles(r: u16) -> u16
     requires { r ≤ MOST_R }
     ensures value { result ≡ tiles_of r }
@@ -27,7 +27,7 @@ pub fn tiles(r: u16) -> u16
     (r + (SIDE - 1)) / SIDE
 }
 
-/// Where a tile begins along x or z: the last one may overlap the one before it.
+/// Returns the begin of a tile along x or z. The last one may overlap the one before it.
 pub fn place(r: u16, k: u16) -> u16
     requires some { 2 ≤ r }
     requires few { k ≤ 13 }
@@ -37,7 +37,7 @@ pub fn place(r: u16, k: u16) -> u16
     if SIDE * k < last { SIDE * k } else { last }
 }
 
-/// The k-th of n, counted forth or back.
+/// Returns the k-th of n, counted forward or back.
 pub fn turn_number(n: u16, back: bool, k: u16) -> u16
     requires { k < n }
     ensures { result ≡ turned_of n back k }
@@ -45,7 +45,7 @@ pub fn turn_number(n: u16, back: bool, k: u16) -> u16
     if back { n - 1 - k } else { k }
 }
 
-/// Whether the tile with this least corner is void.
+/// Returns whether the tile with this least corner is void.
 pub fn is_void(planes: &Planes, at: Coord) -> bool
     requires some { 2 ≤ planes.now.resolution }
     requires x { at.x + far_of planes.now.resolution < planes.now.resolution }

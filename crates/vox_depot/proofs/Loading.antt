@@ -1,4 +1,4 @@
--- What has been read of a file, piece after piece.
+-- The bytes read of a file so far, piece by piece.
 use Rattle.std.proofs.Common.{◌≡◌, ℕ, ◌+◌, ◌<◌, ◌≤◌, List, ◌++◌, length, take, drop, Option, None, Some, IsSomeAnd, refl, sym, ap, ◌∙◌, subst, arith, length-append, length-take}
 use Rattle.std.proofs.lemmas.List.{take-take, drop-take, take-append-drop, take_all}
 use Rattle.vox_depot.specs.Files.{Files, content, IsPiece, IfTold}
@@ -12,17 +12,17 @@ pub length_joined : (v w buf : List ℕ) (taken : ℕ) → taken ≤ length buf 
     → length w ≡ length v + taken
 length_joined v w buf taken le is = ap length is ∙ length-append v (take taken buf) ∙ ap (λ k. length v + k) (omega (arith, length-take taken buf))
 
--- where the file is told, these are its first bytes
+-- if the file is visible, these are its first bytes
 pub record SoFar (told : Option Files) (name v : List ℕ) : Type 0 where
   pub front : (files : Files) (file : List ℕ) → told ≡ Some files → content files name ≡ Some file
       → v ≡ take (length v) file
 
--- what is known of the file where it is told, in the form of a premise
+-- a property of the file if it is visible, in the form of a premise
 pub from_told : (told : Option Files) (name : List ℕ) (P : List ℕ → Type 0) → IfTold told name P → (files : Files)
     (file : List ℕ) → told ≡ Some files → content files name ≡ Some file → P file
 from_told told name P h files file t c = let here = subst (λ o. IfTold o name P) t h in subst (λ o. IsSomeAnd o P) c here
 
--- the other way: where files are told there is such a file, and each such file has P
+-- the converse: if files are visible there is such a file, and each such file has P
 pub to_told : (told : Option Files) (name : List ℕ) (P Q : List ℕ → Type 0) → IfTold told name P
     → ((files : Files) (file : List ℕ) → told ≡ Some files → content files name ≡ Some file → Q file)
     → IfTold told name Q
@@ -35,7 +35,7 @@ to_told (Some files) name P Q h all = there (content files name) h (all files)
     there (Some file) h all = all file refl refl
 
 module _ (told : Option Files) (name v : List ℕ) (n : ℕ) (buf : List ℕ) (so_far : SoFar told name v) (piece : IfTold told name (λ file. IsPiece file (length v) n buf)) where
-  -- some first bytes of the piece are added
+  -- a prefix of the piece is added
   pub SoFar-next : (taken : ℕ) (w : List ℕ) → taken ≤ n → n ≤ length buf → w ≡ v ++ take taken buf → SoFar told name w
   SoFar-next taken w le fits is = record {
     front = λ files file t c.
@@ -49,7 +49,7 @@ module _ (told : Option Files) (name v : List ℕ) (n : ℕ) (buf : List ℕ) (s
         whole ∙ ap (λ k. take k file) (sym size);
   }
 
-  -- all that was asked for is there
+  -- all requested bytes are there
   pub SoFar-full : (most : ℕ) (w : List ℕ) → SoFar told name w → length w ≡ most
       → IfTold told name (λ file. w ≡ take most file)
   SoFar-full most w next full = to_told told name _ _ piece (λ files file t c. next.front files file t c ∙ ap (λ k. take k file) full)

@@ -1,4 +1,4 @@
--- What holds of any result.
+-- Properties of a result that hold whether it is `Ok` or `Err`.
 use Rattle.std.proofs.Common.{Result, Ok, Err, IfOk, OnErr}
 
 pub if_ok : {T E : Type 0} (r : Result T E) (P : T → Type 0) → ((x : T) → P x) → IfOk r P

@@ -1,14 +1,14 @@
--- Counts of faults, and when one rose.
+-- Counts of faults, and when they rise.
 use Rattle.std.specs.Coded.{Coded, code_by, coded×, coded_ℕ}
 use Rattle.vox_depot.specs.declared.depot.FetchFault.{FetchFault}
 use Rattle.vox_depot.specs.declared.depot.FetchFault.TheVariants.{Missing, Failed}
 use Rattle.std.specs.Prelude.{refl, Bool, true, false, Result, Ok, Err, ℕ, ◌+◌, ◌-◌, ◌^◌, ◌<◌, ◌≤◌, min}
 
--- the count is higher than before, or stands at the end of its type
+-- the count is higher than before, or is at the end of its type
 abbrev pub Rose : ℕ → ℕ → Type 0
 Rose before now = min (before + 1) (2 ^ 64 - 1) ≤ now
 
--- the count after one more, which stays at the end of its type
+-- the count after one more fault, which stays at the end of its type
 abbrev pub next_count : ℕ → ℕ
 next_count n = min (n + 1) (2 ^ 64 - 1)
 
@@ -22,7 +22,7 @@ is_failed (Ok n) = false
 is_failed (Err Missing) = false
 is_failed (Err Failed) = true
 
--- how often a depot has failed, and how often to store
+-- the number of failures of a depot, and of its failed stores
 pub record DepotFaults : Type 0 where
   pub faults : ℕ
   pub failed_stores : ℕ

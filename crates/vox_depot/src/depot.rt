@@ -1,35 +1,35 @@
-//! What a program asks of the outside.
+//! The traits of the environment.
 ghost use Rattle.std.specs.Prelude.{◌≡◌, ℕ, ◌≤◌, List, Option, length, take, IfOk, OnOk, OnErr, IsErrOf};
 ghost use Rattle.std.specs.Io.KnownBytes.{append_known};
 ghost use Rattle.vox_depot.specs.Causes.{Rose};
 ghost use Rattle.vox_depot.specs.Files.{Files, IfTold, IsMissing, IsPiece, stored, others};
 
-/// Why a fetch gave no bytes.
+/// The reason why a fetch failed.
 #[derive(Clone, Copy, Debug, PartialEq, Eq)]
 pub enum FetchFault {
-    /// The depot tells its files, and there is none of that name.
+    /// The depot's files are visible, and there is none of that name.
     Missing,
     /// The depot failed, and its count of faults rose.
     Failed,
 }
 
-/// The depot failed to store, and its counts of faults and of failed stores rose. The file of that name is unknown now.
+/// The depot failed to store, and its counts of faults and of failed stores rose. The state of that file is unknown now.
 #[derive(Clone, Copy, Debug, PartialEq, Eq)]
 pub struct StoreFault;
 
-/// The sink failed, and its count of faults rose. Some first bytes may have been written.
+/// The sink failed, and its count of faults rose. It may have written a prefix.
 #[derive(Clone, Copy, Debug, PartialEq, Eq)]
 pub struct SinkFault;
 
 /// Files by name.
 pub trait Depot {
-    /// The files, where the depot tells them.
+    /// The files, if the depot makes them visible.
     ghost files: { Self → Option Files };
 
-    /// How often it has failed. The count stays at the end of `u64`.
+    /// The number of failures. The count stays at the end of `u64`.
     ghost faults: { Self → ℕ };
 
-    /// How often it has failed to store. No fetch changes this count, which stays at the end of `u64`.
+    /// The number of failed stores. No fetch changes this count, which stays at the end of `u64`.
     ghost failed_stores: { Self → ℕ };
 
     /// The names that may be fetched. No call changes them.
@@ -38,8 +38,8 @@ pub trait Depot {
     /// The names that may be stored. No call changes them.
     ghost may_store: { List ℕ → Type 0 };
 
-    /// Reads from byte `from` of the file on into the front of the buffer, and says how many bytes it
-    /// read. There are none only at or past the file's end, or where the buffer is empty.
+    /// Reads from byte `from` of the file on into the front of the buffer, and returns the number of bytes read. It is 0 only at or
+    /// past the file's end, or if the buffer is empty.
     fn fetch(&mut self, name: &str, from: u64, buf: &mut [u8]) -> Result<usize, FetchFault>
         requires { may_fetch name.now }
         ensures bound { IfOk result (λ n. n ≤ length buf.new) }
@@ -62,15 +62,15 @@ pub trait Depot {
         ensures stores { failed_stores self.old ≤ failed_stores self.new };
 }
 
-/// Where bytes are written.
+/// An output for bytes.
 pub trait Sink {
-    /// The bytes written so far, where the sink tells them.
+    /// The bytes written so far, if the sink makes them visible.
     ghost written: { Self → Option (List ℕ) };
 
-    /// How often it has failed. The count stays at the end of `u64`.
+    /// The number of failures. The count stays at the end of `u64`.
     ghost faults: { Self → ℕ };
 
-    /// Writes all the bytes, or fails and may have written some first ones.
+    /// Writes all the bytes, or fails and may have written a prefix.
     fn put(&mut self, bytes: &[u8]) -> Result<(), SinkFault>
         ensures written { OnOk result (written self.new ≡ append_known (written self.old) bytes.now) }
         ensures part { OnErr result ((n : ℕ)

@@ -12,22 +12,21 @@ use std::io::{ErrorKind, Read, Seek, SeekFrom};
 use std::marker::Model;
 use std::{fs, io};
 
-/// A file that is open for reading.
+/// An open file.
 #[derive(Drop)]
 struct Opened<F: Drop> {
     name: String,
     file: F,
-    /// How many bytes it had as it was opened.
+    /// Its length when it was opened.
     length: u64,
-    /// Where its next read begins.
+    /// The offset of its next read.
     at: u64,
 }
 
-/// The files of the system, by their paths. They tell no content, and each name is granted. A fetch from
-/// the start opens the file anew, and it stays open as long as each fetch goes on where the last one ended.
-/// A file that has become shorter since then fails at its new end; other changes by others go unseen.
-/// Contracts see how often the depot has failed, and how often to store: want of memory counts, and a file that is
-/// not there too.
+/// The files of the system, by their paths. Their content is not visible to contracts, and each name is granted. A fetch from the
+/// start reopens the file, which stays open as long as each fetch continues at the end of the last. A file that has become shorter
+/// since then fails at its new end; other external changes go unnoticed. Contracts see the number of failures and of failed stores:
+/// out of memory counts, and so does a missing file.
 /// A store that fails leaves the old file, unless the file can only be written in place (`write_whole`).
 #[derive(Drop)]
 pub struct HostDepot<'a, R: Files> {
@@ -49,7 +48,7 @@ impl<'a, R: Files> Model for HostDepot<'a, R> {
 }
 
 impl<'a, R: Files> HostDepot<'a, R> {
-    /// A depot over the files of the system, which has not failed yet.
+    /// Returns a depot over the files of the system, without failures.
     pub fn new(rt: &'a R, alloc: Global) -> HostDepot<'a, R>
         ensures { result ≡ record { faults = 0; failed_stores = 0 } }
     {
@@ -63,7 +62,7 @@ impl<'a, R: Files> HostDepot<'a, R> {
     }
 }
 
-// Reads once, again where a signal interrupts it.
+// Reads once, again if a signal interrupts it.
 fn read_once<F: Read>(file: &mut F, buf: &mut [u8]) -> io::Result<usize>
     ensures bound { IfOk result (λ n. n ≤ length buf.new) }
     ensures bytes { IfOk result (λ n.
@@ -82,7 +81,7 @@ fn read_once<F: Read>(file: &mut F, buf: &mut [u8]) -> io::Result<usize>
 }
 
 impl<F: Read + Drop> Opened<F> {
-    // Reads from where the last read ended. It ends only at the length that it had when it was opened, or later.
+    // Continues reading at the end of the last read. Ends only at the length that the file had when it was opened, or later.
     fn read_on(&mut self, buf: &mut [u8]) -> io::Result<usize>
         ensures bound { IfOk result (λ n. n ≤ length buf.new) }
         ensures bytes { IfOk result (λ n.
@@ -99,7 +98,7 @@ impl<F: Read + Drop> Opened<F> {
     }
 }
 
-// Opens the file to be read from there on.
+// Opens the file for reading from `from` on.
 fn open_at<R: Files>(rt: &R, alloc: Global, name: &str, from: u64) -> io::Result<Opened<R::File>> {
     let mut file = fs::open(rt, name)?;
     let length = file.metadata()?.len();
@@ -166,7 +165,7 @@ impl<'a, R: Files> Depot for HostDepot<'a, R> {
         ensures failed_stores { self.new.failed_stores
             ≡ (if is_err result then next_count self.old.failed_stores else self.old.failed_stores) }
     {
-        // The file that is open may be this one.
+        // The open file may be this one.
         self.last = None;
         if write_whole(self.rt, self.alloc, name, bytes).is_err() {
             self.faults = self.faults.saturating_add(1);

@@ -8,8 +8,8 @@ use std::io;
 use std::io::Write;
 use std::marker::Model;
 
-/// An output of the system, as standard output. It tells no content. Contracts see how often it has failed: a
-/// write that takes nothing of some bytes counts too.
+/// An output of the system, as standard output. Its content is not visible. Contracts see the number of failures, including writes
+/// that accept none of some bytes.
 #[derive(Drop)]
 pub struct HostSink<W: Write + Drop> {
     inner: W,
@@ -25,7 +25,7 @@ impl<W: Write + Drop> Model for HostSink<W> {
 }
 
 impl<W: Write + Drop> HostSink<W> {
-    /// A sink over this output, which has not failed yet.
+    /// Returns a sink over this output, without failures.
     pub fn new(inner: W) -> HostSink<W>
         ensures { result ≡ 0 }
     {
@@ -33,7 +33,7 @@ impl<W: Write + Drop> HostSink<W> {
     }
 }
 
-// Writes all the bytes, again where a signal interrupts it. A write that takes nothing is an error.
+// Writes all the bytes, again if a signal interrupts it. A write that accepts nothing is an error.
 fn write_through<W: Write>(to: &mut W, bytes: &[u8]) -> io::Result<()>
     ensures { OnOk result (Appends (W.contents to.old) (W.contents to.new) bytes.now) }
 {

@@ -1,5 +1,5 @@
-//! The outside of the program as traits: a depot of named files and a sink of bytes, each with a count of its faults.
-//! They stand over memory, for tests, and over the files and the output of the system.
+//! The program's environment as traits: a depot of named files and a sink of bytes, each with a count of its faults. Adapters exist
+//! over memory, for tests, and over the files and the output of the system.
 #![tactic(auto)]
 
 mod depot;

@@ -11,8 +11,8 @@ use std::collections::BTreeMap;
 use std::marker::Model;
 use vox_geom::Memory;
 
-/// Files in memory, which it tells. The calls of `fetch` and `store` are numbered together from 0, and
-/// those whose number is in its list fail. Each name is granted.
+/// Files in memory, visible to contracts. The calls of `fetch` and `store` are numbered together from 0, and those whose number is
+/// in its list fail. Each name is granted.
 #[derive(Drop)]
 pub struct MemoryDepot {
     alloc: Global,
@@ -44,7 +44,7 @@ impl Model for MemoryDepot {
     ghost invariant = { λ d. d.starved ≤ d.calls };
 }
 
-/// Copies from a place of the bytes on into the front of the buffer, as many as there are and it takes.
+/// Copies the bytes from an offset on into the front of the buffer, as many as exist and fit.
 pub fn copy_piece(bytes: &[u8], from: u64, buf: &mut [u8]) -> usize
     ensures count { result ≡ min (length buf.new) (length bytes.now - from) }
     ensures piece { IsPiece bytes.now from result buf.new }
@@ -58,7 +58,7 @@ pub fn copy_piece(bytes: &[u8], from: u64, buf: &mut [u8]) -> usize
     count
 }
 
-// The file of this name.
+// Returns the file of this name.
 fn find<'a>(files: &'a BTreeMap<String, Vec<u8>>, name: &str) -> Option<&'a [u8]>
     ensures { option_map (λ x. x.now) result ≡ content (files_of files.now) name.now }
 {
@@ -86,7 +86,7 @@ fn put(
 }
 
 impl MemoryDepot {
-    /// No files. The calls with these numbers fail.
+    /// Returns a depot without files. The calls with these numbers fail.
     pub fn new(alloc: Global, fails: Vec<u64>) -> MemoryDepot
         ensures files { result.files ≡ finite.empty }
         ensures fails { result.fails ≡ fails.items }
@@ -106,7 +106,7 @@ impl MemoryDepot {
         }
     }
 
-    /// Makes these bytes the file of that name. It is no call that is numbered.
+    /// Makes these bytes the file of that name. The call is not numbered.
     pub fn put_file(&mut self, name: &str, bytes: &[u8]) -> Result<(), Memory>
         ensures ok { OnOk result (self.new
             ≡ record self.old { files = finite.insert self.old.files name.now bytes.now }) }
@@ -118,21 +118,21 @@ impl MemoryDepot {
         }
     }
 
-    /// The file of that name.
+    /// Returns the file of that name.
     pub fn file(&self, name: &str) -> Option<&[u8]>
         ensures { option_map (λ x. x.now) result ≡ content self.now.files name.now }
     {
         find(&self.files, name)
     }
 
-    /// How many stores outside the list of failing calls found no memory. The count stays at the end of `u64`.
+    /// Returns the number of stores outside the list that ran out of memory. The count stays at the end of `u64`.
     pub fn starved(&self) -> u64
         ensures { result ≡ self.now.starved }
     {
         self.starved
     }
 
-    // Counts the call, and says whether it is to fail.
+    // Counts the call, and returns whether it must fail.
     fn begin_call(&mut self) -> bool
         ensures later { self.old.faults ≤ self.new.faults }
         ensures rose { IsTrue result → Rose self.old.faults self.new.faults }
@@ -165,20 +165,20 @@ impl Depot for MemoryDepot {
     ghost may_store = { λ _. ⊤ };
 
     fn fetch(&mut self, name: &str, from: u64, buf: &mut [u8]) -> Result<usize, FetchFault>
-        // The bytes are the file's, as many as there are and the buffer takes.
+        // The bytes are the file's, as many as exist and fit the buffer.
         ensures bound { IfOk result (λ n. n ≤ length buf.new) }
         ensures piece { IfOk result (λ n. IfTold (Some self.old.files) name.now
             (λ bytes. IsPiece bytes from n buf.new)) }
         ensures count { IfOk result (λ n. IsSomeAnd (content self.old.files name.now)
             (λ bytes. n ≡ min (length buf.new) (length bytes - from))) }
 
-        // It fails exactly by its number, and else misses exactly a file that is not there.
+        // It fails exactly by its number, and otherwise misses exactly an absent file.
         ensures fails_exactly { IsErrOf result FetchFault.Failed ↔ Contains self.old.fails self.old.calls }
         ensures missing { IsErrOf result FetchFault.Missing → content self.old.files name.now ≡ None }
         ensures misses { (Contains self.old.fails self.old.calls → ⊥) → content self.old.files name.now ≡ None
             → IsErrOf result FetchFault.Missing }
 
-        // The files stay, and a fault alone is counted.
+        // The files stay, and only a fault is counted.
         ensures files { self.new.files ≡ self.old.files }
         ensures fails { self.new.fails ≡ self.old.fails }
         ensures calls { self.new.calls ≡ next_count self.old.calls }
@@ -202,7 +202,7 @@ impl Depot for MemoryDepot {
         ensures ok { OnOk result (self.new.files ≡ finite.insert self.old.files name.now bytes.now) }
         ensures err { OnErr result (self.new.files ≡ self.old.files) }
 
-        // It fails exactly by its number or for want of memory, which is counted outside the list alone.
+        // It fails exactly by its number or out of memory, which is counted outside the list alone.
         ensures fails_exactly { IsEarly self.old.calls → (IsErr result
             ↔ (Contains self.old.fails self.old.calls ⊎ (self.old.starved < self.new.starved))) }
         ensures listed { Contains self.old.fails self.old.calls → IsErr result }
@@ -211,7 +211,7 @@ impl Depot for MemoryDepot {
         ensures starved_listed { Contains self.old.fails self.old.calls → self.new.starved ≡ self.old.starved }
         ensures starved_ok { OnOk result (self.new.starved ≡ self.old.starved) }
 
-        // A fault alone is counted.
+        // Only a fault is counted.
         ensures fails { self.new.fails ≡ self.old.fails }
         ensures calls { self.new.calls ≡ next_count self.old.calls }
         ensures faults { self.new.faults

@@ -6,8 +6,8 @@ use crate::depot::{Sink, SinkFault};
 use std::alloc::Global;
 use std::marker::Model;
 
-/// Bytes in memory, which it tells. The puts are numbered from 0, and those whose number is in its list
-/// fail after the first half of their bytes, rounded down.
+/// Bytes in memory, visible to contracts. The puts are numbered from 0, and those whose number is in its list fail after the first
+/// half of their bytes, rounded down.
 #[derive(Drop)]
 pub struct MemorySink {
     bytes: Vec<u8>,
@@ -37,7 +37,7 @@ impl Model for MemorySink {
 }
 
 impl MemorySink {
-    /// No bytes. The puts with these numbers fail.
+    /// Returns an empty sink. The puts with these numbers fail.
     pub fn new(alloc: Global, fails: Vec<u64>) -> MemorySink
         ensures { result ≡ record { bytes = []; fails = fails.items; calls = 0; faults = 0; starved = 0 } }
     {
@@ -50,14 +50,14 @@ impl MemorySink {
         }
     }
 
-    /// The bytes written so far.
+    /// Returns the bytes written so far.
     pub fn bytes(&self) -> &[u8]
         ensures { result.now ≡ self.now.bytes }
     {
         &self.bytes
     }
 
-    /// How many puts found no memory. The count stays at the end of `u64`.
+    /// Returns the number of puts that ran out of memory. The count stays at the end of `u64`.
     pub fn starved(&self) -> u64
         ensures { result ≡ self.now.starved }
     {
@@ -73,7 +73,7 @@ impl Sink for MemorySink {
     fn put(&mut self, bytes: &[u8]) -> Result<(), SinkFault>
         ensures ok { OnOk result (self.new.bytes ≡ self.old.bytes ++ bytes.now) }
 
-        // It fails exactly by its number or for want of memory, which is counted.
+        // It fails exactly by its number or out of memory, which is counted.
         ensures fails_exactly { IsEarly self.old.calls → (IsErr result
             ↔ (Contains self.old.fails self.old.calls ⊎ (self.old.starved < self.new.starved))) }
         ensures listed { Contains self.old.fails self.old.calls → IsErr result }
@@ -81,7 +81,7 @@ impl Sink for MemorySink {
             ⊎ (self.new.starved ≡ next_count self.old.starved)) }
         ensures starved_ok { OnOk result (self.new.starved ≡ self.old.starved) }
 
-        // By its number it writes half, and for want of memory nothing.
+        // By its number it writes half, and out of memory nothing.
         ensures half { Contains self.old.fails self.old.calls
             → ((self.new.starved ≡ self.old.starved)
             × (self.new.bytes ≡ self.old.bytes ++ take (length bytes.now / 2) bytes.now))
@@ -92,7 +92,7 @@ impl Sink for MemorySink {
         ensures part { OnErr result ((self.new.bytes ≡ self.old.bytes ++ take (length bytes.now / 2) bytes.now)
             ⊎ (self.new.bytes ≡ self.old.bytes)) }
 
-        // A fault alone is counted.
+        // Only a fault is counted.
         ensures fails { self.new.fails ≡ self.old.fails }
         ensures calls { self.new.calls ≡ next_count self.old.calls }
         ensures faults { self.new.faults

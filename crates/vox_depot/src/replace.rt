@@ -18,9 +18,9 @@ const PERMISSIONS: u32 = 0o777;
 /// Writes a temporary file in the same folder, syncs it and renames it. So an error and a kill leave the old file whole,
 /// and a reader sees the old file or the new one. A kill can leave the temporary file, `.nanobot-` and a number.
 ///
-/// Some files can only be written in place, where an error can leave the first bytes alone: those that are not regular
-/// (links, devices, pipes), those with several hard links, and those that the system does not allow to be replaced, as
-/// in a folder without write permission.
+/// Some files can only be written in place, so that an error can leave just a prefix: those that are not regular (links, devices,
+/// pipes), those with several hard links, and those that the system does not allow to be replaced, as in a folder without write
+/// permission.
 pub(crate) fn write_whole<R: Files>(
     rt: &R,
     alloc: Global,
@@ -38,7 +38,7 @@ pub(crate) fn write_whole<R: Files>(
     fill(fs::create(rt, name)?, bytes)
 }
 
-// Whether the name is the only way to the file, or is free.
+// Returns whether the name is the only link to the file, or is free.
 fn is_replaceable(old: Option<&Metadata>) -> bool {
     match old {
         Some(old) => old.is_file() && old.nlink() < 2,
@@ -82,7 +82,7 @@ fn replace<R: Files>(
     replaced
 }
 
-// Creates a temporary file in the folder of that name, which no other store has.
+// Creates a temporary file in the folder of that name, which no other store uses.
 fn create_beside<R: Files>(
     rt: &R,
     alloc: Global,
@@ -105,7 +105,7 @@ fn create_beside<R: Files>(
     Err(Error::from(ErrorKind::AlreadyExists))
 }
 
-// `false` if the system does not allow what was asked for, as for files of others and mounted files.
+// Returns `false` if the system does not allow the operation, as for files of others and mounted files.
 fn if_allowed(done: io::Result<()>) -> io::Result<bool> {
     match done {
         Ok(()) => Ok(true),

@@ -8,14 +8,14 @@ ghost use Rattle.vox_depot.specs.Faults.{load_fault_of};
 use crate::depot::{Depot, FetchFault};
 use std::alloc::{AllocError, Global};
 
-/// Why a file was not loaded.
+/// The reason why a file was not loaded.
 #[derive(Clone, Copy, Debug, PartialEq, Eq)]
 pub enum LoadFault {
-    /// The depot tells its files, and there is none of that name.
+    /// The depot's files are visible, and there is none of that name.
     Missing,
     /// The depot failed, and its count of faults rose.
     Failed,
-    /// There was no memory.
+    /// Allocation failed.
     Memory,
 }
 
@@ -38,10 +38,10 @@ impl From<AllocError> for LoadFault {
     }
 }
 
-/// How much one fetch asks for.
+/// The size of one fetch.
 const PIECE: usize = 65536;
 
-/// The file's first `most` bytes, or the whole file where it has fewer.
+/// Returns the file's first `most` bytes, or the whole file if it has fewer.
 pub fn load<D: Depot>(
     alloc: Global,
     depot: &mut D,

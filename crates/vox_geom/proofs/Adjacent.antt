@@ -33,7 +33,7 @@ adjacent_by a b e =
 pub adjacent-sym : (a b : Coord) → IsTrue (are_adjacent a b) → IsTrue (are_adjacent b a)
 adjacent-sym a b h = let gaps_here = gaps a b h in adjacent_by b a (omega arith)
 
--- where an adjacent coordinate lies
+-- the side on which an adjacent coordinate lies
 pub data Side (a b : Coord) : Type 0 where
   right : b.x ≡ a.x + 1 → b.y ≡ a.y → b.z ≡ a.z → Side a b
   above : b.x ≡ a.x → b.y ≡ a.y + 1 → b.z ≡ a.z → Side a b

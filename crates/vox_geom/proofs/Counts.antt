@@ -1,4 +1,4 @@
--- A region has as many coordinates of the matrix as its size says.
+-- A region has as many coordinates of the matrix as its size.
 use Rattle.std.proofs.Common.{◌≡◌, ℕ, zero, suc, ◌+◌, ◌-◌, ◌*◌, ◌/◌, ◌%◌, ◌<◌, ◌≤◌, refl, ap, sym, ◌∙◌, arith, Bool, true, false, cond, ◌&&◌, ◌||◌, map, pos, negsuc, ℤ, inl, inr}
 use Rattle.std.specs.Prelude.{◌⊎◌, count_by, int_le}
 use Rattle.std.proofs.lemmas.Bool.{cases_lt}
@@ -91,7 +91,7 @@ above low high v h k = grind (arith, nat_tests)
 extent_is : (low high : ℕ) → low ≤ high → extent (pos low) (pos high) ≡ high - low + 1
 extent_is low high h = omega (arith, ints)
 
--- as many numbers below r lie between two of them as the extent says
+-- as many numbers below r lie between two of them as their extent
 between_tallied : (low high r : ℕ) → low ≤ high → high < r
     → tally (λ v. is_between (pos low) (pos high) (pos v)) r 0 ≡ extent (pos low) (pos high)
 between_tallied low high r h k =
@@ -132,7 +132,7 @@ region_count r k o h =
 
 -- ---- a region that may leave the matrix
 
--- fewer numbers below r lie between two than the extent says, where some of those are past r
+-- at most as many numbers below r lie between two as their extent, if some of those are past r
 up_to : (low high r : ℕ) → low ≤ high
     → tally (λ v. is_between (pos low) (pos high) (pos v)) r 0 ≤ extent (pos low) (pos high)
 up_to low high r h =
@@ -186,7 +186,7 @@ at_most_extent (negsuc a) (negsuc b) r =
     let tally_is : tally (λ v. is_between (negsuc a) (negsuc b) (pos v)) r 0 ≡ 0 = same_tally (λ v. is_between (negsuc a) (negsuc b) (pos v)) (λ _. false) r 0 (λ v i j. refl) ∙ none_tallied r 0 in
     omega arith
 
--- a region has at most as many coordinates of the matrix as its size says, also where it leaves the matrix
+-- a region has at most as many coordinates of the matrix as its size, even if it leaves the matrix
 pub region_count_most : (r : ℕ) (s : Span) → count_by (λ c. is_within s (point c)) (coordinates r) ≤ size s
 region_count_most r s =
     let axis_by_axis_here = axis_by_axis r s in

@@ -1,4 +1,4 @@
--- The worked examples of differences, neighbours, places and regions, each by computing.
+-- The worked examples of differences, neighbors, places and regions, each by computing.
 use Rattle.std.proofs.Common.{refl}
 use Rattle.vox_geom.specs.Worked.{WorkedCoordinates, WorkedDifferences, WorkedRegions}
 

@@ -65,7 +65,7 @@ at_in_space (suc r) p h = record {
     smaller : (r p : ℕ) → p < suc r * suc r * suc r → p / (suc r * suc r) < suc r
     smaller r p h = (div-lt_iff_lt-mul {k = suc r * suc r} (omega arith)).1 (omega arith)
 
--- what has the properties of the least is found
+-- a coordinate with the properties of the least is found
 pub first_is : (r : ℕ) (test : Coord → Bool) (o : Option Coord) → LeastOf r test o → find test (coordinates r) ≡ o
 first_is r test (Some c) h =
     let same : coordinate_at r (place r c) ≡ c = coordinate_at-place r c h.within in
@@ -87,7 +87,7 @@ first_is r test (Some c) h =
         by false e t f = e
 first_is r test None h = nowhere test (coordinate_at r) (r * r * r) 0 (λ q i j. h (coordinate_at r q) (at_in_space r q (omega arith)))
 
--- what is found has the properties of the least
+-- the coordinate that is found has the properties of the least
 record Hit (test : Coord → Bool) (f : ℕ → Coord) (a n : ℕ) (c : Coord) : Type 0 where
   at : ℕ
   from : a ≤ at

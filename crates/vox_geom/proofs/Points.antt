@@ -1,4 +1,4 @@
--- Coordinates, points and space: what their tests say, and what they come to.
+-- Coordinates, points and space: the facts behind their tests, and the results of the tests.
 use Rattle.std.proofs.Common.{◌≡◌, ◌⊎◌, inl, inr, ℕ, ◌<◌, ◌≤◌, arith, refl, true, ap, pos}
 use Rattle.std.specs.Prelude.{◌==◌}
 use native.Mathlib.Decide.{ℕ_discrete}

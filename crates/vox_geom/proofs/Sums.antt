@@ -1,4 +1,4 @@
--- Sums of integers with 0 and 1, and other sums and lengths that many proofs want.
+-- Sums of integers with 0 and 1, and other sums and lengths that many proofs need.
 use Rattle.std.proofs.Common.{◌≡◌, ℕ, zero, suc, ◌+◌, ◌-◌, ◌*◌, ◌^◌, ◌<◌, ◌≤◌, refl, ap, arith, mul-le-mul, List, [], ◌∷◌, ◌++◌, length, ℤ, pos, negsuc, ◌+ℤ◌}
 use Rattle.std.specs.Prelude.{unsigned_abs}
 use Rattle.std.proofs.lemmas.Int.{ints}
@@ -32,7 +32,7 @@ most_cube r h =
 pub two_to_next : (n : ℕ) → 2 ^ (n + 1) ≡ 2 ^ n * 2
 two_to_next n = pow-add 2 n 1
 
--- what is left to do layer by layer falls by a layer's part
+-- the work that is left, layer by layer, falls by a layer's part
 pub one_layer_less : (r y n : ℕ) → 0 < y → y < r → (r - 1 - y) * n + n ≤ (r - 1 - (y - 1)) * n
 one_layer_less r y n h l = let difference_is : r - 1 - (y - 1) ≡ r - 1 - y + 1 = omega arith in rw difference_is (omega arith)
 

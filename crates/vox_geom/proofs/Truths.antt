@@ -1,4 +1,4 @@
--- What truth values that are joined say of one another.
+-- Relations between truth values that are joined.
 use Rattle.std.proofs.Common.{◌≡◌, ◌⊎◌, inl, inr, refl, sym, Bool, true, false, cond, ◌&&◌, not}
 use Rattle.std.specs.Prelude.{◌||◌}
 

@@ -9,7 +9,7 @@ pub record IsLeast (r : ℕ) (test : Coord → Bool) (c : Coord) : Type 0 where
   pub passes : IsTrue (test c)
   pub least : (d : Coord) → IsInSpace r d → IsTrue (test d) → IsFalse (is_before d c)
 
--- the least coordinate that passes the test, or `None` where none does
+-- the least coordinate that passes the test, or `None` if none does
 abbrev pub LeastOf : ℕ → (Coord → Bool) → Option Coord → Type 0
 LeastOf r test (Some c) = IsLeast r test c
 LeastOf r test None = (d : Coord) → IsInSpace r d → IsFalse (test d)

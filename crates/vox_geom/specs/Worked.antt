@@ -1,4 +1,4 @@
--- Worked examples of differences, neighbours, places and regions (docs/FORMATS.md, "Geometry").
+-- Worked examples of differences, neighbors, places and regions (docs/FORMATS.md, "Geometry").
 use Rattle.std.specs.Prelude.{◌≡◌, ℤ, pos, negsuc, [], ◌∷◌, true, false, map}
 use Rattle.vox_geom.specs.declared.difference.Diff.{Diff}
 use Rattle.vox_geom.specs.Difference.{is_far, is_linear, is_long, is_near, is_short, mlen, clen}
@@ -71,7 +71,7 @@ pub record WorkedRegions : Type 0 where
   -- its corners and a coordinate between them
   pub within : map (λ c. is_within box (point c)) (coord 2 1 0 ∷ coord 1 1 3 ∷ coord 1 1 0 ∷ coord 2 1 2 ∷ [])
       ≡ true ∷ true ∷ true ∷ true ∷ []
-  -- beside it on each axis
+  -- next to it on each axis
   pub beside :
       map (λ c. is_within box (point c)) (coord 0 1 1 ∷ coord 3 1 1 ∷ coord 1 0 1 ∷ coord 1 2 1 ∷ coord 1 1 4 ∷ [])
       ≡ false ∷ false ∷ false ∷ false ∷ false ∷ []
@@ -81,7 +81,7 @@ pub record WorkedRegions : Type 0 where
   pub along_all_axes : dimension (between (point (coord 0 0 0)) (point (coord 1 1 1))) ≡ 3
   pub of_one_coordinate : size (just (point (coord 1 1 1))) ≡ 1
   pub of_no_dimension : dimension (just (point (coord 1 1 1))) ≡ 0
-  -- whichever corners it is given by
+  -- the same region, by other corners
   pub by_other_corners : same_region box (between (point (coord 1 1 0)) (point (coord 2 1 3))) ≡ true
   -- another end on each axis
   pub not_by_other_ends : map (same_region box)

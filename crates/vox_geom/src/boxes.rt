@@ -9,7 +9,7 @@ use crate::MOST_R;
 use crate::coordinate::Coord;
 use std::marker::Model;
 
-/// The box between two coordinates, ends included, kept by its least and its greatest corner.
+/// The box between two coordinates, ends included, stored by its least and its greatest corner.
 #[derive(Clone, Copy, PartialEq, Eq, Default, Debug)]
 pub struct Region {
     low: Coord,
@@ -28,7 +28,7 @@ impl Model for Region {
     ghost inverse = { λ k. record { low = k.low; high = k.high } };
 }
 
-/// The number of components from the one to the other, ends included.
+/// Returns the number of components from one to the other, ends included.
 fn extent(low: u16, high: u16) -> u32
     requires { low ≤ high }
     ensures value { result ≡ extent_of (pos low) (pos high) }
@@ -37,14 +37,14 @@ fn extent(low: u16, high: u16) -> u32
     u32::from(high - low) + 1
 }
 
-/// 1 where the ends differ.
+/// Returns 1 if the ends differ, and 0 otherwise.
 fn differs(low: u16, high: u16) -> u8
     ensures { result ≡ differs_of (pos low) (pos high) }
 {
     if low == high { 0 } else { 1 }
 }
 
-/// Whether a component lies between the ends.
+/// Returns whether a component lies between the ends.
 fn is_between(low: u16, high: u16, v: u16) -> bool
     requires { low ≤ high }
     ensures { result ≡ is_between_of (pos low) (pos high) (pos v) }
@@ -52,7 +52,7 @@ fn is_between(low: u16, high: u16, v: u16) -> bool
     low <= v && v <= high
 }
 
-/// The least component that lies between both ends: `None` exactly where there is none.
+/// Returns the least component that lies between both ends, or `None` if there is none.
 fn least_shared(low: u16, high: u16, other_low: u16, other_high: u16) -> Option<u16>
     requires ordered { low ≤ high }
     requires other_ordered { other_low ≤ other_high }
@@ -69,7 +69,7 @@ fn least_shared(low: u16, high: u16, other_low: u16, other_high: u16) -> Option<
 }
 
 impl Region {
-    /// The region between two coordinates.
+    /// Returns the region between two coordinates.
     pub fn of(a: Coord, b: Coord) -> Region
         ensures corners { result ≡ corners a b }
         ensures ordered { IsOrdered result }
@@ -89,7 +89,7 @@ impl Region {
         }
     }
 
-    /// The least corner.
+    /// Returns the least corner.
     pub fn low(&self) -> Coord
         ensures value { result ≡ self.now.low }
         ensures ordered { IsOrdered self.now }
@@ -97,7 +97,7 @@ impl Region {
         self.low
     }
 
-    /// The greatest corner.
+    /// Returns the greatest corner.
     pub fn high(&self) -> Coord
         ensures value { result ≡ self.now.high }
         ensures ordered { IsOrdered self.now }
@@ -105,7 +105,7 @@ impl Region {
         self.high
     }
 
-    /// The dimension: on how many axes the corners differ.
+    /// Returns the dimension: the number of axes on which the corners differ.
     pub fn dim(&self) -> u8
         ensures value { result ≡ dimension (span self.now) }
         ensures most { result ≤ 3 }
@@ -115,7 +115,7 @@ impl Region {
             + differs(self.low.z, self.high.z)
     }
 
-    /// The number of its coordinates. Its corners are in a matrix of a resolution of at most [`MOST_R`].
+    /// Returns the number of its coordinates. Its corners are in a matrix of a resolution of at most [`MOST_R`].
     #[tactic(auto, using(crate::proofs::Counts::region_count))]
     pub fn size(&self) -> u32
         requires { IsInSpace MOST_R self.now.high }
@@ -130,7 +130,7 @@ impl Region {
         x * y * z
     }
 
-    /// Whether the coordinate is in the region.
+    /// Returns whether the coordinate is in the region.
     pub fn has(&self, c: Coord) -> bool
         ensures { result ≡ is_within (span self.now) (point c) }
     {
@@ -140,7 +140,7 @@ impl Region {
         x && y && z
     }
 
-    /// The least coordinate that both regions have: `None` exactly where there is none.
+    /// Returns the least coordinate of both regions, or `None` if there is none.
     pub fn meets(&self, other: &Region) -> Option<Coord>
         ensures shared { IfSome result (AreShared self.now other.now) }
         ensures least { IfSome result (IsLeastOf (AreShared self.now other.now)) }

@@ -15,7 +15,7 @@ pub struct Coord {
     pub z: u16,
 }
 
-/// A component and what is added to it, where the sum is from 0 to r - 1.
+/// Returns a component plus an offset, if the sum is from 0 to r - 1.
 #[inline(always)]
 fn shift(v: u16, by: i16, r: u16) -> Option<u16>
     ensures { SomeIff result (IsTrue (in_range r (pos v +ℤ by))) (unsigned_abs (pos v +ℤ by)) }
@@ -29,7 +29,7 @@ fn shift(v: u16, by: i16, r: u16) -> Option<u16>
 }
 
 impl Coord {
-    /// The coordinate that the difference leads to: `None` exactly where it is outside the matrix.
+    /// Returns the coordinate that the difference leads to, or `None` if it is outside the matrix.
     #[inline(always)]
     pub fn plus(self, d: Diff, r: u16) -> Option<Coord>
         requires { IsInSpace r self }
@@ -46,7 +46,9 @@ impl Coord {
         }
     }
 
-    /// [`Coord::plus`] at a resolution of at most [`MOST_R`], by sums of 16 bits: one that goes round is not below it.
+    /// Like [`Coord::plus`], at a resolution of at most [`MOST_R`].
+    ///
+    /// Faster: it adds in 16 bits, since a sum that wraps round is not below the resolution.
     #[inline(always)]
     pub fn plus_in_matrix(self, d: Diff, r: u16) -> Option<Coord>
         requires within { IsInSpace r self }
@@ -63,7 +65,7 @@ impl Coord {
         None
     }
 
-    /// The coordinate at a place of a matrix of resolution r.
+    /// Returns the coordinate at a place of a matrix of resolution r.
     #[tactic(auto, using(crate::proofs::Places::places))]
     pub fn of_place(p: u32, r: u16) -> Coord
         requires resolution { r ≤ MOST_R }
@@ -81,7 +83,7 @@ impl Coord {
     }
 }
 
-/// The place of a coordinate of a matrix of resolution r, in the order by x, then y, then z.
+/// Returns the place of a coordinate of a matrix of resolution r, in the order by x, then y, then z.
 #[tactic(auto, using(crate::proofs::Places::places))]
 pub fn place(c: Coord, r: u16) -> u32
     requires resolution { r ≤ MOST_R }

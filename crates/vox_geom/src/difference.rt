@@ -11,7 +11,7 @@ pub struct Diff {
 }
 
 impl Diff {
-    /// The Manhattan length: the sum of the absolute values.
+    /// Returns the Manhattan length: the sum of the absolute values.
     pub fn mlen(self) -> u32
         ensures { result ≡ manhattan_length self }
     {
@@ -20,7 +20,7 @@ impl Diff {
             + u32::from(self.dz.unsigned_abs())
     }
 
-    /// The Chessboard length: the greatest absolute value.
+    /// Returns the Chessboard length: the greatest absolute value.
     pub fn clen(self) -> u16
         ensures { result ≡ chessboard_length self }
     {

@@ -7,14 +7,14 @@ ghost use Rattle.vox_geom.specs.Difference.{clen as chessboard_length, nonzero a
 use crate::difference::Diff;
 use std::marker::Model;
 
-/// 1 for a component that is not 0.
+/// Returns 1 for a component that is not 0, and 0 otherwise.
 fn nonzero(v: i16) -> u8
     ensures { result ≡ nonzero_of v }
 {
     if v == 0 { 0 } else { 1 }
 }
 
-/// Whether exactly one component is not 0.
+/// Returns whether exactly one component is not 0.
 fn is_linear(d: Diff) -> bool
     ensures { result ≡ is_linear_difference d }
 {
@@ -40,7 +40,7 @@ impl Model for Small {
 }
 
 impl Small {
-    /// A difference whose components are at most 30 either way, as those of every kind are.
+    /// Returns a difference whose components are at most 30 either way, as those of every kind are.
     fn of(d: Diff) -> Small
         requires { chessboard_length d ≤ 30 }
         ensures { result ≡ d }
@@ -52,7 +52,7 @@ impl Small {
         }
     }
 
-    /// The difference that it stands for.
+    /// Returns the difference.
     fn diff(self) -> Diff
         ensures { result ≡ self }
     {
@@ -84,7 +84,7 @@ impl Model for Near {
 }
 
 impl Near {
-    /// The difference as a near one: `None` exactly where it is none.
+    /// Returns the difference as a near one, or `None` if it is not.
     pub fn of(d: Diff) -> Option<Near>
         ensures { SomeIff result (IsNear d) d }
     {
@@ -97,7 +97,7 @@ impl Near {
         }
     }
 
-    /// The difference to the voxel right below.
+    /// Returns the difference to the voxel right below.
     pub fn down() -> Near
         ensures { result ≡ down }
     {
@@ -110,7 +110,7 @@ impl Near {
         }
     }
 
-    /// The difference that it stands for.
+    /// Returns the difference.
     pub fn diff(self) -> Diff
         ensures value { result ≡ self }
         ensures kind { IsNear result }
@@ -139,7 +139,7 @@ impl Model for Far {
 }
 
 impl Far {
-    /// The difference as a far one: `None` exactly where it is none.
+    /// Returns the difference as a far one, or `None` if it is not.
     pub fn of(d: Diff) -> Option<Far>
         ensures { SomeIff result (IsFar d) d }
     {
@@ -152,7 +152,7 @@ impl Far {
         }
     }
 
-    /// The difference that it stands for.
+    /// Returns the difference.
     pub fn diff(self) -> Diff
         ensures value { result ≡ self }
         ensures kind { IsFar result }
@@ -181,7 +181,7 @@ impl Model for Short {
 }
 
 impl Short {
-    /// The difference as a short linear one: `None` exactly where it is none.
+    /// Returns the difference as a short linear one, or `None` if it is not.
     pub fn of(d: Diff) -> Option<Short>
         ensures { SomeIff result (IsShort d) d }
     {
@@ -194,7 +194,7 @@ impl Short {
         }
     }
 
-    /// The difference that it stands for.
+    /// Returns the difference.
     pub fn diff(self) -> Diff
         ensures value { result ≡ self }
         ensures kind { IsShort result }
@@ -223,7 +223,7 @@ impl Model for Long {
 }
 
 impl Long {
-    /// The difference as a long linear one: `None` exactly where it is none.
+    /// Returns the difference as a long linear one, or `None` if it is not.
     pub fn of(d: Diff) -> Option<Long>
         ensures { SomeIff result (IsLong d) d }
     {
@@ -236,7 +236,7 @@ impl Long {
         }
     }
 
-    /// The difference that it stands for.
+    /// Returns the difference.
     pub fn diff(self) -> Diff
         ensures value { result ≡ self }
         ensures kind { IsLong result }

@@ -21,7 +21,7 @@ pub fn places_rise()
     ensures within { (r p : ℕ) → p < r * r * r → IsInSpace r (coordinate_at r p) }
 {}
 
-/// A region has at most as many coordinates of a matrix as its size says, also where it leaves the matrix.
+/// A region has at most as many coordinates of a matrix as its size, even if it leaves the matrix.
 pub fn a_region_is_no_larger()
     ensures { (r : ℕ) (s : Span) → count_by (λ c. is_within s (point c)) (coordinates r) ≤ size s }
 {}

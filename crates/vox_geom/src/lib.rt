@@ -1,5 +1,5 @@
-//! Coordinates of a matrix, differences and their kinds, regions, and the counter of touches
-//! (docs/FORMATS.md, "Geometry"). Nothing here takes memory.
+//! Coordinates of a matrix, differences and their kinds, regions, and the counter of touches (docs/FORMATS.md, "Geometry").
+//! Nothing here allocates.
 #![tactic(auto)]
 
 mod boxes;
@@ -20,11 +20,11 @@ pub use touches::Steps;
 /// The greatest resolution of a matrix. Resolutions are 1 to this.
 pub const MOST_R: u16 = 400;
 
-/// Memory was refused: the answer of calls that can fail for want of memory alone.
+/// An allocation failed: the error of calls that fail only if memory runs out.
 #[derive(Clone, Copy, PartialEq, Eq, Debug)]
 pub struct Memory;
 
-/// So that `?` hands want of memory on.
+/// Lets `?` convert a failed allocation.
 impl From<AllocError> for Memory {
     fn from(_: AllocError) -> Memory {
         Memory

@@ -1,4 +1,4 @@
--- One bit of the words, and where the bits of two coordinates stand.
+-- One bit of the words, and the bits of two coordinates.
 use Rattle.std.proofs.Common.{◌≡◌, ◌≢◌, ℕ, ◌+◌, ◌*◌, ◌/◌, ◌%◌, ◌^◌, ◌<◌, refl, sym, ◌∙◌, ap, arith, Bool, true, false, ◌==◌, List, length, get_or, set, bit_and, bit_or}
 use Rattle.std.specs.Int.{bit_at, bit_not, w64}
 use Rattle.std.proofs.Math.Arith.{digits_lt}

@@ -108,7 +108,7 @@ outside index count j h = by (cases_lt j index) (cases_lt j (index + count))
     by (inr l) (inr m) = inr m
     by (inr l) (inl m) = let inside_here = inside l m in cc
 
--- words of which so many bits from one on are those of another word
+-- words of which n bits from one on are those of another word
 pub record ArePutBits (old new : List ℕ) (index count bits : ℕ) : Type 0 where
   pub here : (k : ℕ) → k < count → is_set new (index + k) ≡ bit bits k
   pub others : (j : ℕ) → IsFalse (is_from index count j) → is_set new j ≡ is_set old j
@@ -153,7 +153,7 @@ mask_is first count some within =
     let raised : (2 ^ count - 1) * 2 ^ first ≡ 2 ^ (first + count) - 2 ^ first = less_one (2 ^ count) (2 ^ first) (pow_pos count) ∙ omega arith in
     ap (λ n. n * 2 ^ first % 2 ^ 64) ones ∙ (ap (λ n. n % 2 ^ 64) raised ∙ mod-eq_of_lt (mask_small first count within))
 
--- what `put_bits` says, read from the words as they were to those that are kept
+-- the effect of `put_bits`, for the words before and after the call
 pub put_by : (r from : ℕ) (c : Coord) (old old' new new' : List ℕ) (i count bits : ℕ) → old' ≡ old → new ≡ new'
     → c ≡ coordinate_at r from → i ≡ bit_index r c → ((k : ℕ) → k < count → is_set new (i + k) ≡ bit bits k)
     → ((j : ℕ) → IsFalse (is_from i count j) → is_set new j ≡ is_set old' j)

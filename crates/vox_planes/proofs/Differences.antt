@@ -50,7 +50,7 @@ in_word ws first i k l =
     let remainder_is : (first * 64 + (64 * i + k)) % 64 ≡ k = omega arith in
     λ t. bit (get_or ws (same_first t) 0) (remainder_is t)
 
--- up to the bit k of the next word, where its bits below k are the same
+-- up to the bit k of the next word, if its bits below k are the same
 alike_to : (ws us : List ℕ) (first i k w u : ℕ) → k ≤ 64 → w ≡ get_or ws (first + i) 0 → u ≡ get_or us (first + i) 0
     → AreAlike ws us first (64 * i) → ((j : ℕ) → j < k → bit_at (bit_xor w u) j ≡ 0) → AreAlike ws us first (64 * i + k)
 alike_to ws us first i k w u l ew eu a none = record { same = λ j m. by j m (cases_lt j (64 * i)) }
@@ -280,7 +280,7 @@ least_all r m n o h = first_is r (differ_at m n) o (by o h)
       least = λ d i t. h.least d i (all_below (differ_at m n d) d.y r i.y ∙ t);
     }
 
--- ---- what the code has read of a layer: the words i of both, from the layer's first word on
+-- ---- the words i of a layer, of both matrices, from the layer's first word on
 
 pub record IsRead (r : ℕ) (ws us : List ℕ) (y i first count w u : ℕ) : Type 0 where
   pub left : IsLayered r ws

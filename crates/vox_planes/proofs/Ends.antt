@@ -1,4 +1,4 @@
--- From which word on all bits are 0: what holds where words change, and that no voxel above is full.
+-- The word from which on all words are 0 (the end): how it moves as words change, and why no voxel above it is full.
 use Rattle.std.proofs.Common.{◌≡◌, refl, ℕ, ◌+◌, ◌-◌, ◌*◌, ◌/◌, ◌%◌, ◌<◌, ◌≤◌, ap, subst, sym, ◌∙◌, arith, Bool, true, false, cond, ◌&&◌, List, length, get_or, replicate, find, None, inl, inr, mul-le-mul, max, not, ◌==◌}
 use Rattle.std.specs.Prelude.{IsFalse, ◌⊎◌, nat_le, nat_lt}
 use Rattle.std.proofs.lemmas.Bool.{cases_lt}
@@ -23,7 +23,7 @@ use Rattle.vox_planes.proofs.Placed.{one_of_these}
 use Rattle.vox_planes.proofs.Voxels.{IsChanged, is_full-layered, none_set}
 use Rattle.vox_planes.proofs.Walks.{is_of}
 
--- words of 0
+-- the end of words that are all 0
 pub zero_zeros : (n : ℕ) → AreZeroFrom (replicate n 0) 0
 zero_zeros n = record { few = omega arith; below = λ i l t. absurd (let no = none_set n i in cc) }
 
@@ -32,7 +32,7 @@ not_in_zero : (words : List ℕ) (i : ℕ) → get_or words (i / 64) 0 ≡ 0 →
 unfolding is_set
 not_in_zero words i zero t = let none = ap (λ w. bit w (i % 64)) zero ∙ ap (λ v. v == 1) (bit_at-zero (i % 64)) in cc
 
--- a word of 0 fewer
+-- if the last word before the end is 0, the end is one less
 pub one_word_less : (words : List ℕ) (end : ℕ) → 0 < end → AreZeroFrom words end → get_or words (end - 1) 0 ≡ 0
     → AreZeroFrom words (end - 1)
 one_word_less words end some h zero = record { few = omega (arith, h.few); below = λ i l t. by i t (h.below i l t) (cases_lt i ((end - 1) * 64)) }
@@ -44,11 +44,11 @@ one_word_less words end some h zero = record { few = omega (arith, h.few); below
         let word : i / 64 ≡ end - 1 = omega arith in
         absurd (not_in_zero words i (ap (λ n. get_or words n 0) word ∙ zero) t)
 
--- the end that is asked of a change
+-- the end after a change up to the word `at`, if some changed bits may be 1
 abbrev pub end_with : ℕ → ℕ → Bool → ℕ
 end_with end at some = cond some (max end (at + 1)) end
 
--- where only bits of a part of a row were changed, up to the word `at`, and some may be 1 now
+-- only `count` bits from `index` on changed, none beyond the word `at`, and any of them is 1 only if `some` is true
 pub zero_beside : (old new : List ℕ) (index count end at : ℕ) (some : Bool) → AreZeroFrom old end
     → length new ≡ length old → at < length new → index + count ≤ (at + 1) * 64
     → ((j : ℕ) → IsFalse (is_from index count j) → is_set new j ≡ is_set old j)
@@ -87,7 +87,7 @@ zero_beside_voxel r old new c full end at within layered_old h changed is =
     (λ j f. changed.others j (λ e. let one : is_from (bit_index r c) 1 j ≡ true = one_of_these (bit_index r c) 1 j (omega arith) (omega arith) in cc))
     (λ k l t. sym changed.here ∙ (ap (is_set new) (let same : bit_index r c ≡ bit_index r c + k = omega arith in same) ∙ t))
 
--- bits of a word that are those of another
+-- bits of a word became those of `bits`
 pub zero_beside_put : (old new : List ℕ) (index count bits end at : ℕ) → AreZeroFrom old end
     → ArePutBits old new index count bits → length new ≡ length old → at < length new → index + count ≤ (at + 1) * 64
     → AreZeroFrom new (end_with end at (not (bits == 0)))
@@ -98,7 +98,7 @@ zero_beside_put old new index count bits end at h put same l most =
     no_bit : (n k : ℕ) → n ≡ 0 → bit n k ≡ true → ⊥
     no_bit n k none t = let zero_bit = ap (λ v. bit v k) none ∙ ap (λ v. v == 1) (bit_at-zero k) in cc
 
--- bits of a row that are 1, or 0
+-- bits of a row all became 1, or all 0
 pub zero_beside_filled : (old new : List ℕ) (index count : ℕ) (full : Bool) (changed end at : ℕ) → AreZeroFrom old end
     → AreFilled old new index count full changed → length new ≡ length old → at < length new
     → index + count ≤ (at + 1) * 64 → AreZeroFrom new (end_with end at full)
@@ -110,9 +110,9 @@ pub zero_of_less : (old new : List ℕ) (end : ℕ) → AreZeroFrom old end → 
     → ((i : ℕ) → i < length new * 64 → is_set new i ≡ true → is_set old i ≡ true) → AreZeroFrom new end
 zero_of_less old new end h same less = record { few = omega (arith, h.few, same); below = λ i l t. h.below i (subst (λ (n : ℕ). i < n * 64) same l) (less i l t) }
 
--- ---- what lies above
+-- ---- voxels above the end
 
--- no voxel is full whose layer begins at the end or behind it
+-- no voxel is full in a layer that begins at the end or after it, nor above
 pub void_above : (r : ℕ) (words : List ℕ) (c : Coord) (end y : ℕ) → IsLayered r words → AreZeroFrom words end
     → end ≤ y * layer_words r → y ≤ c.y → is_full (layered r words) c ≡ true → ⊥
 void_above r words c end y w h above from full =
@@ -123,7 +123,7 @@ void_above r words c end y w h above from full =
     let layers : y * layer_words r ≤ c.y * layer_words r = mul-le-mul from (let all : layer_words r ≤ layer_words r = omega arith in all) in
     omega arith
 
--- where all is void above, none is found in a region that lies there
+-- if no voxel from a region's lowest layer on is full, the region has none
 pub none_above : (m : Matrix) (k : Corners) → IsOrdered k → ((c : Coord) → k.low.y ≤ c.y → is_full m c ≡ false)
     → find (λ c. is_full m c && is_within (span k) (point c)) (all_of m) ≡ None
 none_above m k ordered void = none_found (λ c. is_full m c && is_within (span k) (point c)) (all_of m) (λ c. by c (is_within (span k) (point c)) refl)

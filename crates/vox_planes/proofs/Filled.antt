@@ -42,7 +42,7 @@ all_void new index count here k l = here k l ∙ ap (λ d. d == 1) (bit_at-zero 
 
 -- ---- bits of words
 
--- so many bits from an index on were made 1 or 0, and so many of them changed
+-- n bits from an index on were set or cleared, and this many of them changed
 pub record AreFilled (old new : List ℕ) (index count : ℕ) (full : Bool) (n : ℕ) : Type 0 where
   pub here : (k : ℕ) → k < count → is_set new (index + k) ≡ full
   pub others : (j : ℕ) → IsFalse (is_from index count j) → is_set new j ≡ is_set old j
@@ -75,7 +75,7 @@ filled_more old mid new index done count full a b h p = record {
     other j (inl l) = p.others j (before_these (index + done) count j (omega arith)) ∙ h.others j (before_these index done j l)
     other j (inr l) = p.others j (after_these (index + done) count j (omega arith)) ∙ h.others j (after_these index done j (omega arith))
 
--- what `set_bits` says, read from the words as they were to those that are kept
+-- the effect of `set_bits`, for the words before and after the call
 pub filled_by : (old old' new new' : List ℕ) (i s count c : ℕ) (full : Bool) (n : ℕ) → old' ≡ old → new ≡ new' → i ≡ s
     → count ≡ c → ((k : ℕ) → k < count → is_set new (i + k) ≡ full)
     → ((j : ℕ) → IsFalse (is_from i count j) → is_set new j ≡ is_set old' j) → n ≡ others_of old' i count full

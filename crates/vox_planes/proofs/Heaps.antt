@@ -1,4 +1,4 @@
--- Full voxels that stand on full ones, word by word.
+-- Full voxels above full ones, word by word.
 use Rattle.std.proofs.Common.{◌≡◌, ℕ, zero, suc, ◌+◌, ◌-◌, ◌*◌, ◌/◌, ◌%◌, ◌^◌, ◌<◌, ◌≤◌, sym, ◌∙◌, ap, arith, true, false, ◌==◌, List, get_or, bit_and, min, inl, inr}
 use Rattle.std.specs.Prelude.{IsTrue, ◌⊎◌}
 use Rattle.std.specs.Int.{bit_at, bit_not, trailing_zeros, w64}
@@ -20,7 +20,7 @@ use Rattle.vox_planes.specs.Layers.{IsLayered, bit_index, is_set, layer_words, l
 use Rattle.vox_planes.proofs.Bits.{in_layer}
 use Rattle.vox_planes.proofs.Voxels.{is_full-layered}
 
--- where a bit is 1, above the lowest words and before an end, the same bit so many words before is 1
+-- each bit that is 1, above the lowest words and before an end, has a bit 1 one layer before it
 pub record AreHeld (ws : List ℕ) (layer end : ℕ) : Type 0 where
   pub held : (j : ℕ) → layer * 64 ≤ j → j < end * 64 → is_set ws j ≡ true → is_set ws (j - layer * 64) ≡ true
 
@@ -35,7 +35,7 @@ kept_bit w u k fits l e h =
     ap (min (bit_at w k)) (sym (bit_at_not w64 u k fits l)) ∙ (sym (bit_at_and w (bit_not w64 u) k) ∙ (ap (λ n. bit_at n k) e ∙ bit_at-zero k)) in
     ap (λ d. d == 1) (kept_value (bit_at w k) (bit_at u k) (bit_at-lt u k) none h)
 
--- a bit of the one word that is 1 where that of the other is 0
+-- a bit that is 1 in one word and 0 in the other
 lost_value : (a b : ℕ) → a < 2 → min a (1 - b) ≡ 1 → (a ≡ 1) × (b ≡ 0)
 lost_value a b l e = (omega arith, omega arith)
 
@@ -120,12 +120,12 @@ not_first : (q n m i : ℕ) → q * n + m ≡ i → m < n → n ≤ i → 0 < q
 not_first zero n m i e l h = absurd (omega arith)
 not_first (suc q) n m i e l h = omega arith
 
--- the voxel of a layer whose bit has so many before it in the layer
+-- the voxel of a layer by the index of its bit in the layer
 abbrev voxel : ℕ → ℕ → ℕ → Coord
 voxel r y at = record { x = at / r; y = y; z = at % r }
 
 module _ (r : ℕ) (ws : List ℕ) (h : IsLayered r ws) (heap : IsHeap (layered r ws)) where
-  -- a bit above the floor that is 1 has a bit under it that is 1
+  -- a bit above the floor that is 1 has a bit below it that is 1
   held_in_heap : (y at j : ℕ) → 0 < y → y < r → at < layer_words r * 64 → y * layer_words r * 64 + at ≡ j
       → is_set ws j ≡ true → is_set ws (j - layer_words r * 64) ≡ true
   held_in_heap y at j low high end is_j one = by (heap (voxel r y at) (is_full-layered r ws (voxel r y at) within ∙ (ap (is_set ws) place ∙ one)))
@@ -156,7 +156,7 @@ module _ (r : ℕ) (ws : List ℕ) (h : IsLayered r ws) (heap : IsHeap (layered 
           ap (λ v. is_set ws (v - layer_words r * 64)) (sym place)
           ∙ (ap (is_set ws) (bit_under r (voxel r y at) low) ∙ (sym (is_full-layered r ws (under (voxel r y at)) below) ∙ f))
 
-  -- no word has a bit that the word under it has not
+  -- no word has a bit that the word below it lacks
   pub none_lost : (layer i w u : ℕ) → layer ≡ layer_words r → i < r * layer_words r → AreStacked ws layer i w u
       → 0 < bit_and w (bit_not w64 u) → ⊥
   none_lost layer i w u size high s some =

@@ -15,7 +15,7 @@ use Rattle.vox_planes.proofs.Bits.{in_layer}
 use Rattle.vox_planes.proofs.Voxels.{is_full-layered}
 use Rattle.vox_planes.proofs.Walks.{filter-end, filter-next_wall, filter-start, filter-step, find-end, find-next_wall, find-start, find-step, row-end, row-more}
 
--- ---- bits that lie equally far apart
+-- ---- equally spaced bits
 
 pub free_more : (ws : List ℕ) (from apart n at : ℕ) → AreClear ws from apart n → at ≡ from + n * apart
     → is_set ws at ≡ false → AreClear ws from apart (n + 1)
@@ -27,7 +27,7 @@ free_more ws from apart n at f e h = record { free = λ k l. by k l (cases_lt k 
         let same : k ≡ n = omega arith in
         ap (λ v. is_set ws (from + v * apart)) same ∙ (ap (is_set ws) (sym e) ∙ h)
 
--- ---- a search that goes on at the next of so many coordinates
+-- ---- a search that goes on at the next of n coordinates
 
 record IsLine (test : Coord → Bool) (at : ℕ → Coord) (walk : ℕ → Option Coord) (count : ℕ) : Type 0 where
   pub next : (n : ℕ) → n < count → walk n ≡ cond (test (at n)) (Some (at n)) (walk (n + 1))
@@ -142,7 +142,7 @@ module _ (r : ℕ) (k : Corners) (test : Coord → Bool) (o : IsOrdered k) (s : 
       ∙ (ap (λ f. option_or (find test (row k.low k.high.z)) f) ended
       ∙ or_none (find test (row k.low k.high.z)))))
 
-  -- and the list of what passes
+  -- the list of the coordinates that pass
   pub row_listed : k.low.x ≡ k.high.x → k.low.y ≡ k.high.y
       → filter test (row k.low k.high.z) ≡ filter (passes_in k test) (coordinates r)
   row_listed x y =
@@ -228,7 +228,7 @@ module _ (r : ℕ) (ws : List ℕ) (m : Matrix) (k : Corners) (e : layered r ws 
       ∙ (start_y r k (is_full (layered r ws)) o s
       ∙ none_of (is_full (layered r ws)) (along_y k) _ _ (is_line_y r k (is_full (layered r ws)) o s x z) (λ j h. voxel_y x z j h ∙ f.free j h)))
 
--- what `next_apart` says, read from the words as they are kept
+-- the effect of `next_apart`, for the words as they are kept
 pub first_as : (ws us : List ℕ) (from s apart a n : ℕ) → ws ≡ us → from ≡ s → apart ≡ a → IsFirstBit ws from apart n
     → IsFirstBit us s a n
 first_as ws us from s apart a n ew es ea f = subst (λ (v : List ℕ). IsFirstBit v s a n) ew (subst (λ (v : ℕ). IsFirstBit ws v a n) es (subst (λ (v : ℕ). IsFirstBit ws from v n) ea f))

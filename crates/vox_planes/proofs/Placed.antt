@@ -1,4 +1,4 @@
--- The voxels at places: those whose bits stand in one word of a row, and many of them part by part.
+-- The voxels at places: those whose bits are in one word of a row, and many of them part by part.
 use Rattle.std.proofs.Common.{◌≡◌, ℕ, zero, suc, ◌+◌, ◌-◌, ◌*◌, ◌/◌, ◌%◌, ◌^◌, ◌<◌, ◌≤◌, sym, ◌∙◌, ap, arith, Bool, true, false, cond, ◌==◌, List, length, inl, inr}
 use Rattle.std.specs.Prelude.{◌⊎◌}
 use Rattle.std.specs.Int.{bit_at}
@@ -61,7 +61,7 @@ row_ends r c (suc n) h l =
     let below = place_below r last (record { x = h.x; y = h.y; z = omega arith }) in
     omega (arith, below)
 
--- the coordinate so many places on in its row
+-- the coordinate n places on in its row
 pub next_place : (r from k : ℕ) → from < volume r → (coordinate_at r from).z + k < r
     → coordinate_at r (from + k) ≡ at (coordinate_at r from) ((coordinate_at r from).z + k)
 next_place r from k l h =
@@ -145,7 +145,7 @@ module _ (r : ℕ) (old new : List ℕ) (from count bits : ℕ) (within : from +
 
 -- ---- one part after another
 
--- so many voxels from a place on have the values of a test, the others are as they were
+-- n voxels from a place on have the values of a test, the others are as they were
 pub record ArePut (old new : Matrix) (from count : ℕ) (test : ℕ → Bool) : Type 0 where
   pub voxels : (p : ℕ) → voxel_at new p ≡ cond (is_from from count p) (test p) (voxel_at old p)
 

@@ -168,7 +168,7 @@ row_free r ws m c last value e h l cl f =
 
 -- ---- the list of a row, one found voxel after another
 
--- what is found in a row is of that row, and the list of those that pass begins with it
+-- the coordinate is found in a row and is of that row, and the list of those that pass begins with it
 pub record IsHead (test : Coord → Bool) (c : Coord) (last : ℕ) (d : Coord) : Type 0 where
   pub is : d ≡ at c d.z
   pub low : c.z ≤ d.z
@@ -224,7 +224,7 @@ pub free_less : (ws : List ℕ) (from a b : ℕ) (value : Bool) → b ≤ a → 
     → LacksValue ws from b value
 free_less ws from a b value l f = record { free = λ j m n. f.free j m (omega arith) }
 
--- what `next_bit` says, read from the words as they are kept
+-- the effect of `next_bit`, for the words as they are kept
 pub free_as : (ws us : List ℕ) (from s end e : ℕ) (value : Bool) → ws ≡ us → from ≡ s → end ≡ e
     → LacksValue ws from end value → LacksValue us s e value
 free_as ws us from s end e value ew es ee f = subst (λ (v : List ℕ). LacksValue v s e value) ew (subst (λ (v : ℕ). LacksValue ws v e value) es (subst (λ (v : ℕ). LacksValue ws from v value) ee f))
@@ -258,7 +258,7 @@ same_kept (suc n) f g c last e h =
     ∙ (ap (λ b. cond b (c ∷ filter f (row (at c (c.z + 1)) last)) (filter f (row (at c (c.z + 1)) last))) (h c.z (omega arith) (omega arith))
     ∙ (ap (λ xs. cond (g c) (c ∷ xs) xs) rest ∙ sym (ap (filter g) more)))
 
--- a bit of a word of which so many of the lowest bits are gone
+-- a bit of a word without n of its lowest bits
 left_bit : (v left s k : ℕ) → left ≡ v / 2 ^ s → bit v (s + k) ≡ bit left k
 left_bit v left s k e = ap (λ n. n == 1) (sym (shifted_bit v s k)) ∙ ap (λ n. bit n k) (sym e)
 
@@ -288,11 +288,11 @@ next_listed v left c z last t e l m one zeros =
         let same : z + t - c.z ≡ z - c.z + t = omega arith in
         ap (bit v) same ∙ (left_bit v left (z - c.z) t e ∙ is_one left t one)
 
--- what is left of the bits when that one is gone, too
+-- the bits that are left without that one
 pub left_after : (v left s t k : ℕ) → left ≡ v / 2 ^ s → k ≡ s + (t + 1) → left / 2 ^ t / 2 ^ 1 ≡ v / 2 ^ k
 left_after v left s t k e f = shr-shr left t 1 ∙ (ap (λ n. n / 2 ^ (t + 1)) e ∙ (shr-shr v s (t + 1) ∙ ap (λ n. v / 2 ^ n) (sym f)))
 
--- what is marked of a word, shifted down to an index
+-- the marked bits of a word, shifted down to an index
 pub bits_marked : (ws : List ℕ) (i v : ℕ) (value : Bool) → IsMarked (get_or ws (i / 64) 0) v value
     → AreBitsFrom ws i (v / 2 ^ (i % 64)) value
 bits_marked ws i v value marks = record {
@@ -300,7 +300,7 @@ bits_marked ws i v value marks = record {
       ap (λ n. n == 1) (shifted_bit v (i % 64) k) ∙ (marks.bits (i % 64 + k) l ∙ ap (has_value value) (sym (bit_from ws i k l)));
 }
 
--- the bits of a word of the row, from a place on, tell the voxels up to the end of the word
+-- the bits of a word of the row, from a place on, give the voxels up to the end of the word
 pub word_listed : (r : ℕ) (ws us : List ℕ) (m : Matrix) (c : Coord) (z stop last i v : ℕ) (value : Bool)
     → layered r ws ≡ m → us ≡ ws → IsInSpace r c → last < r → c.z ≤ z → z ≤ stop → stop ≤ last
     → i ≡ bit_index r c - c.z + z → stop - z + i % 64 < 64 → AreBitsFrom us i v value

@@ -1,4 +1,4 @@
--- Voxels that stand on the floor or on one another go, word by word.
+-- Supported columns are voided, word by word.
 use Rattle.std.proofs.Common.{◌≡◌, ℕ, zero, suc, ◌+◌, ◌-◌, ◌*◌, ◌/◌, ◌%◌, ◌^◌, ◌<◌, ◌≤◌, refl, sym, ◌∙◌, ap, arith, Bool, true, false, not, ◌&&◌, ◌||◌, ◌==◌, List, length, get_or, set, bit_and, inl, inr}
 use Rattle.std.specs.Prelude.{◌⊎◌, nat_lt}
 use Rattle.std.specs.Int.{bit_not, w64}
@@ -43,7 +43,7 @@ going_high full left layer i u v h eu ev fits k l =
 
 -- ---- the words below an index
 
--- below an end the bits that go are 0, and from there on all are as they were
+-- below an end the cleared bits are 0, and from there on all are as they were
 pub record AreDropped (old now full : List ℕ) (layer end : ℕ) : Type 0 where
   pub done : (j : ℕ) → j < end * 64 → is_set now j ≡ (is_set old j && not (goes full now layer j))
   pub rest : (j : ℕ) → end * 64 ≤ j → is_set now j ≡ is_set old j
@@ -101,7 +101,7 @@ dropped_more old now full layer i v some within bits h = record {
 abbrev level : Coord → ℕ → Coord
 level c y = record { x = c.x; y = y; z = c.z }
 
--- a voxel goes exactly where all from it down to the floor are full
+-- a voxel is voided if and only if all from it down to the floor are full
 gone_over : (full under stacked : Bool) → (stacked ≡ true → under ≡ true)
     → (full && not (false || (under && not (under && not stacked)))) ≡ (full && not (stacked && full))
 gone_over true true true h = refl

@@ -1,4 +1,4 @@
--- Bits that are taken out of words, and the voxels of a row.
+-- Bits of words that are cleared, and the voxels of a row.
 use Rattle.std.proofs.Common.{◌≡◌, ℕ, ◌+◌, ◌-◌, ◌*◌, ◌/◌, ◌%◌, ◌^◌, ◌<◌, ◌≤◌, refl, sym, ◌∙◌, ap, subst, arith, Bool, true, false, not, ◌&&◌, ◌==◌, List, length, get_or, min, bit_and, inl, inr}
 use Rattle.std.specs.Prelude.{◌⊎◌}
 use Rattle.std.specs.Int.{bit_at, bit_not, w64}
@@ -72,7 +72,7 @@ part_left old new index count bits present put h few fits j = by (cases_lt j ind
 
 -- ---- bits of words
 
--- the marked bits, of so many from an index on, were taken
+-- the marked bits, of `done` from an index on, were cleared
 pub record AreTaken (old now : List ℕ) (index done bits taken : ℕ) : Type 0 where
   pub was : HasBits taken done (λ k. bit bits k && is_set old (index + k))
   pub left : (j : ℕ) → is_set now j ≡ (is_set old j && not (is_from index done j && bit bits (j - index)))
@@ -141,7 +141,7 @@ module _ (r : ℕ) (old new : List ℕ) (first : Coord) (count bits taken : ℕ)
   pub row_was : (k : ℕ) → k < count → bit taken k ≡ (bit bits k && is_full (layered r old) (at first (first.z + k)))
   row_was k l = h.was.bits k l ∙ ap (λ b. bit bits k && b) (ap (is_set old) (sym (on k)) ∙ sym (is_full-layered r old (at first (first.z + k)) (in_row k l)))
 
-  -- the coordinate has its bit among these exactly where it is of the row
+  -- the coordinate has its bit among these if and only if it is of the row
   marked : (d : Coord) → IsInSpace r d
       → (is_from (bit_index r first) count (bit_index r d) && bit bits (bit_index r d - bit_index r first))
       ≡ is_marked first count bits d
@@ -207,7 +207,7 @@ row_peeked r ws first count bits found within row h k l =
     let here : IsInSpace r (at first (first.z + k)) = record { x = within.x; y = within.y; z = omega arith } in
     h k l ∙ ap (λ b. bit bits k && b) (ap (is_set ws) (sym on) ∙ sym (is_full-layered r ws (at first (first.z + k)) here))
 
--- what `take_bits` says, read from the words as they were to those that are kept
+-- the effect of `take_bits`, for the words before and after the call
 pub taken_by : (r : ℕ) (first : Coord) (old old' new new' : List ℕ) (i count bits taken : ℕ) → old' ≡ old → new ≡ new'
     → i ≡ bit_index r first → taken < 2 ^ count
     → ((k : ℕ) → k < count → bit taken k ≡ (bit bits k && is_set old' (i + k)))

@@ -58,7 +58,7 @@ unfolding total
 total-swap zero m g = sym (total-zero m (λ b. 0) (λ k l. refl))
 total-swap (suc n) m g = ap (λ v. v + total m (λ b. g n b)) (total-swap n m g) ∙ sym (total-plus m (λ b. total n (λ a. g a b)) (λ b. g n b))
 
--- what is past the first m of n numbers counts for nothing
+-- the numbers from m on add nothing
 total-front_only : (m n : ℕ) (f : ℕ → ℕ) → m ≤ n → ((k : ℕ) → m ≤ k → k < n → f k ≡ 0) → total n f ≡ total m f
 total-front_only m n f l none =
     let n_is : n ≡ m + (n - m) = omega arith in

@@ -1,4 +1,4 @@
--- The voxels of a matrix that a test or words say, and of one with a voxel changed.
+-- The voxels of a matrix by a test or by words, and of one with a voxel changed.
 use Rattle.std.proofs.Common.{◌≡◌, ◌≢◌, ℕ, zero, suc, ◌+◌, ◌*◌, ◌/◌, ◌%◌, ◌<◌, ◌≤◌, zero-add, refl, sym, ◌∙◌, ap, subst, arith, Bool, true, false, cond, ◌&&◌, List, length, get_or, replicate, inl, inr}
 use Rattle.std.specs.Prelude.{IsFalse, pos, ◌⊎◌}
 use Rattle.std.proofs.Math.Arith.{digits_lt}
@@ -151,7 +151,7 @@ full_others r old new c b h k d n = by (in_space r (point d)) refl
         let is_in_space : IsInSpace r d = space_by_test r d s in
         is_full-layered r new d is_in_space ∙ (k.others (bit_index r d) (λ e. n (one_bit r d c is_in_space h e)) ∙ sym (is_full-layered r old d is_in_space))
 
--- what `set_bit` says, read from the words as they were to those that are kept
+-- the effect of `set_bit`, for the words before and after the call
 pub changed_by : (r : ℕ) (c : Coord) (old old' new new' : List ℕ) (i : ℕ) (b : Bool) → old' ≡ old → new ≡ new'
     → length new ≡ length old → i ≡ bit_index r c → is_set new i ≡ b → ((j : ℕ) → j ≢ i → is_set new j ≡ is_set old' j)
     → IsChanged old new' (bit_index r c) b

@@ -206,7 +206,7 @@ to_end r k walk w o s = over r k walk w o (place r (row_start k (k.high.x + 1) k
         let at_most_x : c.x * (r * r) ≤ k.high.x * (r * r) = mul-le-mul h.x_high (≤_refl (r * r)) in
         omega arith
 
--- ---- what is found and what is listed from a place on
+-- ---- coordinates that are found and listed from a place on
 
 found_walks : (r : ℕ) (k : Corners) (test : Coord → Bool)
     → IsWalk r k (λ p. find (passes_in k test) (coordinates_from r p))
@@ -284,7 +284,7 @@ module _ (r : ℕ) (k : Corners) (test : Coord → Bool) (o : IsOrdered k) (s : 
       to_end r k (λ p. filter (passes_in k test) (coordinates_from r p)) (listed_walks r k test) o s
       ∙ ap (filter (passes_in k test)) (from-end r (place r (row_start k (k.high.x + 1) k.low.y) + r * r * r) (omega arith))
 
--- ---- how much of a region is left
+-- ---- the rest of a region
 
 -- one row or wall less is left after each
 pub left-more : (high y n : ℕ) → y ≤ high → (high + 1 - y) * n ≡ n + (high + 1 - (y + 1)) * n
@@ -298,7 +298,7 @@ size-walls k o =
     extent_is : (low high : ℕ) → low ≤ high → extent (pos low) (pos high) ≡ high + 1 - low
     extent_is low high h = omega (arith, ints)
 
--- ---- what was found, or else what follows
+-- ---- the coordinate that was found, otherwise the next search
 
 pub some_or : {A : Type 0} (o p q : Option A) → is_some o ≡ true → option_or o p ≡ option_or o q
 some_or (Some a) p q e = refl

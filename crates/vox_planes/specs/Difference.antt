@@ -1,4 +1,4 @@
--- Where two matrices differ, layer by layer.
+-- The coordinates at which two matrices differ, layer by layer.
 use Rattle.std.specs.Prelude.{ℕ, Bool, cond, ◌&&◌, ◌==◌, Option, Some, None}
 use Rattle.vox_geom.specs.declared.coordinate.Coord.{Coord}
 use Rattle.vox_geom.specs.Space.{is_before}
@@ -8,7 +8,7 @@ use Rattle.nano_spec.specs.Matrix.{Matrix, differ_at}
 abbrev pub in_layer_differ : Matrix → Matrix → ℕ → Coord → Bool
 in_layer_differ m n y c = differ_at m n c && (c.y == y)
 
--- the earlier of two coordinates, where they are there
+-- the earlier of two coordinates, or the only one
 abbrev pub earlier : Option Coord → Option Coord → Option Coord
 earlier None d = d
 earlier (Some c) None = Some c

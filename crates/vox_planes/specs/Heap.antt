@@ -1,11 +1,11 @@
--- Matrices whose full voxels stand on the floor or on one another.
+-- Matrices without overhangs: each full voxel is on the floor or above a full one.
 use Rattle.std.specs.Prelude.{◌≡◌, ◌⊎◌, ℕ, zero, suc, ◌-◌, ◌*◌, Bool, IsTrue, not, ◌&&◌, ◌||◌, List, nat_lt}
 use Rattle.vox_geom.specs.declared.coordinate.Coord.{Coord}
 use Rattle.vox_geom.specs.Point.{below}
 use Rattle.nano_spec.specs.Matrix.{Matrix, is_full}
 use Rattle.vox_planes.specs.Layers.{is_set}
 
--- each full voxel is on the floor or stands on a full one
+-- each full voxel is on the floor or above a full one
 abbrev pub IsHeap : Matrix → Type 0
 IsHeap m = (c : Coord) → IsTrue (is_full m c) → (c.y ≡ 0) ⊎ IsTrue (is_full m (below c))
 
@@ -14,10 +14,10 @@ abbrev pub is_full_up_to : Matrix → Coord → ℕ → Bool
 is_full_up_to m c zero = is_full m (record { x = c.x; y = 0; z = c.z })
 is_full_up_to m c (suc y) = is_full_up_to m c y && is_full m (record { x = c.x; y = suc y; z = c.z })
 
--- whether a voxel and all under it down to the floor are full
+-- whether a voxel and all below it down to the floor are full
 abbrev pub is_stacked : Matrix → Coord → Bool
 is_stacked m c = is_full_up_to m c c.y
 
--- whether a bit is of the lowest layer, or the bit under it was 1 in the full words and is 0 in those that are left
+-- whether a bit is in the lowest layer, or the bit below it was 1 in the full words and is 0 in those that are left
 abbrev pub goes : List ℕ → List ℕ → ℕ → ℕ → Bool
 goes full left layer j = nat_lt j (layer * 64) || (is_set full (j - layer * 64) && not (is_set left (j - layer * 64)))

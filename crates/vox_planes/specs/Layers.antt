@@ -1,11 +1,11 @@
--- How bits in words stand for the voxels of a matrix: one layer of y after another, each in whole words.
+-- The bits of the voxels of a matrix in words: one layer of y after another, each in whole words.
 use Rattle.std.specs.Prelude.{◌≡◌, ℕ, ◌+◌, ◌*◌, ◌/◌, ◌%◌, ◌<◌, ◌≤◌, Bool, true, IsFalse, List, length, slice_index}
 use Rattle.vox_geom.specs.declared.coordinate.Coord.{Coord}
 use Rattle.vox_geom.specs.declared.TheConstants.{MOST_R}
 use Rattle.nano_spec.specs.Matrix.{Matrix, matrix_where}
 use Rattle.nano_spec.specs.Model.{bit}
 
--- how many words of 64 bits a layer takes
+-- the number of words of 64 bits in a layer
 abbrev pub layer_words : ℕ → ℕ
 layer_words r = (r * r + 63) / 64
 
@@ -17,7 +17,7 @@ bit_index r c = c.y * layer_words r * 64 + (c.x * r + c.z)
 unfoldable pub is_set : List ℕ → ℕ → Bool
 is_set words i = bit (slice_index words (i / 64)) (i % 64)
 
--- the matrix that the words stand for
+-- the matrix of the words
 abbrev pub layered : ℕ → List ℕ → Matrix
 layered r words = matrix_where r (λ c. is_set words (bit_index r c))
 

@@ -1,4 +1,4 @@
--- Matrices in which the coordinates of a region were made full or void.
+-- Matrices in which the coordinates of a region were filled or voided.
 use Rattle.std.specs.Prelude.{◌≡◌, ℕ, ◌+◌, Bool, cond, not, ◌&&◌, nat_le, nat_lt, count_by}
 use Rattle.vox_geom.specs.declared.coordinate.Coord.{Coord}
 use Rattle.vox_geom.specs.Point.{point}
@@ -10,11 +10,11 @@ use Rattle.vox_planes.specs.Voxel.{is_state}
 abbrev pub with_box : Matrix → Corners → Bool → Matrix
 with_box m k full = matrix_where m.resolution (λ d. cond (is_within (span k) (point d)) full (is_full m d))
 
--- how many voxels of the region are not yet so
+-- how many voxels of the region do not have this state yet
 abbrev pub other_count : Matrix → Corners → Bool → ℕ
 other_count m k full = count_by (λ c. is_state m (not full) c && is_within (span k) (point c)) (all_of m)
 
--- the voxels of an area were made full or void, and so many of them were not yet so
+-- the voxels of an area were filled or voided, and n of them did not have this state yet
 pub record IsPainted (old new : Matrix) (area : Coord → Bool) (full : Bool) (n : ℕ) : Type 0 where
   pub value : new ≡ matrix_where old.resolution (λ d. cond (area d) full (is_full old d))
   pub count : n ≡ count_by (λ c. is_state old (not full) c && area c) (all_of old)

@@ -16,6 +16,6 @@ pub record IsWhole (m : Matrix) : Type 0 where
 abbrev pub with_voxel : Matrix → Coord → Bool → Matrix
 with_voxel m c full = matrix_where m.resolution (λ d. cond (same_point (point d) (point c)) full (is_full m d))
 
--- whether the voxel at a coordinate is full, or else whether it is void
+-- whether the voxel at a coordinate is full, or void if `full` is false
 abbrev pub is_state : Matrix → Bool → Coord → Bool
 is_state m full c = cond full (is_full m c) (not (is_full m c))

@@ -1,4 +1,4 @@
--- What is left of a walk over the coordinates of a matrix or of a region, in their order.
+-- The rest of a walk over the coordinates of a matrix or of a region, in their order.
 use Rattle.std.specs.Prelude.{ℕ, ◌+◌, ◌-◌, ◌*◌, Bool, ◌&&◌, List, map}
 use Rattle.vox_geom.specs.declared.coordinate.Coord.{Coord}
 use Rattle.vox_geom.specs.Point.{point}

@@ -1,11 +1,11 @@
-//! Lists of coordinates with room taken beforehand.
+//! Lists of coordinates with capacity reserved beforehand.
 ghost use Rattle.std.specs.Prelude.{◌≡◌, ◌+◌, ◌≤◌, [], ◌∷◌, ◌++◌, length, IfOk};
 
 use std::alloc::Global;
 use std::marker::Model;
 use vox_geom::{Coord, Memory};
 
-/// A list of coordinates with room taken beforehand, so that none of its methods takes memory.
+/// A list of coordinates with capacity reserved beforehand, so that none of its methods allocates.
 #[derive(Drop)]
 pub struct ChangeList {
     items: Vec<Coord>,
@@ -24,7 +24,7 @@ impl Model for ChangeList {
 }
 
 impl ChangeList {
-    /// The empty list, with room for so many coordinates.
+    /// Returns the empty list, with capacity for `n` coordinates.
     pub fn with_room(alloc: Global, n: u32) -> Result<ChangeList, Memory>
         ensures empty { IfOk result (λ l. l.items ≡ []) }
         ensures room { IfOk result (λ l. n ≤ l.spare) }
@@ -33,14 +33,14 @@ impl ChangeList {
         Ok(ChangeList { items, room: n })
     }
 
-    /// How many more coordinates there is room for.
+    /// Returns how many more coordinates the list has capacity for.
     pub fn spare(&self) -> u32
         ensures { result ≡ self.now.spare }
     {
         self.room - self.items.len() as u32
     }
 
-    /// Adds a coordinate at the end.
+    /// Appends a coordinate.
     pub fn push(&mut self, c: Coord)
         requires { 1 ≤ self.old.spare }
         ensures items { self.new.items ≡ self.old.items ++ c ∷ [] }
@@ -49,7 +49,7 @@ impl ChangeList {
         let _ = self.items.push(c);
     }
 
-    /// Takes all coordinates out, which gives their room back.
+    /// Removes all coordinates, and keeps the capacity.
     pub fn clear(&mut self)
         ensures items { self.new.items ≡ [] }
         ensures room { self.old.spare + length self.old.items ≤ self.new.spare }
@@ -57,7 +57,7 @@ impl ChangeList {
         self.items.clear();
     }
 
-    /// The coordinates, in the order in which they were added.
+    /// Returns the coordinates, in the order in which they were added.
     pub fn as_slice(&self) -> &[Coord]
         ensures { result.now ≡ self.now.items }
     {

@@ -1,7 +1,7 @@
 //! The voxels of a matrix, one bit each (docs/FORMATS.md, "Geometry"), and lists of coordinates to be changed.
 //!
-//! The bits stand in words of 64, in layers of y. In a layer a row of fixed x lies in consecutive bits, so a row is
-//! searched, listed and compared by words. Only `Planes::empty`, `Planes::copy` and `ChangeList::with_room` take memory.
+//! The bits are in words of 64, in layers of y. In a layer, a row of fixed x has consecutive bits, so rows are searched, listed
+//! and compared by words. Only `Planes::empty`, `Planes::copy` and `ChangeList::with_room` allocate.
 #![tactic(auto)]
 
 mod change_list;

@@ -1,4 +1,4 @@
-//! Bit planes: which voxels of a matrix are full.
+//! Bit planes: one bit for each voxel of a matrix.
 ghost use Rattle.std.specs.Prelude.{◌≡◌, ◌≢◌, ℕ, ◌+◌, ◌*◌, ◌/◌, ◌%◌, ◌<◌, ◌≤◌, IfOk, cond, false, length, max, true};
 ghost use Rattle.vox_geom.specs.declared.coordinate.Coord.{Coord as Coordinate};
 ghost use Rattle.vox_geom.specs.Space.{IsInSpace};
@@ -18,20 +18,20 @@ use std::sync::ledger::Ledger;
 use vox_geom::{Coord, MOST_R, Memory, Steps};
 pub use whole::earlier;
 
-/// The bits of a word.
+/// The number of bits in a word.
 const WORD_BITS: usize = 64;
 
-/// How many words of 0 a change of voxels passes at most on the way to the last word that is not 0.
+/// The most words of 0 that one change of voxels passes in the search for the last word that is not 0.
 const MOST_TRIMMED: u8 = 8;
 
-/// Which voxels of a matrix are full, one bit each. Contracts see the matrix: its resolution and, in the order of places, its voxels.
+/// The full voxels of a matrix, one bit each. Contracts see the matrix: its resolution and, in the order of places, its voxels.
 #[derive(Drop)]
 pub struct Planes {
     resolution: u16,
-    // How many words a layer takes: each index asks for it.
+    // The number of words in a layer: each index needs it.
     layer: usize,
     words: Vec<u64>,
-    // From the word of this index on all words are 0.
+    // The index of a word from which on all words are 0.
     end: usize,
 }
 
@@ -48,7 +48,7 @@ impl Model for Planes {
         × AreZeroFrom p.words.items p.end };
 }
 
-/// How many words a layer takes.
+/// Returns the number of words in a layer.
 #[inline(always)]
 fn layer_words(r: u16) -> usize
     requires { r ≤ MOST_R }
@@ -58,7 +58,7 @@ fn layer_words(r: u16) -> usize
     (side * side).div_ceil(WORD_BITS)
 }
 
-/// The index of a coordinate's bit through all words, where a layer takes so many.
+/// Returns the index of a coordinate's bit among all words, given the number of words in a layer.
 #[inline(always)]
 fn bit_index(c: Coord, r: u16, layer: usize) -> usize
     requires resolution { r ≤ MOST_R }
@@ -71,7 +71,7 @@ fn bit_index(c: Coord, r: u16, layer: usize) -> usize
     below + usize::from(c.x) * usize::from(r) + usize::from(c.z)
 }
 
-/// Whether the bit of this index is 1.
+/// Returns whether the bit at this index is 1.
 #[tactic(auto, unfolding(crate::specs::Layers::is_set))]
 #[inline(always)]
 fn is_set(words: &[u64], i: usize) -> bool
@@ -81,7 +81,7 @@ fn is_set(words: &[u64], i: usize) -> bool
     (words[i / WORD_BITS] >> (i % WORD_BITS)) % 2 == 1
 }
 
-/// Makes the bit of this index 1 or 0.
+/// Sets the bit at this index to 1 or 0.
 #[tactic(auto, unfolding(crate::specs::Layers::is_set))]
 #[inline(always)]
 fn set_bit(words: &mut [u64], i: usize, value: bool)
@@ -98,7 +98,7 @@ fn set_bit(words: &mut [u64], i: usize, value: bool)
     }
 }
 
-/// From which word on all are 0, looked for among the last few before an end from which on they are.
+/// Returns an index from which on all words are 0, given one such index: tests the last few words before it.
 #[inline(never)]
 fn trim(words: &[u64], end: usize) -> usize
     requires { AreZeroFrom words.now end }
@@ -117,8 +117,9 @@ fn trim(words: &[u64], end: usize) -> usize
     left
 }
 
-/// From which word on all are 0, once bits up to the word at an index were made 1, or else 0. An end that lies further behind is
-/// moved in part at each call.
+/// Returns an index from which on all words are 0, after bits up to the word at `at` were set or cleared.
+///
+/// A distant end moves only in part at each call.
 #[inline(always)]
 fn end_after(words: &[u64], end: usize, at: usize, full: bool) -> usize
     requires at { at < length words.now }
@@ -138,7 +139,7 @@ fn end_after(words: &[u64], end: usize, at: usize, full: bool) -> usize
 }
 
 impl Planes {
-    /// The matrix of a resolution in which every voxel is void.
+    /// Returns the matrix of a resolution in which every voxel is void.
     pub fn empty(alloc: Global, r: u16) -> Result<Planes, Memory>
         requires some { 1 ≤ r }
         requires most { r ≤ MOST_R }
@@ -156,7 +157,7 @@ impl Planes {
         })
     }
 
-    /// The same matrix once more.
+    /// Returns a copy of the matrix.
     pub fn copy(&self, alloc: Global) -> Result<Planes, Memory>
         ensures value { IfOk result (λ p. p ≡ self.now) }
         ensures resolution { IfOk result (λ p. p.resolution ≡ self.now.resolution) }
@@ -171,7 +172,7 @@ impl Planes {
         })
     }
 
-    /// The resolution, 1 to [`MOST_R`].
+    /// Returns the resolution, 1 to [`MOST_R`].
     pub fn resolution(&self) -> u16
         ensures value { result ≡ self.now.resolution }
         ensures whole { IsWhole self.now }
@@ -180,7 +181,7 @@ impl Planes {
         self.resolution
     }
 
-    /// Does nothing: it recalls what a matrix keeps.
+    /// Proof aid: exposes the type's invariant to the caller. No effect.
     #[inline(always)]
     pub fn recall(&self)
         ensures whole { IsWhole self.now }
@@ -188,7 +189,7 @@ impl Planes {
         let _ = &self.resolution;
     }
 
-    /// Whether it is known that all is void from the layer of y on: one touch where it is, and none where it is not known.
+    /// Returns whether all is known to be void from the layer of y on: one touch if it is, and none if that is not known.
     #[inline(always)]
     pub fn is_void_from<L: Ledger>(&self, y: u16, steps: &mut Steps<L>) -> bool
         ensures void { result ≡ true → (c : Coordinate) → y ≤ c.y → is_full self.now c ≡ false }
@@ -201,8 +202,8 @@ impl Planes {
         true
     }
 
-    /// The index of the bit of the voxel at the coordinate, for a caller that reads it and writes it later: [`Planes::full_at_bit`],
-    /// [`Planes::set_at_bit`].
+    /// Returns the index of the bit of the voxel at the coordinate, for a caller that reads it and writes it later:
+    /// [`Planes::full_at_bit`], [`Planes::set_at_bit`].
     #[inline(always)]
     pub fn bit_of(&self, c: Coord) -> usize
         requires { IsInSpace self.now.resolution c }
@@ -211,7 +212,7 @@ impl Planes {
         bit_index(c, self.resolution, self.layer)
     }
 
-    /// [`Planes::full_at`], by the index of the voxel's bit.
+    /// Like [`Planes::full_at`], by the index of the voxel's bit.
     #[inline(always)]
     pub fn full_at_bit<L: Ledger>(&self, c: Coord, bit: usize, steps: &mut Steps<L>) -> bool
         requires within { IsInSpace self.now.resolution c }
@@ -223,7 +224,7 @@ impl Planes {
         is_set(&self.words, bit)
     }
 
-    /// Whether the voxel at the coordinate is full: one touch.
+    /// Returns whether the voxel at the coordinate is full: one touch.
     #[inline(always)]
     pub fn full_at<L: Ledger>(&self, c: Coord, steps: &mut Steps<L>) -> bool
         requires { IsInSpace self.now.resolution c }
@@ -233,7 +234,7 @@ impl Planes {
         self.full_at_bit(c, self.bit_of(c), steps)
     }
 
-    /// [`Planes::set`], by the index of the voxel's bit.
+    /// Like [`Planes::set`], by the index of the voxel's bit.
     #[inline(always)]
     pub fn set_at_bit(&mut self, c: Coord, bit: usize, full: bool)
         requires within { IsInSpace self.old.resolution c }
@@ -248,7 +249,7 @@ impl Planes {
         self.end = end_after(&self.words, self.end, bit / WORD_BITS, full);
     }
 
-    /// Makes the voxel at the coordinate full or void. All other voxels stay.
+    /// Fills or voids the voxel at the coordinate. All other voxels stay.
     #[inline(always)]
     pub fn set(&mut self, c: Coord, full: bool)
         requires { IsInSpace self.old.resolution c }

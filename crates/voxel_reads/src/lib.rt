@@ -1,5 +1,5 @@
 //! Reads of a matrix that count no touch of the caller, for planners and for the code that examines models. The machine cannot
-//! use them: its crates hold no permit to open a counter.
+//! use them: its crates have no permit to open a counter.
 #![tactic(auto)]
 
 mod reads;

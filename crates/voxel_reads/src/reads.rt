@@ -1,4 +1,4 @@
-//! Voxels that are read by a counter of touches that nobody reads.
+//! Voxels that are read with a counter of touches that is discarded.
 ghost use Rattle.std.specs.Prelude.{◌≡◌, ◌&&◌, find};
 ghost use Rattle.vox_geom.specs.Counting.{IsBlankOf};
 ghost use Rattle.vox_geom.specs.Point.{point};
@@ -12,7 +12,7 @@ use std::sync::ledger::{Blank, Ledger};
 use vox_geom::{Coord, Region, Steps};
 use vox_planes::Planes;
 
-/// Whether the voxel is full, counted in a ledger of its own.
+/// Returns whether the voxel is full. Counts touches in its own ledger.
 fn is_full_in<L: Ledger>(planes: &Planes, c: Coord, blank: Blank) -> bool
     requires within { IsInSpace planes.now.resolution c }
     requires blank { IsBlankOf blank L.name L.parts }
@@ -22,7 +22,7 @@ fn is_full_in<L: Ledger>(planes: &Planes, c: Coord, blank: Blank) -> bool
     planes.full_at(c, &mut steps)
 }
 
-/// Whether the voxel at the coordinate is full, where nobody counts the touches.
+/// Returns whether the voxel at the coordinate is full. Its touches are not counted.
 pub fn is_full(planes: &Planes, c: Coord) -> bool
     requires { IsInSpace planes.now.resolution c }
     ensures { result ≡ is_full_of planes.now c }
@@ -30,7 +30,7 @@ pub fn is_full(planes: &Planes, c: Coord) -> bool
     is_full_in::<Brand>(planes, c, Blank::new(1))
 }
 
-/// The least full voxel of a region, counted in a ledger of its own.
+/// Returns the least full voxel of a region. Counts touches in its own ledger.
 fn first_full_in<L: Ledger>(planes: &Planes, region: &Region, blank: Blank) -> Option<Coord>
     requires within { IsInSpace planes.now.resolution region.now.high }
     requires blank { IsBlankOf blank L.name L.parts }
@@ -41,7 +41,7 @@ fn first_full_in<L: Ledger>(planes: &Planes, region: &Region, blank: Blank) -> O
     planes.region_full(region, &mut steps)
 }
 
-/// The least full voxel of a region, where nobody counts the touches: `None` exactly where the region is void.
+/// Returns the least full voxel of a region, or `None` if the region is void. Its touches are not counted.
 pub fn first_full(planes: &Planes, region: &Region) -> Option<Coord>
     requires { IsInSpace planes.now.resolution region.now.high }
     ensures { result

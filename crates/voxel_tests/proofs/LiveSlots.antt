@@ -1,4 +1,4 @@
--- What a write or a slot that is given back leaves of the slots that are live.
+-- The live slots after a write, or after a slot is freed.
 use Rattle.std.proofs.Common.{◌≡◌, ℕ, cond, None, is_some, ap, ◌∙◌}
 use Rattle.std.proofs.lemmas.Bool.{ne_eqb}
 use Rattle.std.specs.Cmp.{nat_cmp_total, unsigned_tied}

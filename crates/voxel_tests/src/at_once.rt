@@ -1,4 +1,4 @@
-//! The forest of a whole matrix: the levels that `support_forest` gives it at once are those that it has voxel by voxel.
+//! The forest of a whole matrix: the levels that `support_forest` computes at once are those that it has voxel by voxel.
 ghost use Rattle.std.specs.Prelude.{◌≡◌, false, IfOk};
 ghost use Rattle.vox_geom.specs.Counting.{IsBlankOf};
 
@@ -14,7 +14,7 @@ use support_forest::{Forest, ForestFault};
 use vox_geom::{Coord, Steps};
 use vox_planes::Planes;
 
-/// A heap beside a tower with an arm, and a voxel in the air: each voxel, and its level or `None`.
+/// Supported voxels next to a tower with an arm, and a voxel in the air: each voxel, and its level or `None`.
 fn arm() -> [(Coord, Option<u32>); 10] {
     [
         (at(0, 0, 3), Some(0)),
@@ -30,7 +30,7 @@ fn arm() -> [(Coord, Option<u32>); 10] {
     ]
 }
 
-/// Makes the voxels of the arm full at resolution 5.
+/// Fills the voxels of the arm at resolution 5.
 fn set_arm(rt: &impl Abort, planes: &mut Planes)
     requires { planes.old.resolution ≡ 5 }
     ensures { planes.new.resolution ≡ 5 }
@@ -59,7 +59,7 @@ fn add_arm<L: Ledger>(
     Ok(())
 }
 
-/// Each voxel of the arm has its level.
+/// Asserts that each voxel of the arm has its level.
 fn assert_arm<L: Ledger>(rt: &impl Abort, forest: &Forest, steps: &mut Steps<L>)
     requires stands { forest.now.spent ≡ false }
     requires resolution { forest.now.matrix.resolution ≡ 5 }
@@ -70,7 +70,7 @@ fn assert_arm<L: Ledger>(rt: &impl Abort, forest: &Forest, steps: &mut Steps<L>)
     }
 }
 
-/// Two forests say the same of each voxel.
+/// Asserts that two forests agree on each voxel.
 fn assert_same<L: Ledger>(rt: &impl Abort, one: &Forest, other: &Forest, steps: &mut Steps<L>)
     requires one { one.now.spent ≡ false }
     requires other { other.now.spent ≡ false }

@@ -1,4 +1,4 @@
-//! Slots of `brick_arena`: that they can be had, which no clause says, and the worked example of seventy of them.
+//! Slots of `brick_arena`: that `take` succeeds, which no clause guarantees, and the worked example of seventy of them.
 ghost use Rattle.std.specs.Prelude.{ℕ, ◌<◌, ◌≢◌, slice_index, IfOk, OnOk};
 ghost use Rattle.vox_geom.specs.Counting.{IsBlankOf};
 ghost use Rattle.brick_arena.specs.Slots.{IsLive};
@@ -12,7 +12,7 @@ use std::sync::ledger::{Blank, Ledger};
 use std::test::Fail;
 use vox_geom::{Memory, Steps};
 
-/// Takes a slot, and tries a second time where memory was refused.
+/// Takes a slot, and retries once if allocation fails.
 fn taken(rt: &impl Abort, bricks: &mut Bricks) -> Result<u32, Memory>
     ensures near { IfOk result (λ slot. slot < MOST_SLOTS) }
     ensures live { IfOk result (IsLive bricks.new) }
@@ -45,7 +45,7 @@ fn seventy<L: Ledger>(
     Ok(slots)
 }
 
-/// All words of the slot are 0.
+/// Asserts that all words of the slot are 0.
 fn assert_blank<L: Ledger>(rt: &impl Abort, bricks: &Bricks, slot: u32, steps: &mut Steps<L>)
     requires { IsLive bricks.now slot }
 {
@@ -54,7 +54,7 @@ fn assert_blank<L: Ledger>(rt: &impl Abort, bricks: &Bricks, slot: u32, steps: &
     }
 }
 
-/// The slots but for two have their marks.
+/// Asserts that all but two of the slots have their marks.
 fn assert_marked<L: Ledger>(
     rt: &impl Abort,
     bricks: &Bricks,
@@ -79,7 +79,7 @@ fn assert_marked<L: Ledger>(
     assert_eq!(rt; marked, 68);
 }
 
-/// Of seventy slots the fourth and the sixty-ninth are given back, and two are taken.
+/// Of seventy slots, frees the fourth and the sixty-ninth, and takes two.
 fn reused<L: Ledger>(rt: &impl Abort, blank: Blank, alloc: Global) -> Result<(), Memory>
     requires blank { IsBlankOf blank L.name L.parts }
 {

@@ -1,4 +1,4 @@
-//! Edits of a forest of `support_forest` whose conditions a test looks after, by the words of the voxels.
+//! Edits of a forest of `support_forest` whose preconditions a test checks, by the words of the voxels.
 ghost use Rattle.std.specs.Prelude.{◌≡◌, ◌≢◌, false, IfOk};
 ghost use Rattle.vox_geom.specs.Space.{IsInSpace};
 ghost use Rattle.support_forest.specs.Standing.{Says};
@@ -8,7 +8,7 @@ use std::sync::ledger::Ledger;
 use support_forest::{Forest, ForestFault};
 use vox_geom::{Coord, Steps};
 
-/// The coordinate is in space.
+/// Asserts that the coordinate is in space.
 pub(crate) fn inside(rt: &impl Abort, c: Coord, r: u16)
     ensures { IsInSpace r c }
 {
@@ -17,21 +17,21 @@ pub(crate) fn inside(rt: &impl Abort, c: Coord, r: u16)
     assert!(rt; c.z < r);
 }
 
-/// The coordinates are two.
+/// Asserts that the coordinates differ.
 fn apart(rt: &impl Abort, a: Coord, b: Coord)
     ensures { a ≢ b }
 {
     assert!(rt; a != b);
 }
 
-/// The word is not that of a void voxel.
+/// Asserts that the word is not that of a void voxel.
 fn full(rt: &impl Abort, word: u32)
     ensures { word ≢ 0 }
 {
     assert!(rt; word != 0);
 }
 
-/// The word of a voxel in the arena, 0 where its brick has no slot.
+/// Returns the word of a voxel in the arena, 0 if its brick has no slot.
 #[tactic(auto, unfolding(support_forest::specs::Grid::word_index))]
 pub(crate) fn word_of<L: Ledger>(forest: &Forest, c: Coord, steps: &mut Steps<L>) -> u32
     requires stands { forest.now.spent ≡ false }
@@ -47,7 +47,7 @@ pub(crate) fn word_of<L: Ledger>(forest: &Forest, c: Coord, steps: &mut Steps<L>
     }
 }
 
-/// The word of a voxel.
+/// Asserts the word of a voxel.
 pub(crate) fn assert_word<L: Ledger>(
     rt: &impl Abort,
     forest: &Forest,
@@ -61,7 +61,7 @@ pub(crate) fn assert_word<L: Ledger>(
     assert!(rt; word_of(forest, c, steps) == word);
 }
 
-/// The level of a voxel, or that it has none.
+/// Asserts the level of a voxel, or that it has none.
 pub(crate) fn assert_level<L: Ledger>(
     rt: &impl Abort,
     forest: &Forest,
@@ -75,7 +75,7 @@ pub(crate) fn assert_level<L: Ledger>(
     assert_eq!(rt; forest.level(c, steps), level);
 }
 
-/// The parent of a voxel.
+/// Asserts the parent of a voxel.
 pub(crate) fn assert_parent<L: Ledger>(
     rt: &impl Abort,
     forest: &Forest,
@@ -89,7 +89,7 @@ pub(crate) fn assert_parent<L: Ledger>(
     assert_eq!(rt; forest.parent(c, steps), Some(parent));
 }
 
-/// How many voxels float, and the least of them.
+/// Asserts how many voxels float, and the least of them.
 pub(crate) fn assert_floating<L: Ledger>(
     rt: &impl Abort,
     forest: &Forest,
@@ -103,7 +103,7 @@ pub(crate) fn assert_floating<L: Ledger>(
     assert_eq!(rt; forest.first_floating(steps), first);
 }
 
-/// Adds a voxel whose word says that it is void.
+/// Adds a voxel that is void by its word.
 #[tactic(auto, using(crate::proofs::OneOrTwo::may_add_one))]
 pub(crate) fn add_void<L: Ledger>(
     rt: &impl Abort,
@@ -121,7 +121,7 @@ pub(crate) fn add_void<L: Ledger>(
     forest.add_one(c, steps)
 }
 
-/// Tries to add a voxel at once whose word says that it is void: whether it was added.
+/// Tries the fast path to add a voxel that is void by its word, and returns whether it was added.
 #[tactic(auto, using(crate::proofs::OneOrTwo::may_add_one))]
 pub(crate) fn stand_void<L: Ledger>(
     rt: &impl Abort,
@@ -142,7 +142,7 @@ pub(crate) fn stand_void<L: Ledger>(
     false
 }
 
-/// Tries to remove a voxel at once whose word says that it is full: whether it was removed.
+/// Tries the fast path to remove a voxel that is full by its word, and returns whether it was removed.
 #[tactic(auto, using(crate::proofs::OneOrTwo::may_remove_one))]
 pub(crate) fn clear_full<L: Ledger>(
     rt: &impl Abort,
@@ -163,7 +163,7 @@ pub(crate) fn clear_full<L: Ledger>(
     false
 }
 
-/// Adds two voxels whose words say that they are void.
+/// Adds two voxels that are void by their words.
 #[tactic(auto, using(crate::proofs::OneOrTwo::may_add_two))]
 pub(crate) fn add_two<L: Ledger>(
     rt: &impl Abort,
@@ -187,7 +187,7 @@ pub(crate) fn add_two<L: Ledger>(
     forest.add(&cells, steps)
 }
 
-/// Removes a voxel whose word says that it is full.
+/// Removes a voxel that is full by its word.
 #[tactic(auto, using(crate::proofs::OneOrTwo::may_remove_one))]
 pub(crate) fn remove_full<L: Ledger>(
     rt: &impl Abort,
@@ -205,7 +205,7 @@ pub(crate) fn remove_full<L: Ledger>(
     forest.remove_one(c, steps)
 }
 
-/// Removes two voxels whose words say that they are full.
+/// Removes two voxels that are full by their words.
 pub(crate) fn remove_two<L: Ledger>(
     rt: &impl Abort,
     forest: &mut Forest,

@@ -1,4 +1,4 @@
-//! Levels of `support_forest` that edits change: that the calls succeed, which no clause says, and worked levels.
+//! Levels of `support_forest` that edits change: that the calls succeed, which no clause guarantees, and worked levels.
 ghost use Rattle.std.specs.Prelude.{◌≡◌, false, IfOk};
 ghost use Rattle.vox_geom.specs.Counting.{IsBlankOf};
 ghost use Rattle.vox_geom.specs.Space.{IsInSpace};
@@ -17,7 +17,7 @@ use std::test::Fail;
 use support_forest::{Forest, ForestFault};
 use vox_geom::{Coord, Steps};
 
-/// A ring of eight voxels round (2, 1, 2) on two posts: each voxel, its level, and its level without the post at (1, 0, 1).
+/// A ring of eight voxels around (2, 1, 2) on two posts: each voxel, its level, and its level without the post at (1, 0, 1).
 fn ring() -> [(Coord, u32, u32); 9] {
     [
         (at(3, 0, 3), 0, 0),
@@ -50,7 +50,7 @@ fn add_ring<L: Ledger>(
     Ok(())
 }
 
-/// Each voxel of the ring has the level without the post, or the one with it.
+/// Asserts that each voxel of the ring has the level without the post, or the one with it.
 fn assert_levels<L: Ledger>(rt: &impl Abort, forest: &Forest, without: bool, steps: &mut Steps<L>)
     requires stands { forest.now.spent ≡ false }
     requires resolution { forest.now.matrix.resolution ≡ 5 }
@@ -62,7 +62,7 @@ fn assert_levels<L: Ledger>(rt: &impl Abort, forest: &Forest, without: bool, ste
     }
 }
 
-/// The posts go: first the one at (1, 0, 1), without which the ring keeps its levels by the other, and then that one.
+/// Removes the posts: first the one at (1, 0, 1), without which the ring keeps its levels by the other, and then that one.
 fn without_posts<L: Ledger>(
     rt: &impl Abort,
     forest: &mut Forest,
@@ -109,7 +109,7 @@ fn chain() -> [(Coord, u32); 8] {
     ]
 }
 
-/// Each voxel of the chain has its level.
+/// Asserts that each voxel of the chain has its level.
 fn assert_chain<L: Ledger>(rt: &impl Abort, forest: &Forest, steps: &mut Steps<L>)
     requires stands { forest.now.spent ≡ false }
     requires resolution { forest.now.matrix.resolution ≡ 5 }
@@ -120,7 +120,7 @@ fn assert_chain<L: Ledger>(rt: &impl Abort, forest: &Forest, steps: &mut Steps<L
     }
 }
 
-/// Voxels go two at once: first those without which the ring is a chain, and then the other post and the end of the chain.
+/// Removes voxels two at once: first those without which the ring is a chain, and then the other post and the end of the chain.
 fn without_pairs<L: Ledger>(
     rt: &impl Abort,
     forest: &mut Forest,
@@ -138,7 +138,7 @@ fn without_pairs<L: Ledger>(
     Ok(())
 }
 
-/// The ring on both posts, from which voxels go two at once.
+/// The ring on both posts, from which voxels are removed two at once.
 fn pairs_go<L: Ledger>(rt: &impl Abort, blank: Blank, alloc: Global) -> Result<(), ForestFault>
     requires blank { IsBlankOf blank L.name L.parts }
 {
@@ -151,7 +151,7 @@ fn pairs_go<L: Ledger>(rt: &impl Abort, blank: Blank, alloc: Global) -> Result<(
     without_pairs(rt, &mut forest, &mut steps)
 }
 
-/// On a voxel of the floor another stands at once, but none beside that; and it is cleared at once when nothing hangs on it.
+/// The fast path adds a voxel above one of the floor, but none next to it, and removes it once no voxel is its child.
 fn one_on_another<L: Ledger>(
     rt: &impl Abort,
     forest: &mut Forest,
@@ -172,7 +172,7 @@ fn one_on_another<L: Ledger>(
     Ok(())
 }
 
-/// Voxels come and go at once.
+/// The fast paths add and remove voxels.
 fn voxels_at_once<L: Ledger>(
     rt: &impl Abort,
     blank: Blank,
@@ -187,7 +187,7 @@ fn voxels_at_once<L: Ledger>(
     one_on_another(rt, &mut forest, &mut steps)
 }
 
-/// Two voxels stand in two slots.
+/// Asserts that two voxels are in two slots.
 fn assert_two_slots(rt: &impl Abort, forest: &Forest, one: Coord, other: Coord)
     requires stands { forest.now.spent ≡ false }
     requires one { IsInSpace forest.now.matrix.resolution one }
@@ -197,7 +197,7 @@ fn assert_two_slots(rt: &impl Abort, forest: &Forest, one: Coord, other: Coord)
     assert!(rt; forest.bricks().live() == 2);
 }
 
-/// Two bricks have two slots, and their words say levels and parents.
+/// Two bricks have two slots, and their words give levels and parents.
 fn two_bricks<L: Ledger>(rt: &impl Abort, blank: Blank, alloc: Global) -> Result<(), ForestFault>
     requires blank { IsBlankOf blank L.name L.parts }
 {

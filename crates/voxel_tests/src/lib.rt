@@ -1,5 +1,5 @@
-//! Tests of the crates that keep voxels: `brick_arena`, `vox_planes` and `support_forest`. There is no code here but tests:
-//! what the calls answer is proved, and that they succeed, and the worked examples, are shown here.
+//! Tests of the crates that store voxels: `brick_arena`, `vox_planes` and `support_forest`. The results of their calls are
+//! proved; these tests show that they succeed, and worked examples.
 #![tactic(auto)]
 
 #[cfg(test)]

@@ -1,4 +1,4 @@
-//! Voxels of `vox_planes` by their places, planes whose voxels stand on one another, and lists of changes.
+//! Voxels of `vox_planes` by their places, planes without overhangs, and lists of changes.
 ghost use Rattle.std.specs.Prelude.{◌+◌, ◌≤◌};
 ghost use Rattle.vox_geom.specs.Counting.{IsBlankOf};
 ghost use Rattle.nano_spec.specs.Model.{volume};
@@ -14,7 +14,7 @@ use std::test::Fail;
 use vox_geom::{Memory, Steps};
 use vox_planes::{ChangeList, Planes, earlier};
 
-/// The voxels from a place on, as the bits of a word.
+/// Asserts the voxels from a place on, as the bits of a word.
 fn assert_places<L: Ledger>(
     rt: &impl Abort,
     planes: &Planes,
@@ -66,12 +66,12 @@ fn the_earlier_coordinate(rt: HostRuntime) -> Result<(), Fail> {
     Ok(())
 }
 
-/// Whether each full voxel stands on the floor or on a full one.
+/// Asserts whether each full voxel is on the floor or above a full one.
 fn assert_heap<L: Ledger>(rt: &impl Abort, planes: &Planes, heap: bool, steps: &mut Steps<L>) {
     assert!(rt; planes.is_heap(steps) == heap);
 }
 
-/// Voxels that stand on one another, one that floats, and one that is held from beside alone.
+/// Voxels above one another, one that floats, and an overhang.
 fn heaps<L: Ledger>(rt: &impl Abort, blank: Blank, alloc: Global) -> Result<(), Memory>
     requires blank { IsBlankOf blank L.name L.parts }
 {
@@ -102,7 +102,7 @@ fn stacked(rt: HostRuntime) -> Result<(), Fail> {
     Ok(())
 }
 
-/// A list of its own: it is filled, read and cleared.
+/// A list of changes is filled, read and cleared.
 #[test]
 fn a_list_keeps_its_room(rt: HostRuntime) -> Result<(), Fail> {
     let mut list = ChangeList::with_room(rt.alloc(), 2)?;

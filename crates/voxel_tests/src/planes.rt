@@ -13,7 +13,7 @@ use std::test::Fail;
 use vox_geom::{Coord, Memory, Region, Steps};
 use vox_planes::{ChangeList, Planes};
 
-/// The list of the full, or else the void, coordinates of a region is the expected one.
+/// Asserts the list of the full, or the void, coordinates of a region.
 fn assert_listed<L: Ledger>(
     rt: &impl Abort,
     planes: &Planes,
@@ -36,7 +36,7 @@ fn assert_listed<L: Ledger>(
     assert_eq!(rt; list.as_slice(), want);
 }
 
-/// The first full coordinate of a region is the expected one.
+/// Asserts the first full coordinate of a region.
 fn assert_first<L: Ledger>(
     rt: &impl Abort,
     planes: &Planes,
@@ -49,7 +49,7 @@ fn assert_first<L: Ledger>(
     assert_eq!(rt; planes.region_full(b, steps), want);
 }
 
-/// How many voxels are full.
+/// Asserts how many voxels are full.
 pub(crate) fn assert_count<L: Ledger>(
     rt: &impl Abort,
     planes: &Planes,
@@ -59,7 +59,7 @@ pub(crate) fn assert_count<L: Ledger>(
     assert!(rt; planes.count(steps) == count);
 }
 
-/// Whether a voxel is full.
+/// Asserts whether a voxel is full.
 pub(crate) fn assert_full<L: Ledger>(
     rt: &impl Abort,
     planes: &Planes,
@@ -72,7 +72,7 @@ pub(crate) fn assert_full<L: Ledger>(
     assert!(rt; planes.full_at(c, steps) == full);
 }
 
-/// The least coordinate at which two matrices differ.
+/// Asserts the least coordinate at which two matrices differ.
 fn assert_differ<L: Ledger>(
     rt: &impl Abort,
     planes: &Planes,
@@ -85,7 +85,7 @@ fn assert_differ<L: Ledger>(
     assert_eq!(rt; planes.equal(other, steps), first);
 }
 
-/// So many voxels of a region become full, or else void.
+/// Fills or voids a region, and asserts how many voxels change.
 fn assert_changed<L: Ledger>(
     rt: &impl Abort,
     planes: &mut Planes,
@@ -121,7 +121,7 @@ fn two_voxels<L: Ledger>(
     Ok(planes)
 }
 
-/// What lists of regions of the two voxels have.
+/// Asserts the lists of regions of the two voxels.
 fn assert_lists<L: Ledger>(
     rt: &impl Abort,
     alloc: Global,
@@ -166,7 +166,7 @@ fn small<L: Ledger>(rt: &impl Abort, blank: Blank, alloc: Global) -> Result<(), 
     Ok(())
 }
 
-/// A row of 70 voxels, whose bits stand in three words, and a voxel beside it.
+/// A row of 70 voxels, whose bits are in three words, and a voxel next to it.
 fn wide_row<L: Ledger>(
     rt: &impl Abort,
     alloc: Global,
@@ -184,7 +184,7 @@ fn wide_row<L: Ledger>(
     Ok(planes)
 }
 
-/// What lists of that row have, of all full voxels of `rows` and of the void ones of a part.
+/// Asserts the lists of that row: of all full voxels of `rows`, and of the void ones of a part.
 fn assert_wide_lists<L: Ledger>(
     rt: &impl Abort,
     alloc: Global,
@@ -204,7 +204,7 @@ fn assert_wide_lists<L: Ledger>(
     Ok(())
 }
 
-/// That row, a copy that differs, and regions of it that become full and void.
+/// That row, a copy that differs, and regions of it that are filled and voided.
 fn wide<L: Ledger>(rt: &impl Abort, blank: Blank, alloc: Global) -> Result<(), Memory>
     requires blank { IsBlankOf blank L.name L.parts }
 {

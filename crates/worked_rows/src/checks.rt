@@ -1,4 +1,4 @@
-//! Models that are checked.
+//! Checks of models.
 use crate::table::{Row, assert_rows};
 use nanobot_app::Status;
 use std::test::Fail;

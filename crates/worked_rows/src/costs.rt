@@ -1,4 +1,4 @@
-//! What plans of a few voxels cost, each the planner's own or a cheaper proposal. Energies and steps were summed up from the
+//! The costs of plans of a few voxels, each the planner's own or a cheaper proposal. Energies and steps were summed from the
 //! commands by the rules.
 use crate::plans::printed;
 use crate::table::{Row, assert_rows, depot};
@@ -18,7 +18,7 @@ const STRIPES: [u8; 44] = [
 /// The model of resolution 4 with the voxels (1,0,1) and (2,0,2), of which each is in a strip of its own.
 const TWO_POSTS: [u8; 9] = [4, 0, 0, 2, 0, 4, 0, 0, 0];
 
-/// Plans over the file `B`, where they are stored too.
+/// Plans over the file `B`, in which they are also stored.
 const COSTS: [Row; 16] = [
     (
         "plan layer E1 E1 B",
@@ -123,7 +123,8 @@ fn plans_pay_by_their_steps(rt: HostRuntime) -> Result<(), Fail> {
     assert_rows(&rt, rt.alloc(), &COSTS)
 }
 
-/// The model of resolution 40 with the voxels (1,0,1), (1,0,35), (35,0,1) and (35,0,35), each of which is in a tile of its own.
+/// Returns the model of resolution 40 with the voxels (1,0,1), (1,0,35), (35,0,1) and (35,0,35), each of which is in a tile of its
+/// own.
 fn four_voxels(alloc: Global) -> Result<Vec<u8>, AllocError> {
     let mut bytes = vec![in alloc; 0u8; 8001]?;
     bytes[0] = 40;

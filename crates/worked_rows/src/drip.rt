@@ -1,4 +1,4 @@
-//! Runs over a depot that gives one byte at each fetch.
+//! Runs over a depot that returns one byte at each fetch.
 ghost use Rattle.std.specs.Prelude.{◌≡◌, ℕ, ◌≤◌, Some, length, IfOk, IsErrOf, IsTrue, ⊤};
 ghost use Rattle.vox_depot.specs.Causes.{Rose};
 ghost use Rattle.vox_depot.specs.Files.{IfTold, IsMissing, IsPiece};
@@ -10,7 +10,7 @@ use std::process::Abort;
 use std::test::Fail;
 use vox_depot::{Depot, FetchFault, MemoryDepot, MemorySink, StoreFault};
 
-/// Files in memory, of which each fetch gives at most one byte.
+/// Files in memory, of which each fetch returns at most one byte.
 #[derive(Drop)]
 struct DripDepot {
     files: MemoryDepot,
@@ -39,7 +39,7 @@ impl Depot for DripDepot {
     }
 }
 
-/// Each row answers its status and prints its line.
+/// Asserts that each row has its status and prints its line.
 fn assert_rows(rt: &impl Abort, alloc: Global, rows: &[Row]) -> Result<(), Fail> {
     for (line, bytes, status, printed) in rows {
         let words = words(alloc, line)?;

@@ -1,4 +1,4 @@
-//! Calls of the outside that fail, files that are not there, and a trace that is too long.
+//! Calls of the outside that fail, missing files, and a trace that is too long.
 ghost use Rattle.std.specs.Prelude.{◌≡◌, ◌≤◌, length, IfOk, IsErrOf, OnErr, None, ⊤};
 ghost use Rattle.vox_depot.specs.Causes.{Rose};
 
@@ -9,7 +9,7 @@ use std::process::Abort;
 use std::test::Fail;
 use vox_depot::{Depot, FetchFault, MemorySink, StoreFault};
 
-/// What a run of four steps answers and prints where these calls fail.
+/// The status and the output of a run of four steps if these calls fail.
 struct Failing {
     words: &'static str,
     depot_fails: &'static [u64],
@@ -86,12 +86,12 @@ fn calls_that_fail(rt: HostRuntime) -> Result<(), Fail> {
     Ok(())
 }
 
-/// A depot that tells nothing: its only model is the empty one of resolution 3, and its only trace has the byte 04, which
+/// A depot with no ghost files: its only model is the empty one of resolution 3, and its only trace has the byte 04, which
 /// begins no command, and then 2^30 bytes FF.
 #[derive(Drop)]
 struct Endless;
 
-/// How many bytes the trace has.
+/// The length of the trace in bytes.
 const TRACE_BYTES: u64 = 1_073_741_825;
 
 impl Depot for Endless {
@@ -127,7 +127,7 @@ impl Depot for Endless {
     }
 }
 
-/// The same trace is too long to be printed, and is refused so before its first byte is.
+/// The same trace is too long to be printed, and is refused before its first byte is.
 #[test]
 fn a_trace_too_long_to_be_printed(rt: HostRuntime) -> Result<(), Fail> {
     let alloc = rt.alloc();

@@ -1,4 +1,4 @@
-//! Every call that can fail fails in turn, and files are cut short, for each row of the table of words.
+//! Fails every call that can fail, one after another, and cuts files short, for each command.
 use crate::table::{FILES, answer, depot, words};
 use nanobot_app::Status;
 use std::alloc::Global;
@@ -6,7 +6,7 @@ use std::process::Abort;
 use std::test::Fail;
 use vox_depot::{MemoryDepot, MemorySink};
 
-/// Words of each row, over the files of the table, a trace `B`, a text `T` and a script `S`; what is stored is the file `C`.
+/// A command of each kind, over the files of the table, a trace `B`, a text `T` and a script `S`; the stored file is `C`.
 const ROWS: [&str; 15] = [
     "run - P3 B",
     "run light - P3 B",
@@ -31,14 +31,14 @@ const TRACE: &[u8] = &[
     0x77, 0x66, 0xFF,
 ];
 
-/// The files that are there beside those of the table.
+/// The files in addition to those of the table.
 const OTHERS: [(&str, &[u8]); 3] = [
     ("B", &[0x14, 0x10, 0x73, 0x14, 0x0E, 0xFF]),
     ("T", b"Fill <0,0,1>\n"),
     ("S", b"step\nstep\nback\nbots\nvoxel 1 0 1\n"),
 ];
 
-/// The depot of the rows, whose calls of these numbers fail.
+/// Returns the depot of the rows, whose calls of these numbers fail.
 fn files(alloc: Global, fails: &[u64]) -> Result<MemoryDepot, Fail> {
     let mut depot = depot(alloc, fails)?;
     for (name, bytes) in &OTHERS {
@@ -47,7 +47,7 @@ fn files(alloc: Global, fails: &[u64]) -> Result<MemoryDepot, Fail> {
     Ok(depot)
 }
 
-/// No file but `C` has changed.
+/// Asserts that no file but `C` has changed.
 fn assert_spared(rt: &impl Abort, depot: &MemoryDepot, line: &str) -> Result<(), Fail> {
     for (name, bytes) in FILES.iter().chain(&OTHERS) {
         assert!(rt;
@@ -60,18 +60,18 @@ fn assert_spared(rt: &impl Abort, depot: &MemoryDepot, line: &str) -> Result<(),
     Ok(())
 }
 
-/// What comes of words where a call of the depot fails.
+/// The outcome of a command if a call of the depot fails.
 #[derive(Clone, Copy, PartialEq, Eq)]
 enum Without {
-    /// They are done: there was no such call.
+    /// It succeeds: there was no such call.
     Done,
-    /// They answer 5, write nothing, and leave the file `C` as it was, which is not there.
+    /// It returns 5, writes nothing, and leaves the file `C` missing.
     Spared,
-    /// They answer 5, write nothing, and the file `C` is there: it was the store that failed.
+    /// It returns 5, writes nothing, and the file `C` exists: the store failed.
     Stored,
 }
 
-/// What comes of the words where the depot's call of this number fails.
+/// Returns the outcome of a command if the depot's call of this number fails.
 fn answer_without(rt: &impl Abort, alloc: Global, line: &str, call: u64) -> Result<Without, Fail> {
     let words = words(alloc, line)?;
     let mut depot = files(alloc, &[call])?;
@@ -91,7 +91,7 @@ fn answer_without(rt: &impl Abort, alloc: Global, line: &str, call: u64) -> Resu
     Ok(Without::Done)
 }
 
-/// Each call on the depot fails in turn; only where the last one fails, which is the store, may the file be another.
+/// Fails each call on the depot, one after another. Only if the last one fails, the store, may the file be another.
 #[test]
 fn each_call_on_the_depot_fails_in_turn(rt: HostRuntime) -> Result<(), Fail> {
     for line in &ROWS {
@@ -112,7 +112,7 @@ fn each_call_on_the_depot_fails_in_turn(rt: HostRuntime) -> Result<(), Fail> {
     Ok(())
 }
 
-/// What is printed, and the file `C`, where these puts fail.
+/// Returns the output and the file `C` if these puts fail.
 fn told(
     rt: &impl Abort,
     alloc: Global,
@@ -130,7 +130,7 @@ fn told(
     Ok((out.bytes().to_vec(alloc)?, stored.to_vec(alloc)?))
 }
 
-/// Words that are refused, over the same files.
+/// Commands that are refused, over the same files.
 const REFUSALS: [(&str, Status); 8] = [
     ("run - TOWER B", Status::Broken),
     ("ran - P3 B", Status::Words),
@@ -142,7 +142,7 @@ const REFUSALS: [(&str, Status); 8] = [
     ("plan low - HOOK C", Status::Unsupported),
 ];
 
-/// Where the line cannot be written, its first half is, and the file stands as it does else.
+/// Asserts that, if the line cannot be written, its first half is, and the file is the same as without the fault.
 fn assert_line_fails(
     rt: &impl Abort,
     alloc: Global,
@@ -168,7 +168,7 @@ fn each_line_fails(rt: HostRuntime) -> Result<(), Fail> {
     Ok(())
 }
 
-/// What the first bytes of the trace come to, by how many they are.
+/// The outcomes of the first bytes of the trace, by their number.
 const CUT: [(usize, Status, &str); 19] = [
     (
         0,
@@ -231,7 +231,7 @@ const CUT: [(usize, Status, &str); 19] = [
     ),
 ];
 
-/// The words over these bytes as the file `G` answer so.
+/// Asserts the answer to a command with these bytes as the file `G`.
 fn assert_answer(
     rt: &impl Abort,
     alloc: Global,

@@ -1,4 +1,4 @@
-//! Runs over large models, where a body that judges more of a model than a step changes would never end.
+//! Runs over large models, on which a mutant that judges more of a model than a step changes would never end.
 use crate::table::{answer, depot, words};
 use nanobot_app::Status;
 use std::alloc::Global;
@@ -6,7 +6,7 @@ use std::process::Abort;
 use std::test::Fail;
 use vox_depot::MemorySink;
 
-/// Two lines along z of resolution 100, both full but for their ends.
+/// Two lines along z of resolution 100, both full except for their ends.
 const LINES: [u8; 25] = [
     0xFE, 0xFF, 0xFF, 0xFF, 0xFF, 0xFF, 0xFF, 0xFF, 0xFF, 0xFF, 0xFF, 0xFF, 0xE7, 0xFF, 0xFF, 0xFF,
     0xFF, 0xFF, 0xFF, 0xFF, 0xFF, 0xFF, 0xFF, 0xFF, 0x7F,
@@ -18,7 +18,7 @@ const LAST_LINES: [u8; 25] = [
     0, 0, 0, 0, 0, 0,
 ];
 
-/// The bytes of an empty model of the first form, which are this many.
+/// Returns the bytes of an empty model of the first form, which are this many.
 fn empty_model(alloc: Global, resolution: u8, len: usize) -> Result<Vec<u8>, Fail> {
     let mut bytes = vec![in alloc; 0u8; len]?;
     if let Some(first) = bytes.first_mut() {
@@ -27,7 +27,7 @@ fn empty_model(alloc: Global, resolution: u8, len: usize) -> Result<Vec<u8>, Fai
     Ok(bytes)
 }
 
-/// A plane of one x of resolution 100, full within the legal box.
+/// Returns a plane of one x of resolution 100, full within the legal box.
 fn full_plane(alloc: Global) -> Result<Vec<u8>, Fail> {
     let mut bytes = Vec::new(alloc);
     for _ in 0..49 {
@@ -37,7 +37,7 @@ fn full_plane(alloc: Global) -> Result<Vec<u8>, Fail> {
     Ok(bytes)
 }
 
-/// The model of resolution 100 in which all of the legal box is full.
+/// Returns the model of resolution 100 in which all of the legal box is full.
 pub fn full_box(alloc: Global) -> Result<Vec<u8>, Fail> {
     let plane = full_plane(alloc)?;
     let mut bytes = empty_model(alloc, 100, 1_251)?;
@@ -48,7 +48,7 @@ pub fn full_box(alloc: Global) -> Result<Vec<u8>, Fail> {
     Ok(bytes)
 }
 
-/// The model of resolution 250 with the post (1,y,1) for y from 0 to 248.
+/// Returns the model of resolution 250 with the post (1,y,1) for y from 0 to 248.
 fn post(alloc: Global) -> Result<Vec<u8>, Fail> {
     let mut bytes = empty_model(alloc, 250, 1_953_126)?;
     for y in 0..249usize {
@@ -60,7 +60,7 @@ fn post(alloc: Global) -> Result<Vec<u8>, Fail> {
     Ok(bytes)
 }
 
-/// A Fill and a Void of the same voxel, a million times, and Halt.
+/// Returns a trace that fills and voids the same voxel a million times, and halts.
 fn fills_and_voids(alloc: Global) -> Result<Vec<u8>, Fail> {
     let mut bytes = Vec::new(alloc);
     for _ in 0..1_000_000 {
@@ -70,7 +70,7 @@ fn fills_and_voids(alloc: Global) -> Result<Vec<u8>, Fail> {
     Ok(bytes)
 }
 
-/// The words of the line over a model and a trace answer the status and print the line.
+/// Asserts the status and the line of a command over a model and a trace.
 fn assert_run(
     rt: &impl Abort,
     alloc: Global,
@@ -100,8 +100,8 @@ fn the_greatest_first_form(rt: HostRuntime) -> Result<(), Fail> {
     assert_run(&rt, alloc, "run G - B", (&model, &[0xFF]), expected)
 }
 
-/// A step's grounding is judged by what the step changes: a flood of the model after each step would take hours. The gate stops a
-/// test after 60 seconds, so this is a test of that limit.
+/// A step's grounding is judged by its changes: a flood of the model after each step would take hours. The gate stops a test
+/// after 60 seconds, so this is a test of that limit.
 #[test]
 fn two_million_steps_on_a_full_model(rt: HostRuntime) -> Result<(), Fail> {
     let alloc = rt.alloc();

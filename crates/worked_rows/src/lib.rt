@@ -1,5 +1,5 @@
-//! Worked runs of the whole program, over files and output in memory. There is no code here but tests: what the top call
-//! answers is proved, and that it is the contest's and what users are promised is shown by these rows.
+//! Worked runs of the whole program, over files and output in memory. They contain only tests: the top call's answers are
+//! proved, and these rows check that they are the contest's and those promised to users.
 #![tactic(auto)]
 
 #[cfg(test)]

@@ -7,14 +7,14 @@ use std::process::Abort;
 use std::test::Fail;
 use vox_depot::{MemoryDepot, MemorySink};
 
-/// Whether a coordinate of resolution 20 is full in the house: four walls from the floor up, and a roof.
+/// Returns whether a coordinate of resolution 20 is full in the house: four walls from the floor up, and a roof.
 fn is_house(x: usize, y: usize, z: usize) -> bool {
     let inside = (5..15).contains(&x) && (5..15).contains(&z);
     let wall = y < 8 && (x == 5 || x == 14 || z == 5 || z == 14);
     inside && (wall || y == 8)
 }
 
-/// The model of the house.
+/// Returns the model of the house.
 fn house(alloc: Global) -> Result<Vec<u8>, Fail> {
     let mut bytes = vec![in alloc; 0u8; 1_001]?;
     if let Some(first) = bytes.first_mut() {
@@ -30,7 +30,7 @@ fn house(alloc: Global) -> Result<Vec<u8>, Fail> {
     Ok(bytes)
 }
 
-/// What is printed for the words, which answer this status.
+/// Returns the output of a command with this status.
 pub fn printed(
     rt: &impl Abort,
     alloc: Global,
@@ -45,7 +45,7 @@ pub fn printed(
     Ok(out.bytes().to_vec(alloc)?)
 }
 
-/// The line of a run that is accepted with the energy and the steps of a plan's line.
+/// Returns the line of a run that is accepted with the energy and the steps of a plan's line.
 fn accepted(alloc: Global, planned: &[u8]) -> Result<Vec<u8>, Fail> {
     let mut line = b"ok".to_vec(alloc)?;
     for byte in planned.iter().skip(4) {
@@ -59,7 +59,7 @@ fn accepted(alloc: Global, planned: &[u8]) -> Result<Vec<u8>, Fail> {
     Ok(line)
 }
 
-/// What a planner's bound is on.
+/// The quantity that a planner bounds.
 #[derive(Clone, Copy)]
 enum Most {
     /// The bytes of the stored trace.
@@ -67,13 +67,13 @@ enum Most {
     Steps(u32),
 }
 
-/// The number at a word of a plan's line, counted from 0.
+/// Returns the number at a word of a plan's line, counted from 0.
 fn number_at(planned: &[u8], word: usize) -> Option<u32> {
     let line = str::from_utf8(planned).ok()?;
     line.trim_end().split(' ').nth(word)?.parse().ok()
 }
 
-/// Whether a plan, with its line and the trace that was stored, is within the bound; the line tells how many bytes are stored.
+/// Returns whether a plan, with its line and the stored trace, is within the bound; the line has the number of bytes stored.
 fn is_within(planned: &[u8], stored: &[u8], most: Most) -> bool {
     let within = match most {
         Most::Bytes(most) => stored.len() <= most as usize,
@@ -82,7 +82,7 @@ fn is_within(planned: &[u8], stored: &[u8], most: Most) -> bool {
     within && number_at(planned, 8).is_some_and(|bytes| bytes as usize == stored.len())
 }
 
-/// A plan: the planner's word, the two models, the words of the runs that accept it, and its bound.
+/// A plan: the planner's name, the two models, the commands of the runs that accept it, and its bound.
 type Planned = (&'static str, &'static str, &'static [&'static str], Most);
 
 /// The bounds of the plans are those of the planners: the house has 388 full voxels, 90 rows and 154 runs.
@@ -107,7 +107,7 @@ const PLANS: [Planned; 13] = [
     ),
 ];
 
-/// What is planned between two models is accepted by the runs, with the energy and the steps that were printed.
+/// Asserts that the runs accept the plan between two models, with the printed energy and steps.
 fn assert_planned(
     rt: &impl Abort,
     alloc: Global,
@@ -142,7 +142,7 @@ fn a_house_and_a_wide_model(rt: HostRuntime) -> Result<(), Fail> {
     Ok(())
 }
 
-/// Up to twenty bots build a full model, under the light profile alone.
+/// Up to twenty bots build a full model, only under the light profile.
 #[test]
 fn a_full_model_by_a_swarm(rt: HostRuntime) -> Result<(), Fail> {
     let alloc = rt.alloc();
@@ -156,7 +156,7 @@ fn a_full_model_by_a_swarm(rt: HostRuntime) -> Result<(), Fail> {
     )
 }
 
-/// The plans of a forged model are the same at each run, and what is told of them is what is told where each is stored.
+/// Checks that the plans of a forged model are the same at each run, and cost what the lines of both stored plans report.
 #[test]
 fn an_exercise(rt: HostRuntime) -> Result<(), Fail> {
     let alloc = rt.alloc();

@@ -231,7 +231,7 @@ pub const BROKEN: [Row; 21] = [
     ),
 ];
 
-/// Traces and words that are refused. A bad byte wins over a broken step.
+/// Refused traces and arguments. A bad byte takes precedence over a broken step.
 pub const REFUSED: [Row; 14] = [
     ("run E3 E3 B", &[0x04], Status::Trace, "trace bad at 0\n"),
     ("run E3 E3 B", &[0x03], Status::Trace, "trace bad at 0\n"),

@@ -6,7 +6,7 @@ use std::process::Abort;
 use std::test::Fail;
 use vox_depot::MemorySink;
 
-/// The words, the trace, the script, and what is answered and printed.
+/// The command, the trace, the script, and the status and the output.
 type Session = (
     &'static str,
     &'static [u8],
@@ -15,7 +15,7 @@ type Session = (
     &'static str,
 );
 
-/// A fill, and the way back.
+/// A fill, and an undo.
 const FILL: &[u8] = &[0x14, 0x10, 0x73, 0x14, 0x0E, 0xFF];
 
 /// Two bots that part, fill a line together, and fuse.
@@ -151,7 +151,7 @@ const REFUSED: [Session; 14] = [
     ),
 ];
 
-/// Each session answers its status and prints its lines.
+/// Asserts that each session has its status and prints its lines.
 fn assert_sessions(rt: &impl Abort, alloc: Global, sessions: &[Session]) -> Result<(), Fail> {
     for (line, trace, script, status, printed) in sessions {
         let words = words(alloc, line)?;
@@ -176,7 +176,7 @@ fn sessions_that_are_refused(rt: HostRuntime) -> Result<(), Fail> {
     assert_sessions(&rt, rt.alloc(), &REFUSED)
 }
 
-/// A script of so many bytes, all of them `x`, is refused with this line.
+/// Asserts that a script of this many bytes, all of them `x`, is refused with this line.
 fn assert_long_script(rt: &impl Abort, alloc: Global, size: usize, line: &str) -> Result<(), Fail> {
     let words = words(alloc, "debug E3 B X")?;
     let mut depot = depot(alloc, &[])?;
@@ -189,7 +189,7 @@ fn assert_long_script(rt: &impl Abort, alloc: Global, size: usize, line: &str) -
     Ok(())
 }
 
-/// A script of exactly the limit is read, and one of a byte more is not.
+/// A script of exactly the limit is read, and one that is a byte longer is not.
 #[test]
 fn long_scripts(rt: HostRuntime) -> Result<(), Fail> {
     let alloc = rt.alloc();

@@ -1,4 +1,4 @@
-//! Words that store a file.
+//! Commands that store a file.
 use crate::table::{Row, answer, assert_rows, depot, words};
 use nanobot_app::Status;
 use std::alloc::Global;
@@ -6,7 +6,7 @@ use std::process::Abort;
 use std::test::Fail;
 use vox_depot::MemorySink;
 
-/// Words over the file `B`, the line that is printed, and the name and the bytes of the file that is stored.
+/// A command over the file `B`, the printed line, and the name and the bytes of the stored file.
 struct Storing {
     words: &'static str,
     bytes: &'static [u8],
@@ -131,7 +131,7 @@ const STORING: [Storing; 15] = [
     },
 ];
 
-/// Texts, traces and words that are refused.
+/// Texts, traces and arguments that are refused.
 const REFUSED: [Row; 40] = [
     (
         "asm B C",
@@ -280,8 +280,8 @@ const REFUSED: [Row; 40] = [
     ("plan layer X E3 C", &[], Status::Depot, ""),
 ];
 
-/// The words over the file `B`, with these calls of the depot and the sink failing, answer the status, print the line and
-/// leave the file of the name with these bytes.
+/// Asserts that a command over the file `B`, with these calls of the depot and the sink failing, has the status, prints the line
+/// and leaves the file of the name with these bytes.
 fn assert_stored(
     rt: &impl Abort,
     alloc: Global,
@@ -319,7 +319,7 @@ fn what_is_refused_stores_nothing(rt: HostRuntime) -> Result<(), Fail> {
     assert_rows(&rt, rt.alloc(), &REFUSED)
 }
 
-/// A line of which half is written: the file stands.
+/// A line of which half is written: the file is stored.
 const HALF: Storing = Storing {
     words: "asm B C",
     bytes: TEXT,
@@ -337,7 +337,7 @@ const NO_PLAN: Storing = Storing {
     stored: TRACE,
 };
 
-/// A file that could not be stored: there is no line, and the other files stand.
+/// A file that could not be stored: there is no line, and the other files are unchanged.
 const LOST: Storing = Storing {
     words: "dis B C",
     bytes: TRACE,

@@ -98,7 +98,7 @@ fn counted<D: Depot, O: Sink, L: Ledger>(
     drive(alloc, words, depot, out, &mut steps)
 }
 
-/// What `drive` answers to the words.
+/// Returns the answer of `drive` to a command.
 pub fn answer<D: Depot, O: Sink>(
     alloc: Global,
     words: &[String],
@@ -111,7 +111,7 @@ pub fn answer<D: Depot, O: Sink>(
     counted::<D, O, Brand>(alloc, words, depot, out, Blank::new(1))
 }
 
-/// The words of a line, between single spaces.
+/// Returns the words of a line, between single spaces.
 pub fn words(alloc: Global, line: &str) -> Result<Vec<String>, Fail> {
     let mut words = Vec::new(alloc);
     if line.is_empty() {
@@ -123,7 +123,7 @@ pub fn words(alloc: Global, line: &str) -> Result<Vec<String>, Fail> {
     Ok(words)
 }
 
-/// A depot with the files of the table whose calls of these numbers fail.
+/// Returns a depot with the files of the table whose calls of these numbers fail.
 pub fn depot(alloc: Global, fails: &[u64]) -> Result<MemoryDepot, Fail> {
     let mut depot = MemoryDepot::new(alloc, fails.to_vec(alloc)?);
     for (name, bytes) in &FILES {
@@ -132,7 +132,7 @@ pub fn depot(alloc: Global, fails: &[u64]) -> Result<MemoryDepot, Fail> {
     Ok(depot)
 }
 
-/// Each row answers its status, prints its line, and stores no file `C`.
+/// Asserts that each row has its status, prints its line, and stores no file `C`.
 pub fn assert_rows(rt: &impl Abort, alloc: Global, rows: &[Row]) -> Result<(), Fail> {
     for (line, bytes, status, printed) in rows {
         let words = words(alloc, line)?;

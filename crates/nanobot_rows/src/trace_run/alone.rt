@@ -1,4 +1,4 @@
-//! The run of an only bot: what is asked of a run at each command is asked once for many.
+//! Fast loop for a single bot: loop invariants are checked once, not per command.
 ghost use Rattle.std.specs.Prelude.{◌≡◌, ◌+◌, ◌≤◌, ℕ, List, ◌∷◌, length, IfOk};
 ghost use Rattle.nanobot_rows.specs.Alone.{WentOn, IsAtCommand, TakesUpTo};
 ghost use Rattle.nanobot_rows.specs.Taking.{CanFeed};
@@ -9,21 +9,21 @@ use trace_codec::{One, pieces_decode};
 use trace_judge::the_work_pays;
 use vox_geom::{Memory, Steps};
 
-/// How many bytes were taken, and whether the bot is still alone.
+/// The number of bytes consumed, and whether the run still has a single bot.
 #[derive(Clone, Copy)]
 pub(super) struct Went {
     used: u8,
     alone: bool,
 }
 
-/// No byte was taken in this way.
+/// Not applicable: no byte was consumed.
 const DECLINED: Went = Went {
     used: 0,
     alone: false,
 };
 
 impl TraceRun {
-    /// Takes bytes of frequent commands where one bot is alone and a command begins, and none elsewhere. How many were taken.
+    /// Consumes frequent commands if there is a single bot and a command begins; else none. Returns the number of bytes.
     #[inline(always)]
     pub(super) fn run_where_alone<L: Ledger>(
         &mut self,
@@ -42,7 +42,7 @@ impl TraceRun {
         self.run_alone(piece, steps)
     }
 
-    /// Takes bytes of frequent commands while the bot is alone. How many were taken.
+    /// Consumes frequent commands while there is a single bot. Returns the number of bytes.
     #[inline(never)]
     fn run_alone<L: Ledger>(&mut self, piece: &[u8], steps: &mut Steps<L>) -> Result<usize, Memory>
         requires alone { IsAtCommand self.old }
@@ -60,7 +60,7 @@ impl TraceRun {
         Ok(at)
     }
 
-    /// Takes the next command, if it is a frequent one: then the byte that it begins with is a constant.
+    /// Consumes the next command if it is a frequent one, passing on its first byte as a constant.
     #[inline(always)]
     fn next_alone<L: Ledger>(&mut self, piece: &[u8], steps: &mut Steps<L>) -> Result<Went, Memory>
         requires some { 1 ≤ length piece.now }
@@ -81,7 +81,7 @@ impl TraceRun {
         }
     }
 
-    /// Takes the command that begins with this byte, if its whole spelling is there.
+    /// Consumes the command that begins with this byte, if it is complete.
     #[inline(always)]
     fn step_by<L: Ledger>(
         &mut self,

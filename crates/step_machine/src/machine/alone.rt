@@ -1,4 +1,4 @@
-//! The step of the only bot by a command that needs no other, made at once: no turns and no changes are listed.
+//! Fast path: the step of the only bot by a command that needs no other bot, with no list of turns or changes.
 ghost use Rattle.std.specs.Prelude.{◌≡◌, ◌≢◌, ℕ, ◌+◌, ◌<◌, ◌≤◌, [], ◌∷◌, false, true, length, None};
 ghost use Rattle.nano_spec.specs.declared.commands.Command.TheVariants.{SMove};
 ghost use Rattle.nano_spec.specs.declared.system.Harmonics.TheVariants.{Low};
@@ -19,7 +19,7 @@ use std::sync::ledger::Ledger;
 use step_groups::edit;
 use vox_geom::{Long, Near, Steps};
 
-/// What a try to make a step came to: it is made, or refused, or to be made as every other, and then nothing is changed.
+/// The outcome of an attempt at the fast path: made, refused, or not applicable, which changes nothing.
 #[derive(Clone, Copy, PartialEq, Eq)]
 pub enum Tried {
     Made,
@@ -28,7 +28,7 @@ pub enum Tried {
 }
 
 impl Machine {
-    /// Whether each full voxel is held up, where it has to be.
+    /// Returns whether each full voxel is grounded, if the harmonics require it.
     #[inline(always)]
     fn is_held(&self) -> bool
         requires { self.now.spent ≡ false }
@@ -40,7 +40,7 @@ impl Machine {
         }
     }
 
-    /// The step of the only bot by a straight move. Most are by one, or above all full voxels, and are made at once.
+    /// Makes the step of the only bot by `SMove`. Most moves are by one or above all full voxels, and take the fast path.
     #[inline(always)]
     fn move_alone<L: Ledger>(
         &mut self,
@@ -60,7 +60,7 @@ impl Machine {
         self.move_far(d, fault, steps)
     }
 
-    /// The step of the only bot by a straight move whose way is seen to be void at once: whether it was made. Otherwise all stays.
+    /// Makes the step of an `SMove` whose path is void without a search, and returns whether it did. Changes nothing otherwise.
     #[inline(always)]
     fn move_at_once<L: Ledger>(&mut self, d: Long, steps: &mut Steps<L>) -> bool
         requires alone { IsSolo self.old }
@@ -81,7 +81,7 @@ impl Machine {
         true
     }
 
-    /// The step of the only bot by a straight move, after a try at once.
+    /// Makes the step of the only bot by `SMove` after the fast path was not applicable.
     #[inline(never)]
     fn move_far<L: Ledger>(&mut self, d: Long, fault: &mut StepFault, steps: &mut Steps<L>) -> bool
         requires alone { IsSolo self.old }
@@ -102,8 +102,8 @@ impl Machine {
         true
     }
 
-    /// The step of the only bot in which it fills a voxel, or else voids it, where no rule is broken and no other level changes:
-    /// whether it was made. Otherwise all stays.
+    /// Makes the step in which the only bot fills the voxel (or voids it) if that breaks no rule and changes no other level.
+    /// Returns whether it did, and changes nothing otherwise.
     #[inline(always)]
     fn edit_at_once<const FULL: bool, L: Ledger>(&mut self, d: Near, steps: &mut Steps<L>) -> bool
         requires alone { IsSolo self.old }
@@ -141,8 +141,8 @@ impl Machine {
         true
     }
 
-    /// The step of the only bot in which it fills a voxel, or else voids it, after a try at once: a call of its own for each of
-    /// the two, so that the rest is small enough to be written out for its callers, and no register holds which of them it is.
+    /// Makes the step in which the only bot fills a voxel (or voids it), after the fast path was not applicable. Out of line for
+    /// each value of `FULL`: keeps the rest small enough to inline.
     #[inline(never)]
     fn edit_and_settle<const FULL: bool, L: Ledger>(
         &mut self,
@@ -183,9 +183,8 @@ impl Machine {
         true
     }
 
-    /// The step of the only bot in which it fills a voxel, or else voids it. Most such steps change no other level, and are
-    /// made at once. A call of its own, and said so: whether the compiler writes it out for its caller else hangs on its
-    /// size, and where it does, the caller grows too large to be written out in turn.
+    /// Makes the step in which the only bot fills a voxel (or voids it). Most such steps change no other level and take the fast
+    /// path. Kept out of line: inlined, it would make its caller too large to inline.
     #[inline(never)]
     fn edit_alone<const FULL: bool, L: Ledger>(
         &mut self,
@@ -204,7 +203,7 @@ impl Machine {
         self.edit_and_settle::<FULL, L>(d, fault, steps)
     }
 
-    /// Whether one bot is left, the machine is not spent, and each full voxel is held up, where it has to be.
+    /// Returns whether one bot is left, the machine is not poisoned, and each full voxel is grounded if the harmonics require it.
     #[inline(always)]
     pub fn is_alone(&self) -> bool
         ensures { result ≡ true → IsSolo self.now }
@@ -215,7 +214,7 @@ impl Machine {
         self.is_held()
     }
 
-    /// The step of the only bot by a command that is frequent. `fault` is written only where the step is refused.
+    /// Attempts the step of the only bot by a frequent command. Writes `fault` only if the step is refused.
     #[inline(always)]
     pub fn step_alone<L: Ledger>(
         &mut self,
@@ -233,7 +232,7 @@ impl Machine {
         self.step_frequent(command, fault, steps)
     }
 
-    /// [`Machine::step_alone`] where the bot is alone: after a step that is made it still is.
+    /// [`Machine::step_alone`] if the bot is alone, which still holds after an accepted step.
     #[inline(always)]
     pub fn step_frequent<L: Ledger>(
         &mut self,

@@ -1,4 +1,4 @@
-//! Steps that are noted, and that are taken back.
+//! Steps with notes, and their undo.
 ghost use Rattle.std.specs.Prelude.{◌≡◌, ◌<◌, ◌≤◌, false, true, length, IfOk, IfErr, IsPermutation, Some};
 ghost use Rattle.nano_spec.specs.Act.{acts};
 ghost use Rattle.nano_spec.specs.Serial.{leader_bids, serial};
@@ -18,7 +18,7 @@ use support_forest::Forest;
 use system_state::System;
 use vox_geom::{Coord, Memory, Steps};
 
-/// The system is again in the state that the note tells.
+/// Restores the state of the system from the note.
 fn put_back(system: &mut System, undo: &Undo)
     requires { MayUndo system.old undo.now }
     ensures { system.new ≡ state_before system.old undo.now }
@@ -30,7 +30,7 @@ fn put_back(system: &mut System, undo: &Undo)
     system.set_energy(undo.energy);
 }
 
-/// Makes the forest again that stood before the step of a note, unless the machine is spent already.
+/// Restores the forest from before the step of a note, unless the machine is already poisoned.
 fn forest_back<L: Ledger>(
     forest: &mut Forest,
     filled: &[Coord],
@@ -54,7 +54,7 @@ fn forest_back<L: Ledger>(
 }
 
 impl Machine {
-    /// As [`Machine::step_in_order`], with a note by which the step can be taken back. Memory may be refused to every step.
+    /// [`Machine::step_in_order`] with a note that can undo the step. Allocation may fail in every step.
     pub fn step_noted<L: Ledger>(
         &mut self,
         commands: &[Command],
@@ -109,7 +109,7 @@ impl Machine {
         Ok((tell_made(&self.system), undo))
     }
 
-    /// Takes the step of a note back: the machine is in the state that the note tells. Memory spends the machine.
+    /// Undoes the step of a note: the machine returns to the state of the note. A failed allocation poisons the machine.
     pub fn undo<L: Ledger>(&mut self, undo: &Undo, steps: &mut Steps<L>) -> Result<(), Memory>
         requires stands { self.old.spent ≡ false }
         requires may { MayUndo self.old.state undo.now }
@@ -135,8 +135,8 @@ impl Machine {
         Ok(())
     }
 
-    /// Takes the step of a note back, whatever the answer. If allocation fails, the machine is spent. A machine that is
-    /// spent already stays so.
+    /// Undoes the step of a note, whatever the answer. If allocation fails, the machine is poisoned. A poisoned machine stays
+    /// poisoned.
     pub fn restore<L: Ledger>(&mut self, undo: &Undo, steps: &mut Steps<L>) -> Result<(), Memory>
         requires { MayUndo self.old.state undo.now }
         ensures state { self.new.state ≡ state_before self.old.state undo.now }

@@ -1,4 +1,4 @@
-//! The step of the only bot by a command that needs no other, made at once: no turns are listed.
+//! Fast path: the step of the only bot by a command that needs no other bot, without a list of turns.
 ghost use Rattle.std.specs.Prelude.{◌≡◌, ℕ, ◌+◌, ◌*◌, ◌≤◌, pos, ◌+ℤ◌, [], ◌∷◌, length, true, false, None, IfOk, IfSome, IfNone};
 ghost use Rattle.vox_geom.specs.declared.difference.Diff.{Diff as Difference};
 ghost use Rattle.vox_geom.specs.Difference.{mlen};
@@ -23,7 +23,7 @@ use step_groups::{judge_edit, judge_move, moves_at_once};
 use vox_geom::{Coord, Long, Near, Steps};
 
 impl System {
-    /// The only bot.
+    /// Returns the only bot.
     #[inline(always)]
     fn only_bot(&self) -> Bot
         requires { length self.now.bots ≡ 1 }
@@ -34,8 +34,8 @@ impl System {
         self.crew.bots()[0]
     }
 
-    /// The step of the only bot by a straight move whose way is seen to be void at once, with all effects and costs: whether it was
-    /// made. Otherwise all stays. The rule of grounding is not judged.
+    /// Makes the step of an `SMove` whose path is void without a search, with all effects and costs, and returns whether it did.
+    /// Changes nothing otherwise. Does not judge the rule of grounding.
     #[inline(always)]
     pub fn move_at_once<L: Ledger>(&mut self, d: Long, steps: &mut Steps<L>) -> bool
         requires one { length self.old.bots ≡ 1 }
@@ -57,8 +57,8 @@ impl System {
         true
     }
 
-    /// The step of the only bot by a straight move: the rule that it breaks, or `None`, and then all effects and costs. The
-    /// rule of grounding is not judged.
+    /// Makes the step of the only bot by `SMove`: returns the rule that it breaks, or `None` after all effects and costs. Does not
+    /// judge the rule of grounding.
     #[inline(always)]
     pub fn move_alone<L: Ledger>(
         &mut self,
@@ -88,7 +88,7 @@ impl System {
         }
     }
 
-    /// Which voxel the only bot fills, or else voids, or the first rule that the step breaks at its start.
+    /// Returns the voxel that the only bot fills (or voids), or the first rule that the step breaks at its start.
     #[inline(always)]
     pub fn judge_edit(&self, d: Near, full: bool, step: u32) -> Result<Coord, Broken>
         requires one { length self.now.bots ≡ 1 }
@@ -100,8 +100,8 @@ impl System {
         judge_edit(&self.matrix, self.profile, bot, d, full, step)
     }
 
-    /// All effects and costs of a step in which the only bot fills the voxel at the coordinate, or else voids it. `bit` is the index
-    /// of the voxel's bit: a caller that has read it knows it, and asked for again it would be computed anew.
+    /// Applies all effects and costs of a step in which the only bot fills the voxel (or voids it). `bit` is the index of the
+    /// voxel's bit: passing it saves computing it again.
     #[inline(always)]
     pub fn edit_alone(&mut self, at: Coord, bit: usize, full: bool, was_full: bool)
         requires one { length self.old.bots ≡ 1 }
@@ -118,7 +118,7 @@ impl System {
     }
 }
 
-/// What filling a voxel, or else voiding it, costs beside the upkeep.
+/// Returns the cost of filling (or voiding) a voxel, without the upkeep.
 #[inline(always)]
 pub(super) fn cost_of_edit(full: bool, was_full: bool) -> i64
     ensures value { result ≡ edit_cost full was_full }
@@ -133,7 +133,7 @@ pub(super) fn cost_of_edit(full: bool, was_full: bool) -> i64
     }
 }
 
-/// What a straight move costs beside the upkeep.
+/// Returns the cost of an `SMove`, without the upkeep.
 #[inline(always)]
 pub(super) fn cost_of_move(d: Long) -> i64
     ensures value { result ≡ pos (2 * mlen d) }

@@ -1,4 +1,4 @@
-//! Changes of one part of the state, for a caller that knows the rules and the costs itself.
+//! Changes of one part of the state, for a caller that applies the rules and the costs itself.
 ghost use Rattle.std.specs.Prelude.{◌≡◌, [], ◌∷◌, length, All, IfSome};
 ghost use Rattle.vox_geom.specs.Point.{point};
 ghost use Rattle.vox_geom.specs.Space.{IsInSpace};
@@ -17,7 +17,7 @@ use nano_spec::Harmonics;
 use vox_geom::Coord;
 
 impl System {
-    /// Makes the voxel at the coordinate full or void.
+    /// Fills or voids the voxel at the coordinate.
     #[inline(always)]
     pub fn set_voxel(&mut self, c: Coord, full: bool)
         requires { IsInSpace self.old.matrix.resolution c }
@@ -39,7 +39,7 @@ impl System {
         self.matrix.set_at_bit(c, bit, full);
     }
 
-    /// Makes the voxels at the coordinates full or void.
+    /// Fills or voids the voxels at the coordinates.
     pub fn set_voxels(&mut self, cells: &[Coord], full: bool)
         requires { All (λ c. IsInSpace self.old.matrix.resolution c) cells.now }
         ensures { self.new ≡ record self.old { matrix = with_cells self.old.matrix cells.now full } }
@@ -48,7 +48,7 @@ impl System {
         set_cells(&mut self.matrix, cells, full);
     }
 
-    /// Puts other bots in place.
+    /// Replaces the bots.
     pub fn set_crew(&mut self, crew: Crew)
         requires { All (λ b. IsInSpace self.old.matrix.resolution b.pos) crew }
         ensures { self.new ≡ record self.old { bots = crew } }
@@ -56,7 +56,7 @@ impl System {
         self.crew = crew;
     }
 
-    /// Puts other harmonics in place.
+    /// Replaces the harmonics.
     pub fn set_harmonics(&mut self, harmonics: Harmonics)
         ensures { self.new ≡ record self.old { harmonics = harmonics } }
     {
@@ -64,14 +64,14 @@ impl System {
         self.space = space_upkeep(self.matrix.resolution(), harmonics);
     }
 
-    /// Puts another energy in place.
+    /// Replaces the energy.
     pub fn set_energy(&mut self, energy: i64)
         ensures { self.new ≡ record self.old { energy = energy } }
     {
         self.energy = energy;
     }
 
-    /// The bot goes to a coordinate at which no other stands.
+    /// Moves the bot to a coordinate at which no other is.
     #[inline(always)]
     pub fn move_to(&mut self, bid: u8, c: Coord)
         requires active { IsActive self.old.bots bid }
@@ -83,7 +83,7 @@ impl System {
         self.crew.move_to(bid, c);
     }
 
-    /// The only bot goes to a coordinate.
+    /// Moves the only bot to a coordinate.
     #[inline(always)]
     pub(super) fn move_only(&mut self, c: Coord)
         requires one { length self.old.bots ≡ 1 }
@@ -94,7 +94,7 @@ impl System {
         self.crew.move_only(c);
     }
 
-    /// The last bot halts: no bot is left.
+    /// Halts the last bot: no bot is left.
     pub fn halt(&mut self)
         requires { length self.old.bots ≡ 1 }
         ensures { self.new ≡ record self.old { bots = [] } }

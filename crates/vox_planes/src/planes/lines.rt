@@ -1,4 +1,4 @@
-//! Searches along lines: the bits of a line along x or y stand at indices that lie equally far apart.
+//! Searches along lines: the bits of a line along x or y are equally spaced.
 ghost use Rattle.std.specs.Prelude.{◌≡◌, ℕ, ◌+◌, ◌*◌, ◌/◌, ◌^◌, ◌≤◌, ◌<◌, IfSome, IfNone, find, length};
 ghost use Rattle.vox_geom.specs.Region.{size, span};
 ghost use Rattle.vox_geom.specs.Space.{IsInSpace};
@@ -12,7 +12,7 @@ use std::sync::ledger::Ledger;
 use vox_geom::{Coord, Region, Steps};
 
 impl Planes {
-    /// The least full coordinate of a region that is a line along x.
+    /// Returns the least full coordinate of a region that is a line along x.
     pub(super) fn line_along_x<L: Ledger>(&self, b: &Region, steps: &mut Steps<L>) -> Option<Coord>
         requires within { IsInSpace self.now.resolution b.now.high }
         requires y { b.now.low.y ≡ b.now.high.y }
@@ -34,7 +34,7 @@ impl Planes {
         })
     }
 
-    /// The least full coordinate of a region that is a line along y.
+    /// Returns the least full coordinate of a region that is a line along y.
     pub(super) fn line_along_y<L: Ledger>(&self, b: &Region, steps: &mut Steps<L>) -> Option<Coord>
         requires within { IsInSpace self.now.resolution b.now.high }
         requires x { b.now.low.x ≡ b.now.high.x }
@@ -57,7 +57,8 @@ impl Planes {
     }
 }
 
-/// The number of the first bit that is 1, of so many, the first at an index and each so far behind the one before.
+/// Returns the number of the first of `count` bits that is 1. The first is at the index `from`, and each `apart` after the one
+/// before.
 #[inline(always)]
 fn next_apart<L: Ledger>(
     words: &[u64],
@@ -84,7 +85,7 @@ fn next_apart<L: Ledger>(
     None
 }
 
-/// Whether the bit at a place of a word is 1.
+/// Returns whether the bit at an offset of a word is 1.
 #[tactic(auto, unfolding(crate::specs::Layers::is_set))]
 #[inline(always)]
 fn is_set_in(words: &[u64], at: usize, place: usize) -> bool
@@ -95,7 +96,7 @@ fn is_set_in(words: &[u64], at: usize, place: usize) -> bool
     (words[at] >> place) % 2 == 1
 }
 
-/// [`next_apart`] of bits that lie so many whole words apart, all at one place of their words.
+/// Like [`next_apart`], for bits that are `apart` whole words apart, all at one offset of their words.
 #[inline(always)]
 fn next_above<L: Ledger>(
     words: &[u64],

@@ -1,4 +1,4 @@
-//! Regions made full or void, row by row, by whole words.
+//! Regions filled or voided, row by row, by whole words.
 ghost use Rattle.std.specs.Prelude.{◌≡◌, ℕ, ◌+◌, ◌-◌, ◌*◌, ◌%◌, ◌^◌, ◌<◌, ◌≤◌, IsFalse, length};
 ghost use Rattle.vox_geom.specs.declared.TheConstants.{MOST_R};
 ghost use Rattle.vox_geom.specs.Region.{size, span};
@@ -16,7 +16,7 @@ use std::sync::ledger::Ledger;
 use vox_geom::{Coord, Region, Steps};
 
 impl Planes {
-    /// Makes a row full or void, from a coordinate on to the last component z. How many voxels changed.
+    /// Fills or voids a row, from a coordinate on to the last component z. Returns how many voxels changed.
     fn set_row<L: Ledger>(
         &mut self,
         first: Coord,
@@ -41,7 +41,7 @@ impl Planes {
         changed
     }
 
-    /// Makes the coordinates of the region with this y full or void. How many voxels changed.
+    /// Fills or voids the coordinates of the region with this y. Returns how many voxels changed.
     fn set_layer<L: Ledger>(&mut self, b: &Region, y: u16, full: bool, steps: &mut Steps<L>) -> u32
         requires within { IsInSpace self.old.resolution b.now.high }
         requires low { b.now.low.y ≤ y }
@@ -62,7 +62,9 @@ impl Planes {
         changed
     }
 
-    /// Makes the region full or void. How many voxels changed. At most as many touches as the region has coordinates.
+    /// Fills or voids the region, and returns how many voxels changed.
+    ///
+    /// Makes at most as many touches as the region has coordinates.
     pub fn set_region<L: Ledger>(&mut self, b: &Region, full: bool, steps: &mut Steps<L>) -> u32
         requires { IsInSpace self.old.resolution b.now.high }
         ensures value { self.new ≡ with_box self.old b.now full }
@@ -84,7 +86,7 @@ impl Planes {
     }
 }
 
-/// Does nothing: it recalls that a region has few coordinates.
+/// Proof aid: shows that a region has few coordinates. No effect.
 #[inline(always)]
 fn recall_size(b: &Region)
     requires { IsInSpace MOST_R b.now.high }
@@ -93,7 +95,7 @@ fn recall_size(b: &Region)
     let _ = b.size();
 }
 
-/// Makes so many bits from an index on, which stand in one word, 1 or 0. How many changed.
+/// Sets or clears `count` bits from an index on, all in one word. Returns how many changed.
 #[inline(always)]
 fn set_some(words: &mut [u64], index: usize, count: u32, full: bool) -> u32
     requires within { index < 64 * length words.old }
@@ -114,7 +116,7 @@ fn set_some(words: &mut [u64], index: usize, count: u32, full: bool) -> u32
     }
 }
 
-/// Makes so many bits from an index on 1 or 0. How many changed.
+/// Sets or clears `count` bits from an index on. Returns how many changed.
 fn set_bits<L: Ledger>(
     words: &mut [u64],
     index: usize,

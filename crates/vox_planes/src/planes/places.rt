@@ -14,8 +14,8 @@ use std::sync::ledger::Ledger;
 use vox_geom::{Coord, Steps};
 
 impl Planes {
-    /// Makes the first of up to `most` voxels, at consecutive places from a coordinate on, full or void by the bits of a
-    /// word: those whose bits are in one word of a row. Returns their number.
+    /// Fills or voids the first of up to `most` voxels, at consecutive places from a coordinate on, by the bits of a word.
+    /// Returns their number: those whose bits are in one word of a row.
     fn set_part(&mut self, first: Coord, most: u32, bits: u64) -> u32
         requires some { 1 ≤ most }
         requires few { most ≤ 64 }
@@ -36,7 +36,7 @@ impl Planes {
         count
     }
 
-    /// Makes up to 64 voxels of a row, from a coordinate on, full or void by the bits of a word. All other voxels stay.
+    /// Fills or voids up to 64 voxels of a row, from a coordinate on, by the bits of a word. All other voxels stay.
     pub fn set_row_bits(&mut self, first: Coord, count: u32, bits: u64)
         requires few { count ≤ 64 }
         requires within { IsInSpace self.old.resolution first }
@@ -58,7 +58,7 @@ impl Planes {
         }
     }
 
-    /// Makes the voxels at consecutive places full. All other voxels stay.
+    /// Fills the voxels at consecutive places. All other voxels stay.
     pub fn fill_places(&mut self, from: u32, end: u32)
         requires order { from ≤ end }
         requires within { end ≤ volume self.old.resolution }
@@ -74,7 +74,7 @@ impl Planes {
         }
     }
 
-    /// Up to 64 voxels at consecutive places, as the bits of a word. At most as many touches as voxels.
+    /// Returns up to 64 voxels at consecutive places, as the bits of a word. Makes at most as many touches as voxels.
     pub fn places<L: Ledger>(&self, from: u32, count: u32, steps: &mut Steps<L>) -> u64
         requires few { count ≤ 64 }
         requires within { from + count ≤ volume self.now.resolution }
@@ -95,8 +95,10 @@ impl Planes {
         bits
     }
 
-    /// Makes voxels of a row void: those of so many from a coordinate on for which a word has the bit 1. Which of them
-    /// were full, as the bits of a word. All other voxels stay. At most as many touches as voxels.
+    /// Voids voxels of a row: those of `count` from a coordinate on whose bit in `bits` is 1. Returns which of them were full, as
+    /// the bits of a word.
+    ///
+    /// All other voxels stay. Makes at most as many touches as voxels.
     pub fn take_row<L: Ledger>(
         &mut self,
         first: Coord,
@@ -120,8 +122,10 @@ impl Planes {
         take_bits(&mut self.words, index, count, bits, steps)
     }
 
-    /// Which voxels of a row are full, as the bits of a word: those of so many from a coordinate on for which a word has the bit 1.
-    /// At most as many touches as voxels.
+    /// Returns which voxels of a row are full, as the bits of a word: among `count` from a coordinate on, those whose bit in
+    /// `bits` is 1.
+    ///
+    /// Makes at most as many touches as voxels.
     pub fn peek_row<L: Ledger>(
         &self,
         first: Coord,
@@ -142,7 +146,7 @@ impl Planes {
     }
 }
 
-/// How many of so many bits from an index on lie in a row that has only some left, and in one word.
+/// Returns how many of `most` bits from an index on are in one word and in a row, which has `row` bits left.
 #[inline(always)]
 pub(super) fn part(row: u32, index: usize, most: u32) -> u32
     requires row { 1 ≤ row }
@@ -156,7 +160,7 @@ pub(super) fn part(row: u32, index: usize, most: u32) -> u32
     most.min(row).min(word)
 }
 
-/// The mask of so many bits from one on.
+/// Returns the mask of `count` bits from `first` on.
 fn mask(first: u32, count: u32) -> u64
     requires some { 1 ≤ count }
     requires within { first + count ≤ 64 }
@@ -165,7 +169,7 @@ fn mask(first: u32, count: u32) -> u64
     (u64::MAX >> (64 - count)) << first
 }
 
-/// So many bits from an index on, which stand in one word.
+/// Returns `count` bits from an index on, all in one word.
 #[inline(always)]
 pub(super) fn bits_at(words: &[u64], index: usize, count: u32) -> u64
     requires within { index < 64 * length words.now }
@@ -177,7 +181,7 @@ pub(super) fn bits_at(words: &[u64], index: usize, count: u32) -> u64
     (words[index / WORD_BITS] >> (index % WORD_BITS)) & mask(0, count)
 }
 
-/// Makes so many bits from an index on, which stand in one word, the lowest bits of another.
+/// Writes the lowest bits of another word to `count` bits from an index on, all in one word.
 #[inline(always)]
 pub(super) fn put_bits(words: &mut [u64], index: usize, count: u32, bits: u64)
     requires within { index < 64 * length words.old }
@@ -191,8 +195,7 @@ pub(super) fn put_bits(words: &mut [u64], index: usize, count: u32, bits: u64)
     *word = (*word & !mask) | ((bits << (index % WORD_BITS)) & mask);
 }
 
-/// Makes bits 0 that stand in one word: those of so many from an index on for which another word has the bit 1. Which
-/// of them were 1.
+/// Clears the bits, all in one word, of `count` from an index on whose bit in `bits` is 1. Returns which of them were 1.
 fn take_part(words: &mut [u64], index: usize, count: u32, bits: u64) -> u64
     requires within { index < 64 * length words.old }
     requires some { 1 ≤ count }
@@ -207,7 +210,7 @@ fn take_part(words: &mut [u64], index: usize, count: u32, bits: u64) -> u64
     present & bits
 }
 
-/// Makes bits 0: those of so many from an index on for which another word has the bit 1. Which of them were 1.
+/// Clears the bits, of `count` from an index on, whose bit in `bits` is 1. Returns which of them were 1.
 fn take_bits<L: Ledger>(
     words: &mut [u64],
     index: usize,
@@ -236,7 +239,7 @@ fn take_bits<L: Ledger>(
     taken
 }
 
-/// Which bits are 1 that stand in one word: those of so many from an index on for which another word has the bit 1.
+/// Returns which bits are 1, all in one word: among `count` from an index on, those whose bit in `bits` is 1.
 #[inline(always)]
 fn peek_part(words: &[u64], index: usize, count: u32, bits: u64) -> u64
     requires within { index < 64 * length words.now }
@@ -248,7 +251,7 @@ fn peek_part(words: &[u64], index: usize, count: u32, bits: u64) -> u64
     bits_at(words, index, count) & bits
 }
 
-/// Which bits are 1: those of so many from an index on for which another word has the bit 1.
+/// Returns which bits are 1: among `count` from an index on, those whose bit in `bits` is 1.
 fn peek_bits<L: Ledger>(
     words: &[u64],
     index: usize,

@@ -15,7 +15,7 @@ use std::sync::ledger::Ledger;
 use vox_geom::{Coord, Region, Steps};
 
 impl Planes {
-    /// The first coordinate of a row that is full, or else void, from one on to the last component z.
+    /// Returns the first coordinate of a row that is full, or void if `full` is false, from one on to the last component z.
     pub fn row_next<L: Ledger>(
         &self,
         first: Coord,
@@ -39,7 +39,7 @@ impl Planes {
         Some(Coord { z, ..first })
     }
 
-    /// The first full coordinate of the region among those with this x.
+    /// Returns the first full coordinate of the region among those with this x.
     fn wall_full<L: Ledger>(&self, b: &Region, x: u16, steps: &mut Steps<L>) -> Option<Coord>
         requires within { IsInSpace self.now.resolution b.now.high }
         requires low { b.now.low.x ≤ x }
@@ -63,7 +63,7 @@ impl Planes {
         None
     }
 
-    /// The least full coordinate of the region, wall by wall.
+    /// Returns the least full coordinate of the region, wall by wall.
     fn walls_full<L: Ledger>(&self, b: &Region, steps: &mut Steps<L>) -> Option<Coord>
         requires { IsInSpace self.now.resolution b.now.high }
         ensures value { result ≡ find (λ c. is_full self.now c && is_within (span b.now) (point c)) (all_of self.now) }
@@ -80,8 +80,9 @@ impl Planes {
         None
     }
 
-    /// The least full coordinate of the region: `None` exactly where the region is void. At most as many touches as the
-    /// region has coordinates.
+    /// Returns the least full coordinate of the region, or `None` if it is void.
+    ///
+    /// Makes at most as many touches as the region has coordinates.
     #[inline(always)]
     pub fn region_full<L: Ledger>(&self, b: &Region, steps: &mut Steps<L>) -> Option<Coord>
         requires { IsInSpace self.now.resolution b.now.high }
@@ -108,7 +109,7 @@ impl Planes {
         self.walls_full(b, steps)
     }
 
-    /// Appends the coordinates of a row that are full, or else those that are void.
+    /// Appends the coordinates of a row that are full, or those that are void if `full` is false.
     fn list_row<L: Ledger>(
         &self,
         first: Coord,
@@ -138,7 +139,7 @@ impl Planes {
         }
     }
 
-    /// Appends the full, or else the void, coordinates of the region among those with this x.
+    /// Appends the full, or the void, coordinates of the region among those with this x.
     fn list_wall<L: Ledger>(
         &self,
         b: &Region,
@@ -169,7 +170,7 @@ impl Planes {
         }
     }
 
-    /// Appends the full, or else the void, coordinates of the region.
+    /// Appends the full, or the void, coordinates of the region.
     fn list_region<L: Ledger>(
         &self,
         b: &Region,
@@ -191,7 +192,7 @@ impl Planes {
         }
     }
 
-    /// Appends the void coordinates of the region, in rising order. At most as many touches as the region has coordinates.
+    /// Appends the void coordinates of the region, in rising order. Makes at most as many touches as the region has coordinates.
     pub fn list_void<L: Ledger>(&self, b: &Region, list: &mut ChangeList, steps: &mut Steps<L>)
         requires within { IsInSpace self.now.resolution b.now.high }
         requires room { size (span b.now) ≤ list.old.spare }
@@ -204,7 +205,7 @@ impl Planes {
         self.list_region(b, false, list, steps);
     }
 
-    /// Appends the full coordinates of the region, in rising order. At most as many touches as the region has coordinates.
+    /// Appends the full coordinates of the region, in rising order. Makes at most as many touches as the region has coordinates.
     pub fn list_full<L: Ledger>(&self, b: &Region, list: &mut ChangeList, steps: &mut Steps<L>)
         requires within { IsInSpace self.now.resolution b.now.high }
         requires room { size (span b.now) ≤ list.old.spare }
@@ -217,7 +218,7 @@ impl Planes {
     }
 }
 
-/// Appends the coordinates of a row whose bit is 1, the lowest bit being that of the first.
+/// Appends the coordinates of a row whose bit is 1. The lowest bit is that of the first coordinate.
 #[inline(always)]
 fn list_bits(bits: u64, first: Coord, last: u16, list: &mut ChangeList)
     requires order { first.z ≤ last }
@@ -242,14 +243,14 @@ fn list_bits(bits: u64, first: Coord, last: u16, list: &mut ChangeList)
     }
 }
 
-/// A word whose bits are 1 where those of the given one have the value.
+/// Returns a word whose bits are 1 if those of the given one have the value.
 fn mark(word: u64, value: bool) -> u64
     ensures { IsMarked word result value }
 {
     if value { word } else { !word }
 }
 
-/// The bits of a word from an index on, 1 where they have the value. The lowest is that of the index.
+/// Returns the bits of a word from an index on, 1 if they have the value. The lowest is that of the index.
 #[inline(always)]
 fn bits_from(words: &[u64], at: usize, value: bool) -> u64
     requires { at / 64 < length words.now }
@@ -258,7 +259,7 @@ fn bits_from(words: &[u64], at: usize, value: bool) -> u64
     mark(words[at / WORD_BITS], value) >> (at % WORD_BITS)
 }
 
-/// The first bit of a value from one index on and before an end.
+/// Returns the index of the first bit of a value, from one index on and before an end.
 fn next_bit<L: Ledger>(
     words: &[u64],
     from: usize,

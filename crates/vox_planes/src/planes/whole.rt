@@ -16,7 +16,7 @@ use std::sync::ledger::Ledger;
 use vox_geom::{Coord, Steps};
 
 impl Planes {
-    /// The number of full voxels. At most as many touches as there are voxels.
+    /// Returns the number of full voxels. Makes at most as many touches as there are voxels.
     pub fn count<L: Ledger>(&self, steps: &mut Steps<L>) -> u32
         ensures value { result ≡ count_by (is_full self.now) (all_of self.now) }
         ensures touches { steps.new ≤ steps.old + volume self.now.resolution }
@@ -29,7 +29,7 @@ impl Planes {
         full
     }
 
-    /// The least coordinate of a layer at which the two differ: its least x, and there the least z.
+    /// Returns the least coordinate of a layer at which the two differ: the least x, and the least z for it.
     pub fn layer_difference<L: Ledger>(
         &self,
         other: &Planes,
@@ -60,7 +60,8 @@ impl Planes {
         None
     }
 
-    /// The least coordinate at which the two differ: `None` exactly where they are equal. At most two touches for each voxel.
+    /// Returns the least coordinate at which the two differ, or `None` if they are equal. Makes at most two touches for each
+    /// voxel.
     pub fn equal<L: Ledger>(&self, other: &Planes, steps: &mut Steps<L>) -> Option<Coord>
         requires { self.now.resolution ≡ other.now.resolution }
         ensures value { result ≡ first_difference self.now other.now }
@@ -73,7 +74,9 @@ impl Planes {
         least
     }
 
-    /// Whether each full voxel is on the floor or stands on a full one. At most two touches for each voxel.
+    /// Returns whether there are no overhangs: each full voxel is on the floor or above a full one.
+    ///
+    /// Makes at most two touches for each voxel.
     pub fn is_heap<L: Ledger>(&self, steps: &mut Steps<L>) -> bool
         ensures heap { result ≡ true → IsHeap self.now }
         ensures other { result ≡ false → IsHeap self.now → ⊥ }
@@ -90,8 +93,9 @@ impl Planes {
         true
     }
 
-    /// Makes those voxels void that stand on the floor, or on one another from the floor up, in the matrix that is given: this one is
-    /// a copy of it. At most four touches for each voxel.
+    /// Voids the supported columns of `full`, which rise from the floor without a gap. This matrix is a copy of `full`.
+    ///
+    /// Makes at most four touches for each voxel.
     pub fn drop_heap<L: Ledger>(&mut self, full: &Planes, steps: &mut Steps<L>)
         requires { self.old ≡ full.now }
         ensures left { (c : Coordinate) → is_full self.new c ≡ (is_full full.now c && not (is_stacked full.now c)) }
@@ -103,7 +107,7 @@ impl Planes {
     }
 }
 
-/// The bits of the word at an index that are of the lowest layer, or over a bit that was 1 and has gone.
+/// Returns the bits of the word at an index that are in the lowest layer, or above a bit that was 1 and has been cleared.
 #[inline(always)]
 fn going<L: Ledger>(full: &[u64], left: &[u64], layer: usize, i: usize, steps: &mut Steps<L>) -> u64
     requires full { i < length full.now }
@@ -119,7 +123,7 @@ fn going<L: Ledger>(full: &[u64], left: &[u64], layer: usize, i: usize, steps: &
     full[i - layer] & !left[i - layer]
 }
 
-/// Makes the bits 0 that stand on the lowest layer, or on one another from there up, in the full words.
+/// Clears the bits of the supported columns of the full words, which rise from the lowest layer without a gap.
 fn drop_stacked<L: Ledger>(left: &mut [u64], full: &[u64], layer: usize, steps: &mut Steps<L>)
     requires some { 1 ≤ layer }
     requires same { length left.old ≡ length full.now }
@@ -136,14 +140,14 @@ fn drop_stacked<L: Ledger>(left: &mut [u64], full: &[u64], layer: usize, steps: 
     }
 }
 
-/// Whether the one coordinate is before the other.
+/// Returns whether one coordinate is before the other.
 fn is_before(a: Coord, b: Coord) -> bool
     ensures { result ≡ is_before_of a b }
 {
     a < b
 }
 
-/// The earlier of two coordinates, where they are there.
+/// Returns the earlier of two coordinates, or the only one.
 pub fn earlier(a: Option<Coord>, b: Option<Coord>) -> Option<Coord>
     ensures value { result ≡ earlier_of a b }
     // The least coordinates that pass two tests give the least that passes either.

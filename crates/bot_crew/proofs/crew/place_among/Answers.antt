@@ -3,7 +3,7 @@ use Rattle.std.proofs.lemmas.List.{get_or_default}
 use Rattle.nano_spec.specs.declared.system.Bot.{Bot}
 use Rattle.bot_crew.proofs.crew.place_among.Goals as goal
 
--- what reading gives past the end
+-- the result of a read past the end
 abbrev blank : Bot
 blank = record { bid = 0; pos = record { x = 0; y = 0; z = 0 }; seeds = 0 }
 

@@ -7,7 +7,7 @@ use Rattle.layer_planner.proofs.Paints.{paints_more, paints_to, paints_yet, same
 use Rattle.layer_planner.proofs.paint.build.Goals as goal
 use Rattle.vox_geom.specs.Point.{coord}
 
--- a layer more costs its rows, and the way to the next one
+-- a layer more costs its rows, and the path to the next one
 layer_more : (y r : ℕ) → y * layer_bytes r + r * row_bytes r + (r + 2) ≤ (y + 1) * layer_bytes r
 layer_more y r = omega arith
 

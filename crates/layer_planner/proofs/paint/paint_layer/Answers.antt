@@ -7,7 +7,7 @@ use Rattle.layer_planner.proofs.Gaps.{next_row}
 use Rattle.layer_planner.proofs.Paints.{paints_as, paints_few, paints_more, paints_none, paints_on, paints_to, whole_layer}
 use Rattle.layer_planner.proofs.paint.paint_layer.Goals as goal
 
--- a row more costs its voxels, and the way to the next one
+-- a row more costs its voxels, and the path to the next one
 row_more : (x r : ℕ) → x * row_bytes r + 3 * r + (r + 2) ≤ (x + 1) * row_bytes r
 row_more x r = omega arith
 

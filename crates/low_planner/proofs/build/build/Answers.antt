@@ -9,7 +9,7 @@ use Rattle.low_planner.proofs.Builds.{built_back, built_first, built_onward, can
 use Rattle.low_planner.proofs.Counts.{visit_lessens}
 use Rattle.low_planner.proofs.build.build.Goals as goal
 
--- what the sweep did, by the visit that it answered
+-- the action of the sweep, by its visit
 did : (m : Matrix) (s t : Sweep) (o : Option Visit) (visit v : Visit) → o ≡ Some visit → visit ≡ v → Visits m s t o
     → Visits m s t (Some v)
 did m s t o visit v e f h = subst (λ (k : Visit). Visits m s t (Some k)) f (subst (Visits m s t) e h)

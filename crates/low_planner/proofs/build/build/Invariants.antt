@@ -3,7 +3,7 @@ use Rattle.low_planner.specs.Build.{IsBuilt}
 use Rattle.low_planner.specs.Sweep.{IsSweep, sweep_weight}
 use Rattle.low_planner.proofs.build.build.Given as goal
 
--- what the sweep has visited is built
+-- the visited voxels are built
 abbrev pub invariant-loop-visit : goal.invariant-loop-visit
 invariant-loop-visit l = record {
   sweep : IsSweep l.target l.sweep;

@@ -4,7 +4,7 @@ use Rattle.nano_spec.specs.Model.{volume}
 use Rattle.model_file.proofs.FirstForms.{byte_of, byte_pushed}
 use Rattle.model_file.proofs.first_form.write_first.Goals as goal
 
--- no voxel stands behind those that are left
+-- no voxel is behind those that are left
 past : (voxels : List Bool) (places k i count : ℕ) → length voxels ≡ places → count ≡ min (places - 8 * k) 8 → count ≤ i
     → i < 8 → get_or voxels (8 * k + i) false ≡ false
 past voxels places k i count e ec l u = get_or_past voxels (8 * k + i) false (omega arith)

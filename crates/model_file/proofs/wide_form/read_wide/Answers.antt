@@ -9,7 +9,7 @@ use Rattle.model_file.specs.Fault.{ReadsModel}
 use Rattle.model_file.proofs.WideForms.{wide_is}
 use Rattle.model_file.proofs.wide_form.read_wide.Goals as goal
 
--- what was found of the runs is said of the whole
+-- the result for the runs is that for the whole
 said : (bytes : List ℕ) (n r : ℕ) (answer : Result Matrix ModelFault) → n ≡ r → 2 ≤ length bytes
     → r ≡ slice_index bytes 0 * 256 + slice_index bytes 1 → 251 ≤ r → r ≤ 400
     → ReadsModel (of_runs n (runs_in (volume n) 0 0 (take (length bytes - 2) (drop 2 bytes)))) answer

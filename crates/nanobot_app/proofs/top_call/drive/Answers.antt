@@ -23,7 +23,7 @@ returns-clause-refusal g c = λ source target trace is answered.
 pub returns-clause-complete : goal.returns-clause-complete
 returns-clause-complete g c = complete c.one_answer.ensures.status _ _ _ _ c.run.ensures.outcome
 
--- the search would find these too, but takes long to give up where a wrong body breaks them
+-- the search would find these too, but takes long to give up if a mutant breaks them
 pub returns-clause-answer : goal.returns-clause-answer
 returns-clause-answer g c = c.run.ensures.outcome.answer
 

@@ -9,7 +9,7 @@ use Rattle.step_groups.specs.Steps.{acts_of_step, start_of_step}
 use Rattle.step_groups.proofs.BlockedWays.{skip}
 use Rattle.step_groups.proofs.one_pass.judge_next.Goals as goal
 
--- where the command is allowed, the first rule that it breaks is the first of the others
+-- if the command is allowed, the first rule that it breaks is the first of the others
 allowed : (s : State) (all : List Act) (a : Act) (step bid : ℕ) (t : Bool) → t ≡ true
     → first_value (map (λ rule. broken_by step rule bid (fault s all a rule)) later_rules) ≡ first_value
     (broken_by step Forbidden bid (here a (not t))

@@ -11,7 +11,7 @@ use Rattle.support_forest.proofs.Stretches.{row_slot, row_space}
 use Rattle.support_forest.proofs.Voxels.{part_there, spot_small, voxel_further}
 use Rattle.support_forest.proofs.stretch.clear_voxels.Goals as goal
 
--- the voxel at a later spot of the row, in a store of the same resolution
+-- the voxel at a later index of the row, in a store of the same resolution
 later : (old now : Grid) (spot n k behind : ℕ) → now.resolution ≡ old.resolution → LieInRow old (voxel_in old spot) n
     → k < n → behind ≡ k → voxel_in now (spot + behind) ≡ further (voxel_in old spot) k
 later old now spot n k behind same row l e =

@@ -10,7 +10,7 @@ use Rattle.swarm_planner.proofs.Rows.{few, narrow}
 use Rattle.swarm_planner.proofs.crew.gather.Goals as goal
 use Rattle.vox_geom.specs.Point.{coord}
 
--- the end of the range of strips, by what is read of the tape
+-- the end of the range of strips, in terms of the tape's fields
 end_is : (n r : ℕ) (m : Matrix) (a b : TapeState) → n ≡ count r → r ≡ m.resolution → m ≡ b.matrix → b.matrix ≡ a.matrix
     → n ≡ count a.matrix.resolution
 end_is n r m a b e f g h = e ∙ ap count (f ∙ (ap (λ (k : Matrix). k.resolution) g ∙ ap (λ (k : Matrix). k.resolution) h))

@@ -4,7 +4,7 @@ use Rattle.swarm_planner.specs.Crew.{CrewGoes, places}
 use Rattle.swarm_planner.specs.Lineup.{InLine, free_column, last_column, sent}
 use Rattle.swarm_planner.proofs.crew.send_last.Given as goal
 
--- the last bot has gone so far, and the rest of the way is shorter by that
+-- the last bot has made part of the path, and the rest is shorter by that
 abbrev pub invariant-loop-at : goal.invariant-loop-at
 invariant-loop-at l = record {
   goes : CrewGoes l.initial.tape l.tape (sent (places l.initial.tape.bots) l.at) (gap (last_column (places l.initial.tape.bots)) l.at);

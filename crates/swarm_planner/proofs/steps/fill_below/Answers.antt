@@ -12,7 +12,7 @@ use Rattle.swarm_planner.specs.Building.{fills}
 use Rattle.swarm_planner.proofs.Filling.{bots_within, fills_are_free, fills_length, has_filled, only_fills}
 use Rattle.swarm_planner.proofs.steps.fill_below.Goals as goal
 
--- the commands by what is read of the tape
+-- the commands in terms of the tape's fields
 are : (p : TapeState) (m goal : Matrix) (bots : List Bot) → m ≡ p.matrix → bots ≡ p.bots
     → fills m goal bots ≡ fills p.matrix goal p.bots
 are p m goal bots em eb = λ i. fills (em i) goal (eb i)

@@ -6,7 +6,7 @@ use Rattle.void_planner.specs.Square.{IsRectangle}
 use Rattle.void_planner.specs.Tiles.{far_of}
 use Rattle.void_planner.proofs.four.go_along.Given as goal
 
--- the first bot has come to a part of the way, and the moves that are left make up for those that were made
+-- the first bot has made part of the path, and the remaining moves and the made ones sum up to it
 abbrev pub invariant-loop-at : goal.invariant-loop-at
 invariant-loop-at l = record {
   source : l.tape.source ≡ l.initial.tape.source;

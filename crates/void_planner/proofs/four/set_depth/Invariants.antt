@@ -6,7 +6,7 @@ use Rattle.void_planner.specs.Square.{IsRectangle}
 use Rattle.void_planner.specs.Tiles.{far_of}
 use Rattle.void_planner.proofs.four.set_depth.Given as goal
 
--- the rectangle has a depth on the way to the one that is wanted
+-- the rectangle has a depth on the way to the required one
 abbrev pub invariant-loop-at : goal.invariant-loop-at
 invariant-loop-at l = record {
   source : l.tape.source ≡ l.initial.tape.source;

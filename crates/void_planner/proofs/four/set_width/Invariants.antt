@@ -5,7 +5,7 @@ use Rattle.plan_tape.specs.Fissions.{fissions}
 use Rattle.void_planner.specs.Square.{IsRectangle}
 use Rattle.void_planner.proofs.four.set_width.Given as goal
 
--- the rectangle has a width on the way to the one that is wanted
+-- the rectangle has a width on the way to the required one
 abbrev pub invariant-loop-at : goal.invariant-loop-at
 invariant-loop-at l = record {
   source : l.tape.source ≡ l.initial.tape.source;

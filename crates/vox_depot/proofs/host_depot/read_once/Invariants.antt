@@ -1,4 +1,4 @@
--- A read that was interrupted took nothing.
+-- An interrupted read took nothing.
 use Rattle.std.specs.Io.KnownBytes.{Keeps}
 use Rattle.vox_depot.proofs.host_depot.read_once.Given as goal
 

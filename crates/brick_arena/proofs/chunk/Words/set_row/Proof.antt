@@ -1,4 +1,4 @@
--- `set_row` writes a word over whatever eight places held. Assumes `Logic`.
+-- `set_row` writes a word over the content of eight offsets. Assumes `Logic`.
 use Rattle.std.proofs.Common.{ℕ, ◌+◌, ◌*◌, ◌^◌, ◌<◌, ◌≤◌, List, [], ◌∷◌, refl, sym, ap, ◌∙◌, arith, w32, w64, length}
 use Rattle.std.proofs.raw_atomic.Walks.{proved}
 use Rattle.std.proofs.VecSteps.Shapes.{after}
@@ -57,7 +57,7 @@ set_row_spec 𝓤 𝓛 𝓜 𝓡 wired =
     let Cell = λ (ws : List Val). ‵ (cell_at full_share R.mir ws block offset) in
     rewrite ! 2 Cell word refl $
     use1 𝓛 (‵ (froom (ty_array (ty_int w32) 8) b' (i * 4 + o')) ⊛ ‵ (Around 𝓛 b' 8 o' held.words i)) (line_out 𝓛 b' 8 o' held.words i lt) $ split ! $
-    -- [the room; the other places; what the fields own; the struct's cell; the open borrow, in three entries]
+    -- [the room; the other offsets; what the fields own; the struct's cell; the open borrow, in three entries]
     first ! $ blocks ! $
     sets ! (of_opd ! (load ! (through ! refl (fld ! refl (stop !))) (look_in ! 3 (sub ! 0 refl (whole !))))) refl (tt, tt) $
     sets ! (bin ! (get ! refl) (lit ! tt) (record { fits = far })) refl (tt, record { fits = far }) $

@@ -2,7 +2,7 @@ use Rattle.std.proofs.Common.{◌≡◌, ◌+◌, ◌-◌, ◌*◌, ◌<◌, ◌
 use Rattle.low_planner.specs.Sweep.{AreSwept, IsWithinReach}
 use Rattle.low_planner.proofs.sweep.Sweep.start.Given as goal
 
--- before where the search stands all that rests was visited
+-- all resting voxels before the search's position were visited
 abbrev pub invariant-loop-from : goal.invariant-loop-from
 invariant-loop-from l = record {
   resolution : l.resolution ≡ l.target.resolution;

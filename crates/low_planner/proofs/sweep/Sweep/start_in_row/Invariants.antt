@@ -2,7 +2,7 @@ use Rattle.std.proofs.Common.{◌≡◌, ◌-◌, ◌<◌, ◌≤◌}
 use Rattle.low_planner.specs.Sweep.{IsSweptRow}
 use Rattle.low_planner.proofs.sweep.Sweep.start_in_row.Given as goal
 
--- before where the search stands all that rests was visited
+-- all resting voxels before the search's position were visited
 abbrev pub invariant-loop-c : goal.invariant-loop-c
 invariant-loop-c l = record {
   x : l.at.x ≡ l.fn.from.x;

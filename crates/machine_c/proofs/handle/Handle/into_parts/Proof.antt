@@ -1,4 +1,4 @@
--- `into_parts` asks whether the pointer is null, and else moves two fields, with what they own.
+-- `into_parts` tests whether the pointer is null, and otherwise moves two fields, with their ownership.
 use mathlib.Core.Path.{refl, sym, subst}
 use mathlib.Core.List.{List, [], ◌∷◌, ◌++◌}
 use lib.Dec.{lit<}

@@ -1,4 +1,4 @@
--- `of_parts`: the pointer and the allocator are moved into the handle, which owns then what the parts owned.
+-- `of_parts` moves the pointer and the allocator into the handle, which then owns what the parts owned.
 use Rattle.std.proofs.Common.{List, [], ◌∷◌, ◌++◌, refl, sym, subst}
 use mir.Val.{Val}
 use base.Logic.{SProp, ent, emp, id⊢}

@@ -1,4 +1,4 @@
--- `into_box`: the two fields are moved out, and `from_raw` makes a box of them and of what they own.
+-- `into_box` moves the two fields out, and `from_raw` makes a box of them and of their ownership.
 use Rattle.std.proofs.Common.{◌≡◌, List, [], ◌∷◌, ◌++◌, refl, sym, ap, subst}
 use mir.MapTy.{inst_fn}
 use mir.Syntax.{Fn}
@@ -53,7 +53,7 @@ into_box_spec 𝓤 𝓛 𝓜 𝓡 wired X Z LX LZ g d dd allocator glue =
     let of_parts : D the_box = record { ptr = z.0.3.0.ptr; alloc = its_alloc; value = its_value } in
     let toks : Item 𝓤 = ‵ (flft κs.0 qs.0) ⊛ ‵ (flft κs.1.0 qs.1.0) ⊛ ‵ ftrue in
     let in_x : Item 𝓤 = raw (fact 𝓤 (κs.0 ⊑ X.lives)) in let in_a : Item 𝓤 = raw (fact 𝓤 (κs.1.0 ⊑ Z.lives)) in
-    -- the parts own what a box of them owns: the value in its block, the token by which the block is freed, and the
+    -- the parts own the same as a box of them: the value in its block, the token by which the block is freed, and the
     -- allocator
     qed 𝓛 ((toks ⊛ ‵ (fsep ((B the_box).own_val of_parts z.0.4.0) ftrue)) ∷ (in_x ⊛ in_a ⊛ ‵ ftrue) ∷ []) ∵ split ! $ move ! (1 ∷ []) $ fsplit ! $
     box_out the_box ! of_parts z.0.4.0 (λ b o hv at ws fits. fjoin ! $
@@ -64,7 +64,7 @@ into_box_spec 𝓤 𝓛 𝓜 𝓡 wired X Z LX LZ g d dd allocator glue =
     sets ! (of_opd ! (get_in ! (fld ! refl (stop !)) (sub ! 0 refl (whole !)))) refl (tt, tt) $
     sets ! (of_opd ! (get_in ! (fld ! refl (stop !)) (sub ! 1 refl (whole !)))) refl fits $
     first ! $ blocks ! $ sets ! (of_opd ! (get ! refl)) refl fits $
-    -- what the call asks for
+    -- the precondition of the call
     move ! (4 ∷ []) $ split3 ! $ move ! (2 ∷ []) $ drop ! $ move ! (1 ∷ 2 ∷ []) $ join ! $ move ! (1 ∷ 0 ∷ []) $ join ! $
     move ! (2 ∷ []) $ feq_i ! (List Val) (vptr b o ∷ []) (vptr b o ∷ []) refl $ fjoin ! $ move ! (2 ∷ 0 ∷ []) $ fjoin ! $ move ! (2 ∷ 0 ∷ []) $ join ! $ join ! $ use1 𝓛 (raw (triple_of_here.pre ghost)) (id⊢ 𝓤 _) $
     calls_at_last ! (fm 𝓛 𝓜 𝓡) triple_of_here (met 𝓤 𝓛 𝓜 𝓡 (code.calls-std_alloc::boxed::Box::from_raw 𝓡.env wired) X Z LX LZ g d dd allocator glue) ghost (and_then ! (get ! refl) (and_then ! (get ! refl) (no_more !))) (λ u.

@@ -1,4 +1,4 @@
--- `of`: `into_raw_with_allocator` takes the box apart, and the parts own what it owned.
+-- `of`: `into_raw_with_allocator` takes the box apart, and the parts own the same.
 use Rattle.std.proofs.Common.{◌≡◌, List, [], ◌∷◌, ◌++◌, refl, sym, ap, ◌∙◌, subst}
 use mir.MapTy.{inst_fn}
 use mir.Raw.{raw as bare}
@@ -64,7 +64,7 @@ of_spec 𝓤 𝓛 𝓜 𝓡 wired X Z LX LZ g d dd dx allocator glue glued =
     suffices ! (Run (word_value ∷ [])) (subst (λ (us : List Val). ent 𝓤 (Run (word_value ∷ [])) (Run us)) (sym (λ i. ws i ++ [])) (id⊢ 𝓤 (Run (word_value ∷ [])))) $
     enter ! all_tables.C all_tables.Λ fn (word_value ∷ []) Post $ alloc_all ! (λ ls. pass_all ! refl (box_typed the_box hv b o fits, tt) $ sets ! (of_opd ! (get ! refl)) refl (box_typed the_box hv b o fits) $
     calls_at ! (fm 𝓛 𝓜 𝓡) triple_of_here (met 𝓤 𝓛 𝓜 𝓡 (code.calls-std_alloc::boxed::Box::into_raw_with_allocator 𝓡.env wired) X Z LX LZ g d dd dx allocator glue glued) ghost (and_then ! (get ! refl) (no_more !)) (λ u.
-    -- the pair of the pointer and the allocator, and what was the box's
+    -- the pair of the pointer and the allocator, and the box's ownership
     use1 𝓛 (later (some (λ (r : Ptr × Z.Denot). (toks ⊛ ‵ ((Tuple (RawPtr ∷ P the_box ∷ [])).own_val r (u ∷ []))) ⊛ some (λ (_ : (Unit {0} × (Unit {0} × Unit {0})) × Unit {0}). ‵ (fsep (fsep ftrue (fsep ftrue ftrue)) ftrue) ⊛ (raw (fact 𝓤 (r.1 ≡ its_alloc)) ⊛ ‵ (box_owns (token the_box.al its_alloc) (R the_box) r.0 argument.value)))))) (id⊢ 𝓤 _) $
     await ! tt $ pick ! (λ r. split ! $ move ! (1 ∷ []) $ pick ! (λ _. split3 ! $ drop ! $ heard ! (r.1 ≡ its_alloc) (λ same.
     in_a_block ! r.0 (λ p. box_owns (token the_box.al its_alloc) (R the_box) p argument.value) (fst∗ 𝓤 (never 𝓤) (sem 𝓛 (token the_box.al its_alloc (bare (τ the_box)) null_ptr))) (λ b' o' at'.

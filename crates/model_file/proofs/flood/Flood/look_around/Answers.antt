@@ -10,7 +10,7 @@ use Rattle.model_file.proofs.Stretches.{moved}
 use Rattle.model_file.proofs.flood.Flood.look_around.Given.{Over}
 use Rattle.model_file.proofs.flood.Flood.look_around.Goals as goal
 
--- where nothing beside it is in its word, all that is beside it is taken by the other part
+-- if no neighbor is in its word, all its neighbors are removed by the other part
 both : (g : Over) (c : goal.In_ok-take_around g)
     → TakesOut (IsBeside (record { first = c.args.first; bits = c.args.bits })) c.args.self.now c.take_around.new.self
 both g c =

@@ -10,7 +10,7 @@ loop-at-preserved g c =
     let at = c.loop-at.at in
     let at_here = c.in_ok-at.field-0 in
     let size : length (drop at piece) ≡ length piece - at = length-drop at piece in
-    -- what is left of the piece is given whole
+    -- the rest of the piece is returned whole
     let whole : take (length piece - at) (drop at piece) ≡ drop at piece = take_all (length piece - at) (drop at piece) (omega (arith, size)) in
     let within : at_here ≤ length (drop at piece) = subst (λ (b : List ℕ). at_here ≤ length b) whole c.in_ok-at.ensures.within in
     let next = subst (λ (b : List ℕ). Takes c.loop-at.self (take at_here b) c.advance.new.self c.loop-at.steps c.advance.new.steps) whole c.in_ok-at.ensures.takes in (

@@ -14,7 +14,7 @@ use Rattle.step_machine.proofs.Still.{only_bot}
 use Rattle.step_machine.proofs.machine.Machine.edit_at_once.Given.{Over}
 use Rattle.step_machine.proofs.machine.Machine.edit_at_once.Goals as goal
 
--- whether it is filled, as the proof has the constant
+-- whether the voxel is filled, by the constant of the proof
 abbrev full_of : Over → Bool
 full_of g = not (eqb g.row.FULL 0)
 

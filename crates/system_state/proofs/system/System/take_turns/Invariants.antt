@@ -8,7 +8,7 @@ use Rattle.system_state.specs.Bounds.{IsWithin}
 use Rattle.system_state.specs.Turns.{AreTurns}
 use Rattle.system_state.proofs.system.System.take_turns.Given as goal
 
--- the order of the leaders is one that the turns have
+-- the order of the leaders is one of the turns
 abbrev pub invariant-loop-turn : goal.invariant-loop-turn
 invariant-loop-turn g l = record {
   taken : (order : List Act) → IsPermutation (leaders (acts l.fn.self.bots l.commands)) order → AreTurns (acts l.fn.self.bots l.commands) order l.turns → l.self ≡ after_some l.fn.self (acts l.fn.self.bots l.commands) (take l.turn-index order);

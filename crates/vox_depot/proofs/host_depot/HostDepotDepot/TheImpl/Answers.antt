@@ -1,4 +1,4 @@
--- No files are told, so what the trait says of them holds of any answer.
+-- No files are visible, so the trait's contract on them holds of any answer.
 use Rattle.std.proofs.Common.{refl, rules}
 use Rattle.vox_depot.proofs.Results.{if_ok, on_err}
 use Rattle.vox_depot.proofs.host_depot.HostDepotDepot.TheImpl.Goals as goal

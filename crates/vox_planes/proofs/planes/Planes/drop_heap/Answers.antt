@@ -36,7 +36,7 @@ dropped : (g : Over) (c : goal.After-self-1 g) → (j : ℕ) → j < length c.fu
     && not (goes c.full.inside.words.items (left g c) (layer_words c.self.inside.resolution) j))
 dropped g c = λ j l. by j l
   where
-    -- what the call says, read from the words as they were to those that are kept
+    -- the effect of the call, for the words before and after it
     layer_is : c.self.inside.layer ≡ layer_words c.self.inside.resolution
     layer_is = c.self.invariant.1
 

@@ -9,7 +9,7 @@ use Rattle.vox_planes.proofs.Heaps.{AreStacked, held_more, held_none, is_heap-he
 use Rattle.vox_planes.proofs.Totals.{words_most}
 use Rattle.vox_planes.proofs.planes.Planes.is_heap.Goals as goal
 
--- what the two reads give
+-- the result of the two reads
 stacked : (ws : List ℕ) (layer i w u : ℕ) → layer ≤ i → i < length ws → w ≡ get_or ws i w → u ≡ get_or ws (i - layer) u
     → w < 2 ^ 64 → u < 2 ^ 64 → AreStacked ws layer i w u
 stacked ws layer i w u above end ew eu fits lower_fits = record {

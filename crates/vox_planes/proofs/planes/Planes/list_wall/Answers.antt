@@ -8,7 +8,7 @@ use Rattle.vox_planes.specs.Walk.{coordinates_from, passes_in, row, row_size, ro
 use Rattle.vox_planes.proofs.Walks.{appended, filter-next_wall, filter-step, left-more}
 use Rattle.vox_planes.proofs.planes.Planes.list_wall.Goals as goal
 
--- what the row's list adds to the walk, at the corners that the code has read
+-- the walk after the row's list, for the corners that the code has read
 step : (m : Matrix) (full : Bool) (k : Corners) (low high : Coord) (x y : ℕ) (xs ys : List Coord) → IsOrdered k
     → IsInSpace m.resolution k.high → low ≡ k.low → high ≡ k.high → k.low.x ≤ x → x ≤ k.high.x → low.y ≤ y → y ≤ high.y
     → ys ≡ xs ++ filter (is_state m full) (row (record { x = x; y = y; z = low.z }) high.z) → ys

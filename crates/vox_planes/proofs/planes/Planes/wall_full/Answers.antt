@@ -8,7 +8,7 @@ use Rattle.vox_planes.specs.Walk.{coordinates_from, passes_in, row, row_start, r
 use Rattle.vox_planes.proofs.Walks.{find-next_wall, find-step, left-more, none_or, some_or}
 use Rattle.vox_planes.proofs.planes.Planes.wall_full.Goals as goal
 
--- what the row's search says of the walk, at the corners that the code has read
+-- the walk after the row's search, for the corners that the code has read
 step : (m : Matrix) (k : Corners) (low high : Coord) (x y : ℕ) (found : Option Coord) → IsOrdered k
     → IsInSpace m.resolution k.high → low ≡ k.low → high ≡ k.high → k.low.x ≤ x → x ≤ k.high.x → low.y ≤ y → y ≤ high.y
     → found ≡ find (is_full m) (row (record { x = x; y = y; z = low.z }) high.z) → option_or found

@@ -8,7 +8,7 @@ use Rattle.vox_planes.proofs.Searches.{left_after, next_listed, none_left}
 use Rattle.vox_planes.proofs.Walks.{pushed}
 use Rattle.vox_planes.proofs.planes.regions.list_bits.Goals as goal
 
--- where none is left to be listed, the list is whole
+-- if none is left to be listed, the list is whole
 whole : (xs ys zs : List Coord) → xs ++ ys ≡ zs → ys ≡ [] → xs ≡ zs
 whole xs ys zs e none = sym (append-nil xs) ∙ (ap (λ ws. xs ++ ws) (sym none) ∙ e)
 
