@@ -1,30 +1,30 @@
 /* nanobot as a static library: judges traces, checks models and makes plans, on bytes in memory.
  *
- * Each call gives what the program `nanobot` prints or stores for files of the same bytes (docs/FORMATS.md, "Printed lines").
+ * Each call returns what the program `nanobot` prints or stores for files of the same bytes (docs/FORMATS.md, "Printed lines").
  * That is proved: the contracts are in crates/nanobot_c/src. Nothing checks callers in other languages: the contracts hold
  * only if they follow these rules, and a wrong pointer or length is as undefined as anywhere in C.
  *
  * - Each input pointer points to that many readable bytes, and each buffer to that many writable ones, for the whole call. No
  *   pointer is null, not even for a length of 0: the compiled code relies on that, as Rust's slices do. An empty std::vector,
- *   an empty slice in Go and ctypes' None give a null pointer: pass NANOBOT_NONE, or call nanobot_bytes and nanobot_buffer.
+ *   an empty slice in Go and ctypes' None have a null pointer: pass NANOBOT_NONE, or call nanobot_bytes and nanobot_buffer.
  * - Nothing else writes to the inputs or the buffer during the call. Inputs may overlap one another; the buffer, `size`,
- *   `energy` and `steps` overlap nothing else that is passed. No length exceeds PTRDIFF_MAX.
+ *   `energy` and `steps` overlap no other argument. No length exceeds PTRDIFF_MAX.
  * - `size`, `energy` and `steps` point to one number each.
  * - `malloc`, `realloc` and `free` of the program come from one allocator and align as the C library's do. No call is made
  *   from a signal handler, or from the forked child of a process with threads.
  * - The thread has 192 KB of stack for the call: a thread of glibc has 8 MB, but one of musl only 128 KB. The figure is
  *   measured (scripts/try linked); no clause bounds it.
  *
- * Calls keep nothing between them, so threads may call at the same time. A call frees all that it allocates before it
- * returns. It returns for all bytes, junk too. No clause bounds its time or memory.
+ * Calls keep no state between them, so threads may call at the same time. A call frees all that it allocates before it
+ * returns. It returns for all bytes, also invalid ones. No clause bounds its time or memory.
  *
  * A source or a target of length 0 is the empty model of the other's resolution, as `-` is for the program. This holds for
- * nanobot_judge, nanobot_cost, nanobot_plan_layer, nanobot_plan_group and nanobot_plan_crew. For the other calls it is a file
- * of no bytes. Pass NANOBOT_NONE as its pointer.
+ * nanobot_judge, nanobot_cost, nanobot_plan_layer, nanobot_plan_group and nanobot_plan_crew. For the other calls it is an
+ * empty file. Pass NANOBOT_NONE as its pointer.
  *
- * The output is written to the front of the caller's buffer of `room` bytes, with no byte 0 behind it, and `*size` is its
- * length. The rest of the buffer stays as it was. If the output is longer than `room`, the status is NANOBOT_TOO_SMALL,
- * `*size` is the room that it needs, and the whole buffer stays as it was.
+ * The output is written to the front of the caller's buffer of `room` bytes, without a final byte 0, and `*size` is its
+ * length. The rest of the buffer is unchanged. If the output is longer than `room`, the status is NANOBOT_TOO_SMALL,
+ * `*size` is the required room, and the whole buffer is unchanged.
  *
  * To build and link: `./prove` makes out/libnanobot.a, and a package has it as lib/libnanobot.a; it links by itself, as in
  * `cc -Iinclude call.c out/libnanobot.a`. scripts/try linked does so for C, C++, Rust, Go and Python.
@@ -36,7 +36,7 @@
 #include <stddef.h>
 #include <stdint.h>
 
-/* The version of this header and of the library that it came with. */
+/* The version of this header and of its library. */
 #define NANOBOT_VERSION "0.9.0"
 
 #ifdef __cplusplus
@@ -54,7 +54,7 @@ extern "C" {
  * `nanobot_check(nanobot_bytes(model.data()), model.size(), ..)`. */
 static inline const uint8_t *nanobot_bytes(const uint8_t *bytes) { return bytes ? bytes : NANOBOT_NONE; }
 
-/* Returns the same pointer or, for a null one, that of a byte to which nothing is written: for a buffer whose room is 0. */
+/* Returns the same pointer or, for a null one, that of a byte to which nothing is written: for a buffer of room 0. */
 static inline uint8_t *nanobot_buffer(uint8_t *buffer)
 {
     static uint8_t nothing;
@@ -63,19 +63,19 @@ static inline uint8_t *nanobot_buffer(uint8_t *buffer)
 
 /* The statuses: those of the program except 6, and 10. */
 enum {
-    NANOBOT_DONE = 0,        /* the trace is accepted, the model is legal, the plan is made */
-    NANOBOT_BROKEN = 1,      /* a rule is broken */
-    NANOBOT_WORDS = 2,       /* neither a source nor a target has bytes */
-    NANOBOT_MODEL = 3,       /* a model is refused, two resolutions differ, or a group plan may be too long */
-    NANOBOT_TRACE = 4,       /* the trace is refused: a bad or cut command, or more than 1073741824 bytes */
-    NANOBOT_DEPOT = 5,       /* a file could not be read: never here, since there are no files */
-    NANOBOT_MEMORY = 7,      /* out of memory: nothing is written, and *size, *energy and *steps are 0 */
-    NANOBOT_TEXT = 8,        /* a text is refused */
-    NANOBOT_UNSUPPORTED = 9, /* a part of the target of a low plan is unsupported */
-    NANOBOT_TOO_SMALL = 10   /* the buffer is too small: *size is the room that is needed */
+    NANOBOT_DONE = 0,        /* The trace is accepted, the model is legal, the plan is made. */
+    NANOBOT_BROKEN = 1,      /* A rule is broken. */
+    NANOBOT_WORDS = 2,       /* Neither a source nor a target has bytes. */
+    NANOBOT_MODEL = 3,       /* A model is refused, two resolutions differ, or a group plan may be too long. */
+    NANOBOT_TRACE = 4,       /* The trace is refused: a bad or cut command, or more than 1073741824 bytes. */
+    NANOBOT_DEPOT = 5,       /* A file could not be read: never here, since there are no files. */
+    NANOBOT_MEMORY = 7,      /* Out of memory: nothing is written, and *size, *energy and *steps are 0. */
+    NANOBOT_TEXT = 8,        /* A text is refused. */
+    NANOBOT_UNSUPPORTED = 9, /* A part of the target of a low plan is unsupported. */
+    NANOBOT_TOO_SMALL = 10   /* The buffer is too small: *size is the required room. */
 };
 
-/* Judges the trace from the source to the target, by the light profile or the full one. Gives the line that
+/* Judges the trace from the source to the target, by the light profile or the full one. Returns the line that
  * `nanobot run S T B`, or `nanobot run light S T B`, prints, with its line feed; no line is longer than 200 bytes.
  *
  *     uint8_t line[200];
@@ -87,7 +87,7 @@ uint32_t nanobot_judge(const uint8_t *source, size_t source_size, const uint8_t 
                        const uint8_t *trace, size_t trace_size, bool light,
                        uint8_t *line, size_t room, size_t *size);
 
-/* Judges as nanobot_judge does, and gives the energy and the number of steps of an accepted run; of any other both are 0.
+/* Judges as nanobot_judge does, and returns the energy and the number of steps of an accepted run; otherwise both are 0.
  *
  *     int64_t energy;
  *     uint32_t steps;
@@ -99,19 +99,19 @@ uint32_t nanobot_cost(const uint8_t *source, size_t source_size, const uint8_t *
                       const uint8_t *trace, size_t trace_size, bool light,
                       int64_t *energy, uint32_t *steps);
 
-/* Judges the model, and gives the line that `nanobot check M` prints.
+/* Judges the model, and returns the line that `nanobot check M` prints.
  *
  *     nanobot_check(model, model_size, line, sizeof line, &size);      // legal resolution 20 full 388
  */
 uint32_t nanobot_check(const uint8_t *model, size_t model_size, uint8_t *line, size_t room, size_t *size);
 
-/* The planners. Each gives the trace that the program's command stores: nanobot_judge accepts it from the source to the
- * target, and those of nanobot_plan_low and nanobot_plan_swarm by the light profile too. If the status is not 0, it gives the
+/* The planners. Each returns the trace that the program's command stores: nanobot_judge accepts it from the source to the
+ * target, and those of nanobot_plan_low and nanobot_plan_swarm by the light profile too. If the status is not 0, it returns the
  * line that the program prints.
  *
- * Each call plans anew, so give enough room at once: the functions nanobot_ROW_room below return the most bytes that a plan
- * takes at resolution r. They follow from the proved bounds on its steps (docs/FORMATS.md) and the sizes of its commands. A
- * group plan usually takes far fewer: start with some megabytes, and look at the status.
+ * Each call plans again from the start, so pass enough room the first time: the functions nanobot_ROW_room below return the most
+ * bytes of a plan at resolution r. They follow from the proved bounds on its steps (docs/FORMATS.md) and the sizes of its
+ * commands. A group plan usually takes far fewer: start with some megabytes, and check the status.
  *
  * nanobot_plan_layer, one bot:
  *
@@ -128,8 +128,8 @@ uint32_t nanobot_plan_layer(const uint8_t *source, size_t source_size, const uin
 uint32_t nanobot_plan_group(const uint8_t *source, size_t source_size, const uint8_t *target, size_t target_size,
                             uint8_t *plan, size_t room, size_t *size);
 
-/* Up to forty bots: the cheapest of its own plans and of those that the other planners make. It takes far fewer bytes than 2^30,
- * which is all that is proved: start with some megabytes, and look at the status.
+/* Up to forty bots: the cheapest of its own plans and of those of the other planners. It takes far fewer bytes than 2^30, the
+ * only proved bound: start with some megabytes, and check the status.
  *
  *     nanobot_plan_crew(NANOBOT_NONE, 0, model, model_size, plan, sizeof plan, &size);       // size is 1011
  */
@@ -155,7 +155,7 @@ uint32_t nanobot_plan_low(const uint8_t *target, size_t target_size, uint8_t *pl
  */
 uint32_t nanobot_plan_swarm(const uint8_t *target, size_t target_size, uint8_t *plan, size_t room, size_t *size);
 
-/* Reads the text of a trace, and gives the trace that `nanobot asm X B` stores, or the line that the program prints if the text
+/* Reads the text of a trace, and returns the trace that `nanobot asm X B` stores, or the line that the program prints if the text
  * is refused (NANOBOT_TEXT). A trace has no more bytes than its text.
  *
  *     const uint8_t text[] = "Wait\nHalt\n";
@@ -163,7 +163,7 @@ uint32_t nanobot_plan_swarm(const uint8_t *target, size_t target_size, uint8_t *
  */
 uint32_t nanobot_asm(const uint8_t *text, size_t text_size, uint8_t *trace, size_t room, size_t *size);
 
-/* Reads a trace of at most 50,000,000 bytes, and gives the text that `nanobot dis B X` stores, or the line that the program
+/* Reads a trace of at most 50,000,000 bytes, and returns the text that `nanobot dis B X` stores, or the line that the program
  * prints if the trace is refused. A text has at most 18 bytes for each byte of its trace; a line has fewer than 100 bytes.
  *
  *     uint8_t spelled[100];
@@ -172,19 +172,19 @@ uint32_t nanobot_asm(const uint8_t *text, size_t text_size, uint8_t *trace, size
 uint32_t nanobot_dis(const uint8_t *trace, size_t trace_size, uint8_t *text, size_t room, size_t *size);
 
 /* Returns the size of a command by its first byte, 1, 2 or 4 bytes; 0 if no command begins with it. It cuts a trace that
- * nanobot_commands accepts into its commands; in other bytes, those behind the first one may spell no command.
+ * nanobot_commands accepts into its commands; in other bytes, those after the first one may spell no command.
  *
  *     for (size_t at = 0; at < size && nanobot_command_size(plan[at]) > 0; at += nanobot_command_size(plan[at]))
  *         printf("a command at %zu\n", at);
  */
 static inline size_t nanobot_command_size(uint8_t first)
 {
-    /* bit n is 1 if n is the number of a near difference */
+    /* Bit n is 1 if n is the number of a near difference. */
     const uint32_t near_differences = 0x02EBDEBA;
     const unsigned word = first & 7u, number = first >> 3;
-    if (first >= 0xFD) /* Flip, Wait, Halt */
+    if (first >= 0xFD) /* Flip, Wait, Halt. */
         return 1;
-    if (word == 4) { /* SMove has an axis in bits 4 and 5 and two bits 0 above it, LMove an axis in each pair of bits */
+    if (word == 4) { /* SMove has an axis in bits 4 and 5 and two bits 0 above it, LMove an axis in each pair of bits. */
         const unsigned axis = first >> 4 & 3u, second = first >> 6;
         return axis != 0 && (first & 8u ? second != 0 : second == 0) ? 2 : 0;
     }

@@ -1,24 +1,27 @@
 /* nanobot's machine as a static library: a machine that the caller keeps between steps, for planners and searches.
  *
- * A handle keeps a machine on the heap. Each call is proved to do what docs/FORMATS.md says of a step, a level or a model; the
- * contracts are in crates/machine_c/src. What nobody checks is what a caller in C owes:
+ * A handle keeps a machine on the heap. Each call is proved to implement docs/FORMATS.md for a step, a level or a model; the
+ * contracts are in crates/machine_c/src. Nothing checks the duties of a caller in C:
  *
- * - A handle begins as `nanobot_machine m = {0};` and is passed on as the last call left it. Nobody writes `at`, or through it.
- * - Never are two copies of a handle alive that has a machine: each would free it. Use nanobot_machine_copy for a second machine. To
- *   move one, copy the handle and set the old one to {0}. A handle that is overwritten or forgotten is a leak, and no worse.
- * - For a call the handle and what is written to point to one thing each, are not null, and overlap nothing else that is passed.
- *   Calls that only read write to the handle too. Two handles that are passed are different ones.
+ * - A handle begins as `nanobot_machine m = {0};` and is passed on as the last call left it. The caller writes neither `at` nor its
+ *   target.
+ * - Only one copy of a handle with a machine is in use: each would free it. Use nanobot_machine_copy for a second machine. To
+ *   move one, copy the handle and set the old one to {0}. An overwritten or forgotten handle leaks its machine, and no more.
+ * - The handle and each output pointer of a call point to one object, are not null, and overlap no other argument. Calls that
+ *   only read write to the handle too. If a call takes two handles, they are different ones.
  * - One thread at a time uses a handle. It may be another thread than the one that started it. Calls on different handles may run at
  *   the same time.
- * - What the head of nanobot.h says: pointers that are never null, also with a length of 0 (NANOBOT_NONE), and the program's malloc.
- * - The thread has 64 KB of stack for the two starts and a copy, and 32 KB of stack for each other call. That is measured, too.
+ * - The rules at the top of nanobot.h hold for pointers, which are never null, also with a length of 0 (NANOBOT_NONE), and for the
+ *   program's malloc.
+ * - The thread has 64 KB of stack for the two starts and a copy, and 32 KB of stack for each other call. These figures are measured,
+ *   too.
  *
- * A call that is refused, for whatever reason, leaves the machine as it was, and the next call finds it so. That holds after rule 12
- * (a voxel that floats) and after NANOBOT_MEMORY too: the next step, judgement or level then takes as long as a start. No clause
- * promises times; those that this page names follow from how the calls work.
+ * A refused call, for whatever reason, leaves the machine unchanged for the next call. That holds after rule 12 (a voxel that
+ * floats) and after NANOBOT_MEMORY too: the next step, judgement or level then takes as long as a start. No clause guarantees
+ * times; those in this header follow from the implementation.
  *
- * After a call that gives nothing (NANOBOT_NO_MACHINE, NANOBOT_NO_TRACE, NANOBOT_MEMORY) the *size of a buffer, and the *count of
- * nanobot_machine_bots, are 0. All other numbers and structs that a status says nothing of stay as they were.
+ * After a call without output (NANOBOT_NO_MACHINE, NANOBOT_NO_TRACE, NANOBOT_MEMORY) the *size of a buffer, and the *count of
+ * nanobot_machine_bots, are 0. All other outputs that a status does not mention are unchanged.
  */
 #ifndef NANOBOT_MACHINE_H
 #define NANOBOT_MACHINE_H
@@ -34,24 +37,24 @@ typedef struct nanobot_machine {
     void *at;
 } nanobot_machine;
 
-/* Statuses beside those of nanobot.h. NANOBOT_WORDS is that of a number which a call does not take, NANOBOT_TRACE that of bytes
- * which are no commands. */
+/* Statuses in addition to those of nanobot.h. NANOBOT_WORDS means a number that the call does not accept, NANOBOT_TRACE bytes that
+ * are no commands. */
 enum {
-    NANOBOT_NO_MACHINE = 11, /* the handle is empty; nothing is written */
-    NANOBOT_ENDED = 12,      /* no bot is active any more, whatever the commands are */
-    NANOBOT_COUNT = 13,      /* some bot is active, and there are more or fewer commands than active bots */
-    NANOBOT_LONG = 14,       /* there is one command for each bot, and the machine has made its 1,073,741,824 steps */
-    NANOBOT_NO_NOTE = 15,    /* no earlier step is noted, so none can be taken back */
-    NANOBOT_OUTSIDE = 16,    /* the coordinate is out of space */
-    NANOBOT_NO_LEVEL = 17,   /* the voxel is void, or not grounded */
-    NANOBOT_DIFFERS = 18,    /* the matrix is not the target */
-    NANOBOT_RESOLUTION = 19, /* the target is of another resolution */
-    NANOBOT_BEGUN = 20,      /* the machine has made steps, so its trace cannot begin here */
-    NANOBOT_NO_TRACE = 21,   /* no trace is kept */
-    NANOBOT_NO_TARGET = 22   /* the machine has no target */
+    NANOBOT_NO_MACHINE = 11, /* The handle is empty; nothing is written. */
+    NANOBOT_ENDED = 12,      /* No bot is active any more, whatever the commands are. */
+    NANOBOT_COUNT = 13,      /* Some bot is active, and there are more or fewer commands than active bots. */
+    NANOBOT_LONG = 14,       /* There is one command for each bot, and the machine has made its 1,073,741,824 steps. */
+    NANOBOT_NO_NOTE = 15,    /* No earlier step is noted, so none can be undone. */
+    NANOBOT_OUTSIDE = 16,    /* The coordinate is out of space. */
+    NANOBOT_NO_LEVEL = 17,   /* The voxel is void, or not grounded. */
+    NANOBOT_DIFFERS = 18,    /* The matrix is not the target. */
+    NANOBOT_RESOLUTION = 19, /* The target is of another resolution. */
+    NANOBOT_BEGUN = 20,      /* The machine has made steps, so its trace cannot begin here. */
+    NANOBOT_NO_TRACE = 21,   /* No trace is kept. */
+    NANOBOT_NO_TARGET = 22   /* The machine has no target. */
 };
 
-/* Returns what a status of either header means; "" for a number that is none.
+/* Returns the meaning of a status of either header, or "" for any other number.
  *
  *     puts(nanobot_status_text(NANOBOT_ENDED));                        // no bot is active any more
  */
@@ -83,7 +86,7 @@ static inline const char *nanobot_status_text(uint32_t status)
     return status < sizeof texts / sizeof texts[0] ? texts[status] : "";
 }
 
-/* Returns the name of a rule by its number (docs/FORMATS.md, "Rules"); "" for a number that is none.
+/* Returns the name of a rule by its number (docs/FORMATS.md, "Rules"), or "" for any other number.
  *
  *     puts(nanobot_rule_name(12));                                     // Ungrounded
  */
@@ -94,7 +97,7 @@ static inline const char *nanobot_rule_name(uint32_t rule)
     return rule < sizeof names / sizeof names[0] ? names[rule] : "";
 }
 
-/* Returns the name of the refusal of a model by its number (docs/FORMATS.md, "Refusals"); "" for a number that is none.
+/* Returns the name of the refusal of a model by its number (docs/FORMATS.md, "Refusals"), or "" for any other number.
  *
  *     puts(nanobot_refusal_name(7));                                   // Floating
  */
@@ -105,9 +108,9 @@ static inline const char *nanobot_refusal_name(uint32_t number)
     return number < sizeof names / sizeof names[0] ? names[number] : "";
 }
 
-/* Why a model is refused: the number of the refusal (docs/FORMATS.md, "Model files", "Refusals"), how many bytes are wanted, what
- * there is (the resolution, bytes or voxels, or the index of a run), and the voxel. What does not belong to it is 0, and all where
- * nothing is refused. */
+/* The refusal of a model: its number (docs/FORMATS.md, "Model files", "Refusals"), the required number of bytes, the actual
+ * resolution, number of bytes or voxels, or index of a run, and the voxel. Fields that do not belong to the refusal are 0, and so
+ * are all fields without one. */
 typedef struct nanobot_refusal {
     uint32_t number, want, have, x, y, z;
 } nanobot_refusal;
@@ -117,14 +120,14 @@ typedef struct nanobot_place {
     uint32_t x, y, z;
 } nanobot_place;
 
-/* The rule that a step breaks, by its number (docs/FORMATS.md, "Rules"), in which step, by which bot (0 for rule 12), and where. */
+/* The broken rule, by its number (docs/FORMATS.md, "Rules"), with the step, the bot (0 for rule 12), and the coordinate. */
 typedef struct nanobot_broken {
     uint32_t rule, step, bid, x, y, z;
 } nanobot_broken;
 
-/* The machine after a step was made or refused: energy, steps made, active bots, `high` 1 under high harmonics, and the number of
- * voxels that the step `changed`, 0 if it was refused. `offset` is the first byte of a command that is bad or cut (NANOBOT_TRACE), `broken` the
- * rule that is broken (NANOBOT_BROKEN); else they are 0. */
+/* The machine after a successful or refused step: energy, steps made, active bots, `high` 1 under high harmonics, and the number of
+ * voxels that the step `changed`, 0 if it was refused. `offset` is the first byte of a bad or cut command (NANOBOT_TRACE), and
+ * `broken` the broken rule (NANOBOT_BROKEN); otherwise they are 0. */
 typedef struct nanobot_step {
     int64_t energy;
     uint64_t offset;
@@ -133,9 +136,9 @@ typedef struct nanobot_step {
     uint32_t high, changed;
 } nanobot_step;
 
-/* How far a trace was played: the steps that were `made`, of the first `used` bytes, and the machine's state after them, as in
- * nanobot_state. `offset` and `broken` are those of the step that was refused, as in nanobot_step, with `offset` counted from
- * the beginning of the trace. */
+/* The progress of a played trace: the steps `made`, of the first `used` bytes, and the machine's state after them, as in
+ * nanobot_state. `offset` and `broken` are those of the refused step, as in nanobot_step, with `offset` counted from the beginning
+ * of the trace. */
 typedef struct nanobot_played {
     int64_t energy;
     uint64_t used, offset;
@@ -143,8 +146,8 @@ typedef struct nanobot_played {
     nanobot_broken broken;
 } nanobot_played;
 
-/* The outcome that a step would have: energy, active bots and harmonics after it (the machine's own if it would be refused), how many
- * voxels it would change, and `halts` 1 if it would leave no bot. `offset` and `broken` are as in nanobot_step. */
+/* The outcome that a step would have: energy, active bots and harmonics after it (the machine's own if it would be refused), the number
+ * of voxels that it would change, and `halts` 1 if it would leave no bot. `offset` and `broken` are as in nanobot_step. */
 typedef struct nanobot_judged {
     int64_t energy;
     uint64_t offset;
@@ -153,23 +156,23 @@ typedef struct nanobot_judged {
     uint32_t active, high, changed;
 } nanobot_judged;
 
-/* The state of a machine: `high` is 1 under high harmonics, and `noted` steps can be taken back. */
+/* The state of a machine: `high` is 1 under high harmonics, and `noted` steps can be undone. */
 typedef struct nanobot_state {
     int64_t energy;
     uint32_t steps, active, resolution, high;
     uint64_t noted;
 } nanobot_state;
 
-/* An active bot. Bit k of `seeds` says that it can make the bot k. */
+/* An active bot. Bit k of `seeds` is 1 if it can make the bot k. */
 typedef struct nanobot_bot {
     uint64_t seeds;
     uint32_t bid, x, y, z;
 } nanobot_bot;
 
-/* Starts a machine over the legal model of these bytes, by the light profile or the full one. The last `notes` steps can be taken
- * back, at most 4096. A noted step keeps 6 bytes for each voxel that it changed: 722 MB were measured for 4096 steps that each fill or
- * void a box of 31 by 31 by 31 voxels, and 3.7 GB for five such boxes a step. A machine that the handle has is freed. NANOBOT_MODEL:
- * the model is refused, as *refusal says.
+/* Starts a machine over the legal model of these bytes, by the light profile or the full one. The last `notes` steps can be
+ * undone, at most 4096. A noted step keeps 6 bytes for each voxel that it changed: 722 MB were measured for 4096 steps that each fill or
+ * void a box of 31 by 31 by 31 voxels, and 3.7 GB for five such boxes a step. The handle's earlier machine is freed. NANOBOT_MODEL:
+ * the model is refused, with *refusal.
  *
  *     nanobot_machine machine = {0};
  *     nanobot_refusal refusal;
@@ -185,7 +188,7 @@ uint32_t nanobot_machine_start(const uint8_t *model, size_t model_size, bool lig
  */
 uint32_t nanobot_machine_start_empty(uint32_t resolution, bool light, uint32_t notes, nanobot_machine *machine);
 
-/* Makes one step. The bytes are those of a trace: one command for each active bot, in rising order of their bids.
+/* Makes one step. The bytes are those of a trace: one command for each active bot, in ascending order of their bids.
  *
  *     nanobot_step step;
  *     const uint8_t wait[] = {0xfe};
@@ -194,10 +197,10 @@ uint32_t nanobot_machine_start_empty(uint32_t resolution, bool light, uint32_t n
  */
 uint32_t nanobot_machine_step(nanobot_machine *machine, const uint8_t *commands, size_t commands_size, nanobot_step *step);
 
-/* Plays a trace: makes its steps one after another, each as nanobot_machine_step makes it, and at most `most` of them. NANOBOT_DONE: so
- * many were made, or the bytes ended. Any other status is that of a step which begins at byte played.used: it was refused, and the
- * machine is as the step before it left it. So is a last step that has fewer commands than active bots (NANOBOT_COUNT). The status
- * NANOBOT_MEMORY is that of a step too.
+/* Plays a trace: makes its steps one after another, each as nanobot_machine_step makes it, and at most `most` of them. NANOBOT_DONE: all
+ * of these were made, or the bytes ended. Any other status is that of the step that begins at byte played.used: it was refused, and
+ * the machine is in the state before it. A last step with fewer commands than active bots is refused too (NANOBOT_COUNT). The status
+ * NANOBOT_MEMORY is also that of a step.
  *
  *     nanobot_played played;
  *     if (nanobot_machine_play(&machine, trace, trace_size, UINT32_MAX, &played) == NANOBOT_BROKEN)
@@ -205,9 +208,9 @@ uint32_t nanobot_machine_step(nanobot_machine *machine, const uint8_t *commands,
  */
 uint32_t nanobot_machine_play(nanobot_machine *machine, const uint8_t *trace, size_t trace_size, uint32_t most, nanobot_played *played);
 
-/* Judges a step of these bytes without making it, with the status of nanobot_machine_step: whether it would be accepted, and at what
- * energy. The machine does not change. It copies nothing: it takes as long as a step and an undo, and as a start after one that
- * would break rule 12, as nanobot_machine_step does.
+/* Judges a step of these bytes without making it, with the status of nanobot_machine_step and the energy after it. The machine does
+ * not change. Nothing is copied: a judgement takes as long as a step and an undo, and, as nanobot_machine_step, as long as a start
+ * after one that breaks rule 12.
  *
  *     nanobot_judged judged;
  *     if (nanobot_machine_judge(&machine, wait, sizeof wait, &judged) == NANOBOT_DONE)
@@ -215,15 +218,15 @@ uint32_t nanobot_machine_play(nanobot_machine *machine, const uint8_t *trace, si
  */
 uint32_t nanobot_machine_judge(nanobot_machine *machine, const uint8_t *commands, size_t commands_size, nanobot_judged *judged);
 
-/* Takes the last step back, if one is noted: NANOBOT_DONE or NANOBOT_NO_NOTE. It may allocate, but never answers NANOBOT_MEMORY: if
- * allocation fails, the step is back all the same, and the next step, judgement or level takes as long as a start.
+/* Undoes the last step, if one is noted: NANOBOT_DONE or NANOBOT_NO_NOTE. It may allocate, but never returns NANOBOT_MEMORY: if
+ * allocation fails, the step is undone all the same, and the next step, judgement or level takes as long as a start.
  *
  *     nanobot_machine_undo(&machine);
  */
 uint32_t nanobot_machine_undo(nanobot_machine *machine);
 
 /* Starts a second machine in the state of the first one, with the same target, and with a trace of its own if one is kept. In the new
- * machine no earlier step can be taken back. It takes as long as a start over such a model.
+ * machine no earlier step can be undone. It takes as long as a start over such a model.
  *
  *     nanobot_machine other = {0};
  *     nanobot_machine_copy(&machine, &other);
@@ -237,8 +240,8 @@ uint32_t nanobot_machine_copy(nanobot_machine *machine, nanobot_machine *copy);
  */
 uint32_t nanobot_machine_tell(nanobot_machine *machine, nanobot_state *state);
 
-/* Writes the active bots, in rising order of their bids. There are 40 at most. *count is how many there are; if they are more
- * than `room` the status is NANOBOT_TOO_SMALL, and the buffer is as it was.
+/* Writes the active bots, in ascending order of their bids, 40 at most. *count is their number; if it is above `room`, the status
+ * is NANOBOT_TOO_SMALL, and the buffer is unchanged.
  *
  *     nanobot_bot bots[40];
  *     size_t count;
@@ -267,7 +270,7 @@ uint32_t nanobot_machine_level(nanobot_machine *machine, uint32_t x, uint32_t y,
  */
 uint32_t nanobot_machine_count(nanobot_machine *machine, uint32_t *count);
 
-/* Gives the matrix as the bytes of a model, at most nanobot_model_room(r) at resolution r.
+/* Writes the matrix as the bytes of a model, at most nanobot_model_room(r) at resolution r.
  *
  *     uint8_t matrix[1001];
  *     nanobot_machine_model(&machine, matrix, sizeof matrix, &size);
@@ -275,8 +278,8 @@ uint32_t nanobot_machine_count(nanobot_machine *machine, uint32_t *count);
 uint32_t nanobot_machine_model(nanobot_machine *machine, uint8_t *model, size_t room, size_t *size);
 
 /* Compares the matrix with the model of these bytes, which need not be legal. NANOBOT_DIFFERS: *place is the least coordinate
- * at which they differ. NANOBOT_RESOLUTION: they are of two resolutions. NANOBOT_MODEL: the bytes are no model, as *refusal says.
- * What does not belong to the status is 0.
+ * at which they differ. NANOBOT_RESOLUTION: their resolutions differ. NANOBOT_MODEL: the bytes are no model, with *refusal.
+ * Outputs that do not belong to the status are 0.
  *
  *     nanobot_place place;
  *     if (nanobot_machine_compare(&machine, model, model_size, &place, &refusal) == NANOBOT_DIFFERS)
@@ -296,35 +299,36 @@ uint32_t nanobot_machine_differences(nanobot_machine *machine, const uint8_t *ta
                                      nanobot_refusal *refusal);
 
 /* Makes the model of these bytes the machine's target, in place of the one before, and counts the differences as
- * nanobot_machine_differences does. From here on each step and each undo updates that number, at the cost of a comparison for each
- * voxel that it changes. A copy has the same target. A refused call leaves the target as it was.
+ * nanobot_machine_differences does. From then on each step and each undo updates that number, at the cost of a comparison for each
+ * voxel that it changes. A copy has the same target. A refused call leaves the target unchanged.
  *
  *     nanobot_machine_aim(&machine, model, model_size, &left, &refusal);
  */
 uint32_t nanobot_machine_aim(nanobot_machine *machine, const uint8_t *target, size_t target_size, uint32_t *count,
                              nanobot_refusal *refusal);
 
-/* Writes at how many coordinates the matrix differs from the machine's target; nothing is counted anew. NANOBOT_NO_TARGET: it has none.
+/* Writes the number of coordinates at which the matrix differs from the machine's target, without counting again.
+ * NANOBOT_NO_TARGET: the machine has no target.
  *
  *     if (nanobot_machine_remaining(&machine, &left) == NANOBOT_DONE) printf("%u voxels to go\n", (unsigned)left);
  */
 uint32_t nanobot_machine_remaining(nanobot_machine *machine, uint32_t *count);
 
-/* Keeps the trace of the machine from here on: the commands of all steps that are made and not taken back. NANOBOT_BEGUN if steps
- * were made before. A start keeps none.
+/* Keeps the trace of the machine from now on: the commands of all steps that are made and not undone. NANOBOT_BEGUN if steps were
+ * made before. A start keeps none.
  *
  *     nanobot_machine_keep(&other);
  */
 uint32_t nanobot_machine_keep(nanobot_machine *machine);
 
-/* Gives the trace, if it is kept (else NANOBOT_NO_TRACE): its commands lead from the source to the machine's state.
+/* Writes the trace, if it is kept (otherwise NANOBOT_NO_TRACE): its commands lead from the source to the machine's state.
  *
  *     uint8_t made[1000];
  *     if (nanobot_machine_trace(&machine, made, sizeof made, &size) == NANOBOT_DONE) fwrite(made, 1, size, stdout);
  */
 uint32_t nanobot_machine_trace(nanobot_machine *machine, uint8_t *trace, size_t room, size_t *size);
 
-/* Frees the machine, if there is one: the handle is empty then, and may be started again.
+/* Frees the machine, if there is one: the handle is then empty, and may be started again.
  *
  *     nanobot_machine_end(&other);
  *     nanobot_machine_end(&machine);
@@ -332,7 +336,7 @@ uint32_t nanobot_machine_trace(nanobot_machine *machine, uint8_t *trace, size_t 
 void nanobot_machine_end(nanobot_machine *machine);
 
 /* Counts the commands of a trace; nanobot_cost returns its energy and steps. NANOBOT_TRACE: *offset is the first byte
- * of a command that is bad or cut. What does not belong to the status is 0.
+ * of a bad or cut command. Outputs that do not belong to the status are 0.
  *
  *     uint64_t commands, offset;
  *     if (nanobot_commands(trace, trace_size, &commands, &offset) == NANOBOT_DONE)
@@ -340,7 +344,7 @@ void nanobot_machine_end(nanobot_machine *machine);
  */
 uint32_t nanobot_commands(const uint8_t *trace, size_t trace_size, uint64_t *count, uint64_t *offset);
 
-/* The version of the library: ten thousand for each first number of NANOBOT_VERSION, a hundred for each second, one for each third.
+/* Returns the version of the library: ten thousand for each first number of NANOBOT_VERSION, a hundred for each second, one for each third.
  *
  *     printf("version %u\n", (unsigned)nanobot_version());              // version 900
  */

@@ -1,6 +1,6 @@
 """Builds the wheel of this folder with nothing but Python's own library, so that pip needs no network.
 
-The shared library goes in from where `build_library` has put it beside the package's modules. If it is not there, the
+The wheel has the shared library that `build_library` has put next to the package's modules. If it is not there, the
 build is refused, unless the environment variable NANOBOT_LIBRARY is set: it then names the library whenever the package
 is used. `pip install -e` installs a link to this folder.
 

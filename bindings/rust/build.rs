@@ -1,5 +1,5 @@
-//! Links libnanobot.a: that of the folder which `NANOBOT_LIB` names, or else `out` at the top of the repository, where `./prove` builds it,
-//! or `lib` at the top of an archive that `scripts/package` made.
+//! Links libnanobot.a: from the folder that `NANOBOT_LIB` names, otherwise from `out` at the top of the repository, into which `./prove`
+//! builds it, or from `lib` at the top of an archive that `scripts/package` made.
 
 use std::env;
 use std::path::PathBuf;

@@ -1,6 +1,6 @@
-/* nanobot from C, each call of the library once. `linked run S T B`, `linked run light S T B` and `linked check M` print what
- * the program prints; `linked cost S T B` prints the line of an accepted run from its numbers; `linked plan KIND S T B` stores
- * what the program stores and prints its line without the number of commands. Each ends with the program's status. */
+/* nanobot from C, each call of the library once. `linked run S T B`, `linked run light S T B` and `linked check M` print the
+ * program's line; `linked cost S T B` prints the line of an accepted run from its numbers; `linked plan KIND S T B` stores the
+ * program's file and prints its line without the number of commands. Each exits with the program's status. */
 #include "nanobot.h"
 
 #include <inttypes.h>
@@ -23,7 +23,7 @@ static void *room(size_t size)
     return at;
 }
 
-/* The bytes of a file, or none for `-`. */
+/* Returns the bytes of a file, or none for `-`. */
 static struct bytes bytes_of(const char *name)
 {
     FILE *file = strcmp(name, "-") == 0 ? NULL : fopen(name, "rb");
@@ -84,7 +84,7 @@ static uint32_t run(char **names, bool light, bool is_cost)
     return status;
 }
 
-/* Plans of this kind into a buffer of so much room; the others take two models. */
+/* Plans of this kind with a buffer of this room; the others take two models. */
 static uint32_t plan_into(const char *kind, struct bytes source, struct bytes target, uint8_t *at, size_t most, size_t *size)
 {
     if (strcmp(kind, "layer") == 0)
@@ -100,7 +100,7 @@ static uint32_t plan_into(const char *kind, struct bytes source, struct bytes ta
     return nanobot_plan_swarm(target.at, target.size, at, most, size);
 }
 
-/* Names are those of the source, the target and the trace that is stored. */
+/* Names are those of the source, the target and the trace to store. */
 static uint32_t plan(const char *kind, char **names)
 {
     struct bytes source = bytes_of(names[0]), target = bytes_of(names[1]);

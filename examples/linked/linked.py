@@ -1,7 +1,7 @@
 #!/usr/bin/env python3
 """nanobot from Python, each call of the library once: `linked.py LIBRARY run S T B`, `.. run light S T B` and `.. check M` print
-what the program prints, `.. cost S T B` the line of an accepted run from its numbers, and `.. plan KIND S T B` stores what the
-program stores and prints its line without the number of commands. Each ends with the program's status. LIBRARY is libnanobot.so,
+the program's line, `.. cost S T B` the line of an accepted run from its numbers, and `.. plan KIND S T B` stores the program's
+file and prints its line without the number of commands. Each exits with the program's status. LIBRARY is libnanobot.so,
 which a package has and scripts/try linked makes."""
 
 import ctypes
@@ -28,7 +28,7 @@ CALLS = {
 
 
 def load(path):
-    """The calls of the library by their names, with their types."""
+    """Returns the calls of the library by their names, with their types."""
     library = ctypes.CDLL(path)
     calls = {name: getattr(library, f"nanobot_{name}") for name in CALLS}
     for name, call in calls.items():
@@ -37,12 +37,12 @@ def load(path):
 
 
 def lend(data):
-    """A pointer and a length. None would be a null pointer, which no call takes, also if the length is 0."""
+    """Returns a pointer and a length. None would be a null pointer, which no call takes, also if the length is 0."""
     return (ctypes.c_uint8 * (len(data) + 1)).from_buffer_copy(data + b"\0"), len(data)
 
 
 def given(call, *lent):
-    """The status and the bytes that a call gives, whose buffer is made larger if it is too small."""
+    """Returns the status and the bytes of a call, whose buffer is made larger if it is too small."""
     room = LINE
     while True:
         buffer = (ctypes.c_uint8 * room)()
@@ -54,7 +54,7 @@ def given(call, *lent):
 
 
 def cost(call, source, target, trace, light):
-    """The status of a run, its energy and its steps."""
+    """Returns the status of a run, its energy and its steps."""
     energy, steps = ctypes.c_int64(), ctypes.c_uint32()
     lent = [part for data in (source, target, trace) for part in lend(data)]
     status = call(*lent, light, ctypes.byref(energy), ctypes.byref(steps))
@@ -62,7 +62,7 @@ def cost(call, source, target, trace, light):
 
 
 def bytes_of(name):
-    """The bytes of a file, or none for `-`."""
+    """Returns the bytes of a file, or none for `-`."""
     if name == "-":
         return b""
     with open(name, "rb") as file:
@@ -70,7 +70,7 @@ def bytes_of(name):
 
 
 def plan(calls, kind, source, target, name):
-    """The status of a plan and the line that is printed; the trace is stored."""
+    """Returns the status of a plan and the printed line; the trace is stored."""
     models = {"void": [source], "low": [target], "swarm": [target]}.get(kind, [source, target])
     status, made = given(calls[f"plan_{kind}"], *[part for model in models for part in lend(model)])
     if status != DONE:

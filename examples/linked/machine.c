@@ -1,6 +1,6 @@
-/* A machine that is kept between steps, from C: `machine run [light] S T B` prints what `nanobot run` prints, step by step. Each step
- * is made, taken back, and made again, and half way the machine goes on as a copy; another machine plays the trace by one call. A trace that is bad or cut is told by the byte
- * alone, and a model that is refused by a number. Ends with the program's status. */
+/* A machine that persists between steps, from C: `machine run [light] S T B` prints the line of `nanobot run`, step by step. Each step
+ * is made, undone, and made again, and half way the machine continues as a copy; another machine plays the trace by one call. For a bad
+ * or cut trace it prints only the byte, and for a refused model a number. Exits with the program's status. */
 #include "nanobot_machine.h"
 
 #include <inttypes.h>
@@ -15,7 +15,7 @@ struct bytes {
     size_t size;
 };
 
-/* The bytes of a file, or none for `-`. */
+/* Returns the bytes of a file, or none for `-`. */
 static struct bytes bytes_of(const char *name)
 {
     struct bytes bytes = {malloc(1), 0};
@@ -32,7 +32,7 @@ static struct bytes bytes_of(const char *name)
     return bytes;
 }
 
-/* How many bytes the command takes whose first byte this is; 1 if it begins none, which the machine says of the step. */
+/* Returns the size in bytes of a command with this first byte; 1 if it begins none, for which the machine refuses the step. */
 static size_t length_of(uint8_t first)
 {
     size_t size = nanobot_command_size(first);
@@ -57,7 +57,7 @@ static uint32_t start(nanobot_machine *machine, struct bytes source, struct byte
     return status;
 }
 
-/* A step that is made, taken back, and made again. */
+/* Makes a step, undoes it, and makes it again. */
 static uint32_t step_twice(nanobot_machine *machine, const uint8_t *commands, size_t size, nanobot_step *step)
 {
     nanobot_state before, after;
@@ -73,7 +73,7 @@ static uint32_t step_twice(nanobot_machine *machine, const uint8_t *commands, si
     return nanobot_machine_step(machine, commands, size, step);
 }
 
-/* The rule that is broken where the trace ends before the bot of this number has a command. */
+/* Prints the broken rule if the trace ends before the bot of this index has a command. */
 static uint32_t trace_ends(nanobot_machine *machine, uint32_t steps, size_t number)
 {
     nanobot_bot bots[MOST_BOTS];
@@ -83,7 +83,7 @@ static uint32_t trace_ends(nanobot_machine *machine, uint32_t steps, size_t numb
     return tell_broken(b);
 }
 
-/* The bytes of the empty model of a resolution. */
+/* Returns the bytes of the empty model of a resolution. */
 static struct bytes empty_model(uint32_t resolution)
 {
     size_t room = (size_t)nanobot_model_room(resolution);
@@ -96,7 +96,7 @@ static struct bytes empty_model(uint32_t resolution)
     return model;
 }
 
-/* Whether the matrix is the target: what is told at the end. */
+/* Compares the matrix with the target, and prints the line at the end. */
 static uint32_t compare(nanobot_machine *machine, struct bytes target, nanobot_state state)
 {
     nanobot_place place;
@@ -111,7 +111,7 @@ static uint32_t compare(nanobot_machine *machine, struct bytes target, nanobot_s
     return status;
 }
 
-/* What is told at the end, where so many bytes of commands are left. */
+/* Prints the line at the end, with this many bytes of commands left. */
 static uint32_t finish(nanobot_machine *machine, struct bytes target, size_t left, nanobot_state state)
 {
     nanobot_broken after = {13, state.steps, 0, 0, 0, 0};
@@ -158,7 +158,7 @@ static uint32_t run(nanobot_machine *machine, struct bytes target, struct bytes 
     }
 }
 
-/* Plays the trace on another machine, which has to come as far as this one. */
+/* Plays the trace on another machine, which must reach the state of this one. */
 static void play(nanobot_machine *machine, struct bytes source, struct bytes target, struct bytes trace, bool light)
 {
     nanobot_machine other = {0};

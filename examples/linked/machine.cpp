@@ -1,5 +1,5 @@
-// A machine that is kept between steps, from C++, as machine.c is from C: `machine run [light] S T B` prints what `nanobot run` prints of
-// a run that is accepted or breaks a rule. Each step is made, taken back, and made again, and half way the machine goes on as a copy;
+// A machine that persists between steps, from C++, as machine.c from C: `machine run [light] S T B` prints the line of `nanobot run` for
+// a run that is accepted or breaks a rule. Each step is made, undone, and made again, and half way the machine continues as a copy;
 // another machine plays the trace by one call.
 #include "nanobot_machine.h"
 
@@ -104,7 +104,7 @@ static Bytes bytes_of(const std::string &name)
     return Bytes(std::istreambuf_iterator<char>(file), {});
 }
 
-// How many bytes the command takes whose first byte this is; 1 if it begins none, which the machine says of the step.
+// Returns the size in bytes of a command with this first byte; 1 if it begins none, for which the machine refuses the step.
 static std::size_t length_of(std::uint8_t first) { return std::max<std::size_t>(nanobot_command_size(first), 1); }
 
 static int finish(Machine &machine, const Bytes &target, bool left)

@@ -1,6 +1,6 @@
 #!/usr/bin/env python3
-"""A machine that is kept between steps, from Python, as machine.c is from C: `machine.py run [light] S T B` prints what `nanobot run`
-prints of a run that is accepted or breaks a rule. Each step is made, taken back, and made again, and half way the machine goes on as a
+"""A machine that persists between steps, from Python, as machine.c from C: `machine.py run [light] S T B` prints the line of `nanobot
+run` for a run that is accepted or breaks a rule. Each step is made, undone, and made again, and half way the machine continues as a
 copy; another machine plays the trace by one call. It needs the package of bindings/python."""
 
 import sys
@@ -10,7 +10,7 @@ from nanobot.trace import orders_at
 
 
 def step_twice(machine, commands):
-    """A step that is made, taken back, and made again."""
+    """Makes a step, undoes it, and makes it again."""
     before = machine.state, machine.bots(), machine.count()
     machine.step(commands)
     machine.undo()
@@ -20,7 +20,7 @@ def step_twice(machine, commands):
 
 
 def finish(machine, target, left):
-    """What is told at the end, where so many bytes of commands are left."""
+    """Returns the outcome at the end, with `left` bytes of commands left."""
     if left:
         raise BrokenRule(13, machine.steps, 0, Coord(0, 0, 0))
     wrong = machine.difference(target or Model.empty(machine.resolution))

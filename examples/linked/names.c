@@ -1,5 +1,5 @@
-/* The tables of the headers, a line each: `names` prints the text of each status, the name of each rule and of each refusal, and how many
- * bytes a command has, by its first byte. */
+/* The tables of the headers, a line each: `names` prints the text of each status, the name of each rule and of each refusal, and the size
+ * of a command by its first byte. */
 #include "nanobot_machine.h"
 
 #include <stdio.h>

@@ -1,5 +1,5 @@
-/* A machine that is refused memory, one allocation after another: each call that is told so leaves the machine as it was, and goes
- * through when it is made again. Link with -Wl,--wrap=malloc,--wrap=realloc. Prints how many allocations were refused. */
+/* Fails the allocations of a machine, one after another: each call that runs out of memory leaves the machine unchanged, and succeeds
+ * when it is made again. Link with -Wl,--wrap=malloc,--wrap=realloc. Prints the number of failed allocations. */
 #include "nanobot_machine.h"
 
 #include <stdio.h>
@@ -8,7 +8,7 @@
 
 enum { RESOLUTION = 8, NOTES = 4, STEPS = 7 };
 
-/* How many allocations go well before one is refused, or -1 for all. */
+/* The number of successful allocations before one fails, or -1 for all. */
 static long left = -1;
 static long refused;
 
@@ -35,7 +35,7 @@ static void must(int holds, const char *what)
     exit(1);
 }
 
-/* What is seen of a machine without taking memory. */
+/* The visible state of a machine that needs no allocation. */
 struct seen {
     nanobot_state state;
     uint32_t full;
@@ -61,7 +61,7 @@ static uint32_t step(nanobot_machine *machine, const uint8_t *commands, size_t s
     return status == NANOBOT_MEMORY ? nanobot_machine_step(machine, commands, size, told) : status;
 }
 
-/* An undo takes no memory. */
+/* An undo succeeds without memory. */
 static uint32_t undo(nanobot_machine *machine)
 {
     struct seen before = see(machine);
@@ -72,7 +72,7 @@ static uint32_t undo(nanobot_machine *machine)
     return status;
 }
 
-/* A step that is judged leaves the machine as it was, whatever it is told. */
+/* A judged step leaves the machine unchanged, whatever the result. */
 static uint32_t judge(nanobot_machine *machine, const uint8_t *commands, size_t size)
 {
     struct seen before = see(machine);
@@ -82,7 +82,7 @@ static uint32_t judge(nanobot_machine *machine, const uint8_t *commands, size_t 
     return status == NANOBOT_MEMORY ? judge(machine, commands, size) : status;
 }
 
-/* A trace of one step, played: where it is refused memory, no step is made. */
+/* A trace of one step, played: if it runs out of memory, no step is made. */
 static void play(nanobot_machine *machine, const uint8_t *trace, size_t size)
 {
     struct seen before = see(machine);

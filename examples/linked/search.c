@@ -1,7 +1,7 @@
-/* A search over two machines, from C: `search T B` builds towards the model T with one bot, by steps that look best two moves deep,
- * stores the trace that it made as B, and prints what `nanobot run - T B` prints of it. One machine makes the steps that are chosen and
- * keeps the trace; on the other, a copy, moves are judged, made and taken back. It gets no farther than two moves see: it shows the
- * calls, and is no planner. Ends with the program's status. */
+/* A search over two machines, from C: `search T B` builds towards the model T with one bot, by the steps that are best two moves deep,
+ * stores its trace as B, and prints the line of `nanobot run - T B` for it. One machine makes the chosen steps and keeps the trace; on
+ * the other, a copy, moves are judged, made and undone. It sees no farther than two moves: it shows the calls, and is no planner. Exits
+ * with the program's status. */
 #include "nanobot_machine.h"
 
 #include <inttypes.h>
@@ -21,7 +21,7 @@ struct move {
     size_t size;
 };
 
-/* How good a state is: first how many voxels are wrong, then the energy. */
+/* The score of a state: first the number of wrong voxels, then the energy. */
 struct score {
     uint32_t wrong;
     int64_t energy;
@@ -46,7 +46,7 @@ static struct bytes bytes_of(const char *name)
     return bytes;
 }
 
-/* The fills of all near coordinates, and the moves by one. */
+/* Returns the fills of all near coordinates, and the moves by one. */
 static size_t list_moves(struct move *moves)
 {
     size_t count = 0;
@@ -76,7 +76,7 @@ static struct score score_of(nanobot_machine *machine)
     return score;
 }
 
-/* The best score that so many moves lead to; the first of them is told. */
+/* Returns the best score after this many moves, and the first of them. */
 static struct score search(nanobot_machine *machine, const struct move *moves, size_t count, int depth, size_t *first)
 {
     struct score best = {UINT32_MAX, 0};
@@ -102,7 +102,7 @@ static struct score search(nanobot_machine *machine, const struct move *moves, s
     return best;
 }
 
-/* Both machines stand alike, and the trace is that of its own text. */
+/* Checks that both machines have the same state, and that the trace is that of its own text. */
 static void check(nanobot_machine *made, nanobot_machine *scout, struct bytes trace)
 {
     nanobot_state a, b;
@@ -130,7 +130,7 @@ static void check(nanobot_machine *made, nanobot_machine *scout, struct bytes tr
         abort();
 }
 
-/* What is told of the trace, which ends before the halt or with it. */
+/* Prints the line for the trace, which ends before the halt or with it. */
 static uint32_t tell(nanobot_machine *machine)
 {
     nanobot_state state;

@@ -1,6 +1,6 @@
-// A search over two machines, from C++, as search.c is from C: `search T B` builds towards the model T by steps that look best two moves
-// deep, stores the trace that it made as B, and prints what `nanobot run - T B` prints of it, which it asks the judge too. It calls the
-// planners besides, so that these two programs in C++ make every call.
+// A search over two machines, from C++, as search.c from C: `search T B` builds towards the model T by the steps that are best two moves
+// deep, stores its trace as B, and prints the line of `nanobot run - T B` for it, which it also compares with the judge's. It also calls
+// the planners, so that these two programs in C++ make every call.
 #include "nanobot_machine.h"
 
 #include <cstdio>
@@ -13,7 +13,7 @@
 #include <vector>
 
 using Bytes = std::vector<std::uint8_t>;
-using Score = std::pair<std::uint32_t, std::int64_t>; // how many voxels are wrong, and the energy
+using Score = std::pair<std::uint32_t, std::int64_t>; // the number of wrong voxels, and the energy
 
 static const int steps = 12;
 
@@ -122,7 +122,7 @@ static std::vector<Bytes> list_moves()
     return moves;
 }
 
-// The best score that so many moves lead to, and the first of them.
+// Returns the best score after this many moves, and the first of them.
 static std::pair<Score, const Bytes *> search(Machine &machine, const std::vector<Bytes> &moves, int depth)
 {
     std::pair<Score, const Bytes *> best = {{std::numeric_limits<std::uint32_t>::max(), 0}, nullptr};
@@ -141,7 +141,7 @@ static std::pair<Score, const Bytes *> search(Machine &machine, const std::vecto
     return best;
 }
 
-// Both machines stand alike, and the trace is that of its own text.
+// Checks that both machines have the same state, and that the trace is that of its own text.
 static void check(Machine &made, Machine &scout, const Bytes &trace)
 {
     nanobot_state a = made.state(), b = scout.state();
@@ -159,7 +159,7 @@ static void check(Machine &made, Machine &scout, const Bytes &trace)
     require(again == trace);
 }
 
-// What a call gives into a buffer of so much room.
+// Returns the output of a call with a buffer of this room.
 template <class Call> static Bytes given(std::uint64_t room, std::uint32_t wanted, Call call)
 {
     Bytes bytes(static_cast<std::size_t>(room));
@@ -177,7 +177,8 @@ static bool is_accepted(const Bytes &source, const Bytes &target, const Bytes &t
     return nanobot_cost(from, source.size(), to, target.size(), trace.data(), trace.size(), false, &energy, &count) == NANOBOT_DONE;
 }
 
-// The judge says of the trace what is told here, and accepts the plans of the planners that build and take down every legal model.
+// Checks that the judge agrees with the line printed here, and that it accepts the plans of the planners that build and take down every
+// legal model.
 static void judge(const Bytes &target, std::uint32_t r, const Bytes &trace, const std::string &line, std::uint32_t wanted)
 {
     const std::uint8_t *t = target.data();

@@ -1,6 +1,6 @@
 #!/usr/bin/env python3
-"""A search over two machines, from Python, as search.c is from C: `search.py T B` builds towards the model T by steps that look best two
-moves deep, stores the trace that it made as B, and prints what `nanobot run - T B` prints of it. It needs the package of
+"""A search over two machines, from Python, as search.c from C: `search.py T B` builds towards the model T by the steps that are best two
+moves deep, stores its trace as B, and prints the line of `nanobot run - T B` for it. It needs the package of
 bindings/python."""
 
 import itertools
@@ -13,7 +13,7 @@ STEPS, HALT = 12, Halt()
 
 
 def moves():
-    """The fills of all near coordinates, and the moves by one."""
+    """Returns the fills of all near coordinates, and the moves by one."""
     for d in itertools.product((-1, 0, 1), repeat=3):
         if sum(map(abs, d)) in (1, 2):
             yield Fill(*d)
@@ -26,12 +26,12 @@ MOVES = list(moves())
 
 
 def score(machine):
-    """How good a state is: first how many voxels are wrong, then the energy."""
+    """Returns the score of a state: first the number of wrong voxels, then the energy."""
     return machine.remaining, machine.energy
 
 
 def accepts(machine, commands):
-    """The outcome of the step; None if it is refused."""
+    """Returns the outcome of the step; None if it is refused."""
     try:
         return machine.judge(commands)
     except NanobotError:
@@ -39,7 +39,7 @@ def accepts(machine, commands):
 
 
 def search(machine, depth):
-    """The best score after `depth` moves, and the first of them."""
+    """Returns the best score after `depth` moves, and the first of them."""
     if depth == 0:
         return score(machine), None
     best = (2**32, 0), None
@@ -56,7 +56,7 @@ def search(machine, depth):
 
 
 def check(made, scout, trace):
-    """Both machines are alike, and the trace is that of its own text."""
+    """Checks that both machines have the same state, and that the trace is that of its own text."""
     assert made.state[:5] == scout.state[:5] and made.count() == scout.count() and nanobot.version() >= "0.9.0"
     assert all(made.full((x, 0, 1)) == (made.level((x, 0, 1)) is not None) for x in range(made.state.resolution))
     assert nanobot.asm(nanobot.dis(trace)) == trace and nanobot.count_commands(trace) == made.steps

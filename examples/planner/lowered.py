@@ -17,7 +17,7 @@ except ImportError:
 
 
 def accepts(machine, step):
-    """Whether the machine would take the step. It stays as it is."""
+    """Returns whether the machine would accept the step. The machine does not change."""
     try:
         machine.judge(step)
     except nanobot.BrokenRule as broken:

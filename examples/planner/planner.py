@@ -19,7 +19,7 @@ def full_voxels(data):
 
 
 def moves(here, there, axes):
-    """SMoves of at most 15 along each of the axes in turn."""
+    """Returns SMoves of at most 15 along each of the axes, one after another."""
     for axis in axes:
         left = there[axis] - here[axis]
         while left:

@@ -3,9 +3,9 @@
 
 Usage: strips.py MODEL TRACE
 
-At most twenty bots stand in a row along x, each at the begin of its strip. They are the bots of one by Fissions, go through their
-strips side by side as the one bot of planner.py does, and fuse again. No two are ever in one another's way: strips are equally
-wide, and all bots stand at the same place of theirs. It judges nothing, as planner.py."""
+At most twenty bots are in a row along x, each at the begin of its strip. They come from one by Fissions, move through their strips
+side by side as the one bot of planner.py does, and fuse again. No two ever get in each other's way: strips are equally wide, and all
+bots are at the same position of theirs. Nothing is judged, as in planner.py."""
 import sys
 
 from planner import FILL_BELOW, FLIP, HALT, X, Y, Z, full_voxels, moves
@@ -16,7 +16,7 @@ SPLIT, PRIMARY, SECONDARY = 22 << 3 | 5, bytes([22 << 3 | 7]), bytes([4 << 3 | 6
 
 
 def strips(voxels, r):
-    """Where the first strip begins, how wide each is, and how many there are: as many as may be, and none leaves the matrix."""
+    """Returns the begin of the first strip, their width, and their number: as many as possible, and none leaves the matrix."""
     first, last = min(v[X] for v in voxels), max(v[X] for v in voxels)
     for width in range(1, last - first + 2):
         count = (last - first) // width + 1
@@ -25,21 +25,21 @@ def strips(voxels, r):
 
 
 def spread(width, count):
-    """The steps, each with a command for each bot, in which the last bot of the row splits and the new one goes on."""
+    """Returns the steps, each with a command for each bot, in which the last bot of the row splits and the new one moves on."""
     for bots in range(1, count):
         yield [WAIT] * (bots - 1) + [bytes([SPLIT, count - bots - 1])]
         yield from ([WAIT] * bots + [move] for move in moves((1, 0, 0), (width, 0, 0), (X,)))
 
 
 def gather(width, count):
-    """The same backwards: the last bot goes beside the one before it, and both fuse."""
+    """Returns the same backwards: the last bot moves next to the one before it, and both fuse."""
     for bots in range(count, 1, -1):
         yield from ([WAIT] * (bots - 1) + [move] for move in moves((width, 0, 0), (1, 0, 0), (X,)))
         yield [WAIT] * (bots - 2) + [PRIMARY, SECONDARY]
 
 
 def sweep(voxels, first, width, count):
-    """The steps of all bots through their strips, layer by layer and line by line, every other line backwards."""
+    """Returns the steps of all bots through their strips, layer by layer and line by line, every other line backwards."""
     here = (0, 0, 0)
     places = {((x - first) % width, y, z) for x, y, z in voxels}
     for x, y, z in sorted(places, key=lambda p: (p[Y], p[X], p[Z] if p[X] % 2 else -p[Z])):

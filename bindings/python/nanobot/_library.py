@@ -111,7 +111,7 @@ Call = Callable[..., int]
 
 
 def _path() -> str:
-    """The library that the environment names; otherwise the one in the package's folder."""
+    """Returns the library that the environment names; otherwise the one in the package's folder."""
     named = os.environ.get("NANOBOT_LIBRARY")
     return named or os.path.join(os.path.dirname(os.path.abspath(__file__)), NAME)
 
@@ -147,12 +147,12 @@ library = _Library()
 
 
 def lend(data: bytes) -> Tuple[bytes, int]:
-    """What a call takes for bytes: a pointer, which is never null, and a length."""
+    """Returns the arguments of a call for bytes: a pointer, which is never null, and a length."""
     return data, len(data)
 
 
 def address_of(data: bytes) -> int:
-    """The address of the bytes, for a call that reads a part of them without a copy. It is never null."""
+    """Returns the address of the bytes, for a call that reads a part of them without a copy. It is never null."""
     return ctypes.cast(ctypes.c_char_p(data), c_void_p).value or 0
 
 
@@ -169,7 +169,7 @@ def _mapped(room: int, least: int) -> mmap.mmap:
 
 
 def _call_once(call: Call, lent: Tuple[Any, ...], room: int, least: int) -> Tuple[int, int, bytes]:
-    """The status, the size and the bytes that a call gives into a buffer of this room, which may be smaller, but has the least."""
+    """Returns the status, the size and the bytes of a call with a buffer of this room, which may be smaller, but has the least."""
     size = c_size_t()
     if room <= SMALL_BUFFER:
         buffer = (c_uint8 * room)()
@@ -183,7 +183,7 @@ def _call_once(call: Call, lent: Tuple[Any, ...], room: int, least: int) -> Tupl
 
 
 def given(call: Call, *lent: Any, room: int = 256) -> Tuple[int, bytes]:
-    """The status and the bytes that a call gives. If the room is too small, the call is made again with what it needs."""
+    """Returns the status and the bytes of a call. If the room is too small, the call is made again with the required room."""
     least = 0
     while True:
         status, size, data = _call_once(call, lent, room, least)

@@ -20,13 +20,13 @@ def _text(difference: Difference) -> str:
 
 
 def _whole(what: str, numbers: Tuple[int, ...], count: int) -> None:
-    """Raises if these are not so many whole numbers."""
+    """Raises if these are not `count` whole numbers."""
     if not isinstance(numbers, tuple) or len(numbers) != count or not all(type(n) is int for n in numbers):
         raise TypeError(f"{what} is {count} whole numbers, not {numbers!r}")
 
 
 def _near_code(word: str, d: Difference) -> int:
-    """The number of a near difference: at most 1 along each axis, and not more than two of them."""
+    """Returns the number of a near difference: at most 1 along each axis, and not more than two of them."""
     _whole(f"the difference of {word}", d, 3)
     if any(abs(n) > 1 for n in d) or not 1 <= sum(abs(n) for n in d) <= 2:
         raise ValueError(f"{word} {_text(d)}: a near difference has -1, 0 or 1 along each axis, and one or two that are not 0")
@@ -34,7 +34,7 @@ def _near_code(word: str, d: Difference) -> int:
 
 
 def _linear(word: str, d: Difference, most: int) -> Tuple[int, int]:
-    """The axis and the length of a linear difference."""
+    """Returns the axis and the length of a linear difference."""
     _whole(f"the difference of {word}", d, 3)
     lengths = [(axis, n) for axis, n in enumerate(d, 1) if n]
     if len(lengths) != 1 or abs(lengths[0][1]) > most:
@@ -176,7 +176,7 @@ class Void(_Near):
 
 @dataclass(frozen=True)
 class Fission(Command):
-    """Makes a bot at the near difference, which gets the next so many seeds: `Fission((0, 0, 1), 5)`."""
+    """Makes a bot at the near difference, which gets the next `seeds` seeds: `Fission((0, 0, 1), 5)`."""
 
     near: Difference
     m: int
@@ -240,7 +240,7 @@ GROUP: Dict[int, Type[_Group]] = {it.code: it for it in (GFill, GVoid)}
 
 
 def _size(head: int) -> int:
-    """How many bytes a command has whose first byte this is; 1 if it begins none."""
+    """Returns the size in bytes of a command with this first byte; 1 if it begins none."""
     if head in SINGLE:
         return 1
     return {0b100: 2, 0b101: 2, 0b001: 4, 0b000: 4}.get(head & 0b111, 1)
@@ -251,7 +251,7 @@ SIZES = bytes(map(_size, range(256)))
 
 
 def _along(axis: int, length: int) -> Difference:
-    """The difference along an axis from 1 to 3. Of another axis it is none, which no command takes."""
+    """Returns the difference along an axis from 1 to 3. Of another axis it is none, which no command takes."""
     return (length if axis == 1 else 0, length if axis == 2 else 0, length if axis == 3 else 0)
 
 
@@ -266,7 +266,7 @@ def _move(head: int, low: int) -> Command:
 
 
 def _spelled(data: bytes) -> Command:
-    """The command of these bytes. Raises ValueError if it is none."""
+    """Returns the command of these bytes. Raises ValueError if it is none."""
     head = data[0]
     if head in SINGLE:
         return SINGLE[head]

@@ -75,7 +75,7 @@ BROKEN_LINE = re.compile(r"broken (\d+) \w+ step (\d+) bid (\d+) at (\d+) (\d+) 
 
 
 def broken_of(line: str) -> Optional[BrokenRule]:
-    """The broken rule that a line of the program names; None for any other line."""
+    """Returns the broken rule that a line of the program names; None for any other line."""
     found = BROKEN_LINE.fullmatch(line)
     if not found:
         return None

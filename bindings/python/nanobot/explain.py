@@ -17,7 +17,7 @@ from .why import Row, spaced, why
 
 
 def _around(data: bytes, offset: int) -> str:
-    """The bytes around an offset, with its own in brackets."""
+    """Returns the bytes around an offset, with its own in brackets."""
     first = max(0, offset - 6)
     return " ".join(f"[{b:02x}]" if i == offset else f"{b:02x}" for i, b in enumerate(data[first : offset + 7], first))
 
@@ -47,12 +47,12 @@ class Runs:
         return machine_of(self.source or None, self.target or None, light=self.light)
 
     def wanted(self, resolution: int) -> Model:
-        """The target."""
+        """Returns the target."""
         return Model.from_bytes(self.target) if self.target else Model.empty(resolution)
 
 
 def _differences(machine: Machine, wanted: Model) -> Iterator[str]:
-    """How many voxels differ from the target, and the least ones."""
+    """Yields the number of voxels that differ from the target, and the least ones."""
     made = machine.matrix()
     differing = (made ^ wanted).full
     yield f"{len(differing)} voxels differ from the target; the least:"
@@ -62,7 +62,7 @@ def _differences(machine: Machine, wanted: Model) -> Iterator[str]:
 
 
 def _bad_bytes(machine: Machine, data: bytes, offset: int, is_cut: bool) -> Iterator[str]:
-    """What stands where a command is bad or cut, and how far the steps before it go."""
+    """Yields the bytes around a bad or cut command, and the outcome of the steps before it."""
     yield f"the command at byte {offset} is {'cut' if is_cut else 'none'}: {_around(data, offset)}"
     start, broken, _ = walk_to_the_end(machine, data[:offset])
     if broken and broken.name == "TraceEnds":
@@ -74,7 +74,7 @@ def _bad_bytes(machine: Machine, data: bytes, offset: int, is_cut: bool) -> Iter
 
 
 def _first_step_with(runs: Runs, extra: Model, last: int) -> Tuple[int, Coord]:
-    """The step after which one of these voxels is full that are void at the start and full after the last step, and that voxel: the first
+    """Returns the step after which one of these voxels is full that are void at the start and full after the last step, and that voxel: the first
     such step, unless some of them are voided in between. It halves the steps, so that each is made some two times."""
     machine, found = runs.start(), extra
     low, high, offset = 0, last, 0
@@ -107,7 +107,7 @@ def _first_extra(machine: Machine, runs: Runs) -> Iterator[str]:
 
 
 def _broken_run(machine: Machine, runs: Runs) -> Iterator[str]:
-    """What a step did that breaks a rule, or what is wrong once no bot is left."""
+    """Yields the lines on a step that breaks a rule, or on the faults once no bot is left."""
     data = runs.data
     offset, broken, row = walk_to_the_end(machine, data)
     if broken:

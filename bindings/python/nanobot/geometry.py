@@ -21,7 +21,7 @@ def _box(a: Coord, b: Coord) -> Box:
 
 
 def named(at: Coord, command: Command) -> List[Coord]:
-    """The coordinates that a bot's command names, one after another."""
+    """Returns the coordinates that a bot's command names, one after another."""
     out: List[Coord] = []
     for d in command.differences:
         out.append(plus(out[-1] if out else at, d))
@@ -29,7 +29,7 @@ def named(at: Coord, command: Command) -> List[Coord]:
 
 
 def boxes(at: Coord, command: Command) -> List[Box]:
-    """What is volatile for a bot with this command, as boxes, besides its own position."""
+    """Returns the volatile coordinates of a bot with this command, as boxes, in addition to its own position."""
     ends = [at, *named(at, command)]
     if command.word in ("GFill", "GVoid"):
         return [_box(ends[1], ends[2])]
@@ -39,7 +39,7 @@ def boxes(at: Coord, command: Command) -> List[Box]:
 
 
 def region(at: Coord, command: Command) -> Optional[Box]:
-    """The region that a command fills or voids, if it does so."""
+    """Returns the region that a command fills or voids, if it does so."""
     if command.word in ("Fill", "Void"):
         c = plus(at, command.differences[0])
         return c, c
@@ -51,12 +51,12 @@ def has(box: Box, c: Coord) -> bool:
 
 
 def meets(one: Box, other: Box) -> bool:
-    """Whether two boxes have a coordinate in common."""
+    """Returns whether two boxes have a coordinate in common."""
     return all(low <= end and begin <= high for low, high, begin, end in zip(*one, *other))
 
 
 def corners_of(box: Box) -> List[Coord]:
-    """The corners of a box, in order."""
+    """Returns the corners of a box, in order."""
     return sorted({Coord(*corner) for corner in product(*zip(*box))})
 
 
@@ -66,6 +66,6 @@ def volume(box: Box) -> int:
 
 
 def is_near(a: Coord, b: Coord) -> bool:
-    """Whether a near difference leads from one coordinate to the other."""
+    """Returns whether a near difference leads from one coordinate to the other."""
     apart = [abs(m - n) for m, n in zip(a, b)]
     return max(apart) == 1 and sum(apart) <= 2

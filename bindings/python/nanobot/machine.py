@@ -42,7 +42,7 @@ WAIT = bytes(Wait())
 
 
 class Bot(NamedTuple):
-    """An active bot: its bid, where it is, and the bids of the bots that it can make."""
+    """An active bot: its bid, its position, and the bids of the bots that it can make."""
 
     bid: int
     at: Coord
@@ -61,7 +61,7 @@ class Step(NamedTuple):
 
 
 class Played(NamedTuple):
-    """How far a trace was played: the steps that were `made`, of the first `used` bytes, and the `energy`, the `steps` so far, the `active` bots and
+    """The progress of a played trace: the steps `made`, of the first `used` bytes, and the `energy`, the `steps` so far, the `active` bots and
     whether harmonics are `high` after them. `refused` is the error that `step` raises for the next step, which begins at byte `used`; None
     if as many steps were made as were asked for, or the bytes ended."""
 
@@ -132,19 +132,19 @@ def coord_of(at: At) -> Coord:
 
 
 def refusal_of(result: lib.Refusal) -> RefusedModel:
-    """Why a model is refused."""
+    """Returns the error of a refused model."""
     at = Coord(result.x, result.y, result.z) if result.number in (6, 7) else None
     return RefusedModel(result.number, result.want, result.have, at)
 
 
 @lru_cache(maxsize=4096)
 def seeds_of(bits: int) -> Tuple[int, ...]:
-    """The numbers of the bits that are 1."""
+    """Returns the numbers of the bits that are 1."""
     return tuple(bit for bit in range(64) if bits >> bit & 1)
 
 
 def count_of(data: bytes) -> int:
-    """How many commands these bytes have, all of which are commands."""
+    """Returns the number of commands in these bytes, all of which are commands."""
     count = at = 0
     while at < len(data):
         count, at = count + 1, at + SIZES[data[at]]
@@ -249,7 +249,7 @@ class Machine:
         return other
 
     def _refusal(self, status: int, broken: lib.Broken, offset: int, data: bytes) -> Optional[NanobotError]:
-        """Why a step of these bytes is refused; None of a step that was made. Raises the error of a status that is no refusal."""
+        """Returns the error of a refused step of these bytes, or None for one that was made. Raises the error of a status that is no refusal."""
         if status == lib.BROKEN:
             return BrokenRule(broken.rule, broken.step, broken.bid, Coord(broken.x, broken.y, broken.z))
         if status == lib.TRACE:
@@ -270,7 +270,7 @@ class Machine:
             raise refused
 
     def _spelled(self, commands: Commands) -> bytes:
-        """The bytes of a step: of a mapping, with Wait for each other active bot."""
+        """Returns the bytes of a step: of a mapping, with Wait for each other active bot."""
         if isinstance(commands, bytes):
             return commands
         if isinstance(commands, Mapping):
@@ -299,11 +299,11 @@ class Machine:
         return Step(result.energy, result.steps, result.active, result.high == 1, result.changed)
 
     def play(self, trace: Source, most: Optional[int] = None, offset: int = 0) -> Played:
-        """Makes the steps of a trace one after another, from a byte on, at most `most` or all, and returns how far it came.
+        """Makes the steps of a trace one after another, from an offset on, at most `most` or all, and returns the progress.
 
-        The trace is bytes or the name of a file. Each step is made as `step` makes it, and may be taken back as others are. A step that is
-        refused ends the call and is result in `refused`; the machine is then as the step before it left it. Nothing is refused where the bytes
-        end behind a step, also if bots are left. A step takes a fraction of a microsecond.
+        The trace is bytes or the name of a file. Each step is made as by `step`, and can be undone as others. A refused
+        step ends the call and is in `refused`; the machine is then in the state before that step. Nothing is refused if the bytes
+        end after a step, also if bots are left. A step takes a fraction of a microsecond.
 
         Raises `Closed`, TypeError, ValueError, OSError or MemoryError; after a MemoryError the steps before it are made."""
         data, result = bytes_of(trace, "a trace"), lib.PlayedTold()
@@ -326,9 +326,9 @@ class Machine:
         return Judged(result.energy, result.halts == 1, result.active, result.high == 1, result.changed)
 
     def why(self, commands: Commands) -> List[str]:
-        """Returns the lines that say why a step of these commands is refused, and none if it is not; makes no step.
+        """Returns the lines that explain the refusal of a step of these commands, and none if it is not refused; makes no step.
 
-        The first line is the error that `step` raises; the others are the commands that have to do with the rule, and what was wanted, as
+        The first line is the error that `step` raises; the others are the commands related to the rule, and its requirement, as
         `python -m nanobot explain` prints them. Raises TypeError and `NoBot` as `step` does, `Closed` or MemoryError."""
         from .why import why_refused
 
@@ -355,7 +355,7 @@ class Machine:
 
     @property
     def steps(self) -> int:
-        """How many steps were made."""
+        """The number of steps made."""
         return self.state.steps
 
     @property
@@ -470,7 +470,7 @@ class Machine:
 
     @property
     def remaining(self) -> Optional[int]:
-        """At how many coordinates the matrix differs from the target; None if `aim` set none. Nothing is counted anew."""
+        """The number of coordinates at which the matrix differs from the target; None if `aim` set none. Nothing is counted again."""
         count = c_uint32()
         status = library.machine_remaining(byref(self._handle), byref(count))
         if status == lib.NO_TARGET:

@@ -21,12 +21,12 @@ def _refused(number: int, want: int = 0, have: int = 0) -> RefusedModel:
 
 
 def _size(resolution: int) -> int:
-    """How many bytes have a bit for each voxel."""
+    """Returns the number of bytes with a bit for each voxel."""
     return (resolution**3 + 7) // 8
 
 
 def _narrow_bits(data: bytes) -> Tuple[int, bytes]:
-    """The resolution and the bits of a model of the first form."""
+    """Returns the resolution and the bits of a model of the first form."""
     r = data[0]
     want = 1 + _size(r)
     if not 1 <= r <= MOST_NARROW:
@@ -53,7 +53,7 @@ def _fill(bits: bytearray, begin: int, end: int) -> None:
 
 
 def _wide_bits(data: bytes) -> Tuple[int, bytes]:
-    """The resolution and the bits of a model of the wide form."""
+    """Returns the resolution and the bits of a model of the wide form."""
     if len(data) < 3:
         raise _refused(8, have=len(data))
     r = int.from_bytes(data[1:3], "big")
@@ -76,7 +76,7 @@ def _wide_bits(data: bytes) -> Tuple[int, bytes]:
 
 
 def _runs(bits: bytes, whole: int) -> Iterator[int]:
-    """The lengths of the runs of void and of full voxels by turns, beginning with void."""
+    """Yields the lengths of the runs of void and of full voxels by turns, beginning with void."""
     run, is_full = 0, False
     for found in RUNS.finditer(bits):
         part = found.group()
@@ -150,7 +150,7 @@ class Voxels(AbstractSet[Coord]):
 
 
 class Model:
-    """Which voxels of a matrix are full. A model does not change.
+    """The full voxels of a matrix. A model is immutable.
 
     `Model.read(path)` and `Model.from_bytes(data)` read one, `Model.from_voxels(resolution, voxels)` makes one; `model.full` are its full
     voxels, `model[x, y, z]` says whether one is full, `bytes(model)` are the bytes of its file, and `a ^ b`, `a & b`, `a | b` and `a - b`

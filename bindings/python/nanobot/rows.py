@@ -19,7 +19,7 @@ class Cost(NamedTuple):
 
 
 def side(source: Optional[Source], what: str) -> bytes:
-    """The bytes of a source or a target. None of them, and the name "-", is the empty model of the other's resolution."""
+    """Returns the bytes of a source or a target. None of them, and the name "-", is the empty model of the other's resolution."""
     return b"" if source is None or source == "-" else bytes_of(source, what)
 
 
@@ -33,10 +33,10 @@ def judge(source: Optional[Source], target: Optional[Source], trace: Source, *, 
     """Judges a whole trace from the source model to the target model, as the program's `run` does, and returns its energy and steps.
 
     Each of the three is bytes or the name of a file, and the models may be a `Model` too. None for the source or the target, as the name
-    "-", is the empty model of the other's resolution. `light` takes the light profile.
+    "-", is the empty model of the other's resolution. `light` selects the light profile.
 
-    Raises `Refused` with the program's line if the trace is not accepted: its `rule`, `step`, `bid` and `at` say which rule is broken,
-    where. Raises TypeError, OSError or MemoryError too. A million steps of one bot take some 0.4 s."""
+    Raises `Refused` with the program's line if the trace is not accepted: its `rule`, `step`, `bid` and `at` are the broken rule
+    with its place. Raises TypeError, OSError or MemoryError too. A million steps of one bot take some 0.4 s."""
     data = bytes_of(trace, "the trace (after the source and the target)")
     models = side(source, "the source"), side(target, "the target")
     lent = [part for it in (*models, data) for part in lib.lend(it)]
@@ -60,7 +60,7 @@ def check(model: Source) -> str:
 
 
 def _stored(call: lib.Call, *parts: bytes, room: int) -> bytes:
-    """The file that a call gives."""
+    """Returns the file of a call."""
     status, made = lib.given(call, *(part for data in parts for part in lib.lend(data)), room=room)
     if status == lib.DONE:
         return made
@@ -101,7 +101,7 @@ def dis(trace: Source) -> str:
 
 
 def _plan(call: lib.Call, *models: bytes) -> bytes:
-    """A plan. The first buffer has room for every plan, so that none is made twice."""
+    """Returns a plan. The first buffer has room for every plan, so that none is made twice."""
     return _stored(call, *models, room=lib.MOST_TRACE)
 
 

@@ -11,7 +11,7 @@ from .machine import Bot, Machine, Source, bytes_of
 from .models import Model
 from .progress import Progress
 
-# How many steps are made between two notes of the byte, and two looks at the clock.
+# The number of steps between two notes of the byte, and between two reads of the clock.
 STRETCH = 1024
 COSTS = {"SMove": 0, "LMove": 4, "Fission": 24, "FusionP": -24}
 
@@ -45,7 +45,7 @@ def machine_of(source: Optional[Source], target: Optional[Source], *, light: boo
 
 
 def trace_ends(machine: Machine, commands: int) -> BrokenRule:
-    """The rule that is broken when a trace ends with so many commands in its last step, fewer than there are bots."""
+    """Returns the broken rule of a trace that ends with `commands` commands in its last step, fewer than there are bots."""
     bot = machine.bots()[commands]
     return BrokenRule(1, machine.steps + 1, bot.bid, bot.at)
 
@@ -59,7 +59,7 @@ class Player:
         self._marks = [(machine.steps, offset)]
 
     def play(self, most: Optional[int] = None, progress: Optional[Progress] = None) -> Optional[NanobotError]:
-        """Makes at most so many steps, or all. Returns why the next step is refused; None if none was."""
+        """Makes at most `most` steps, or all. Returns the error of the next step if it is refused, otherwise None."""
         left = len(self.data) if most is None else most
         while left and self.offset < len(self.data):
             played = self.machine.play(self.data, min(left, STRETCH), self.offset)
@@ -72,7 +72,7 @@ class Player:
         return None
 
     def back_to(self, steps: int) -> bool:
-        """Takes steps back until so many are left, and returns whether enough are noted; otherwise the machine stays."""
+        """Undoes steps until `steps` are left, and returns whether enough are noted; otherwise the machine is unchanged."""
         while len(self._marks) > 1 and self._marks[-1][0] > steps:
             self._marks.pop()
         first, offset = self._marks[-1]
@@ -105,14 +105,14 @@ class TracedStep(NamedTuple):
 
 
 def _regions(orders: Sequence[Order]) -> Tuple[int, int]:
-    """How many voxels the commands fill, and how many they void: each group's region once."""
+    """Returns the numbers of voxels that the commands fill and void: each group's region once."""
     filled = {region(it.bot.at, it.command) for it in orders if isinstance(it.command, (Fill, GFill))}
     voided = {region(it.bot.at, it.command) for it in orders if isinstance(it.command, (Void, GVoid))}
     return sum(volume(box) for box in filled if box), sum(volume(box) for box in voided if box)
 
 
 def _work(order: Order) -> int:
-    """What a command costs beside the voxels that it changes."""
+    """Returns the cost of a command without the voxels that it changes."""
     if order.command.word not in COSTS:
         return 0
     moved = sum(abs(n) for d in order.command.differences for n in d) if order.command.word in ("SMove", "LMove") else 0
@@ -120,8 +120,8 @@ def _work(order: Order) -> int:
 
 
 def _changes(orders: Sequence[Order], work: int, changed: int) -> Tuple[int, int]:
-    """How many voxels a step filled and voided that changed so many, by its cost beside upkeep and moves: of a voxel that is filled 12 or, if
-    it was full, 6, and of one that is voided -12 or, if it was void, 3."""
+    """Returns the numbers of voxels that a step filled and voided, by the number of changed ones and its cost without upkeep and moves. A
+    Fill costs 12 or, if the voxel was full, 6; a Void costs -12 or, if it was void, 3."""
     to_fill, to_void = _regions(orders)
     filled = (work - 6 * to_fill - 3 * to_void + 15 * changed) // 21
     return filled, changed - filled

@@ -46,7 +46,7 @@ class Walk(cmd.Cmd):
         return orders_at(self.data, self._player.offset, self.machine.bots())[0]
 
     def _told_row(self) -> Row:
-        """The next step, or none if its bytes are no commands, which is said."""
+        """Returns the next step, or none if its bytes are no commands, which is printed."""
         try:
             return self._row()
         except BadCommands as bad:
@@ -54,7 +54,7 @@ class Walk(cmd.Cmd):
             return []
 
     def _end(self) -> None:
-        """Says that no step is left, and why the whole trace is refused all the same, where it is."""
+        """Prints that no step is left, and the refusal of the whole trace, if it is refused."""
         self.say("ended")
         try:
             judge(*self._models, self.data, light=self._light)
@@ -76,7 +76,7 @@ class Walk(cmd.Cmd):
             self.say(f"the trace ends: {len(self._row())} commands for {active} bots")
 
     def _play(self, most: Optional[int]) -> Optional[NanobotError]:
-        """Makes so many steps, or all, and returns why the next one is refused."""
+        """Makes `most` steps, or all, and returns the error of the next one, if it is refused."""
         progress = Progress("walk", len(self.data))
         try:
             return self._player.play(most, progress)
@@ -84,14 +84,14 @@ class Walk(cmd.Cmd):
             progress.clear()
 
     def _forwards(self, most: Optional[int] = None) -> None:
-        """Makes so many steps, or all, and says why one is not made."""
+        """Makes `most` steps, or all, and prints the error of one that is refused."""
         wanted = None if most is None else self.machine.steps + most
         refused = self._play(most)
         if wanted is None or self.machine.steps < wanted:
             self._say_why(refused)
 
     def _back_to(self, wanted: int) -> None:
-        """Takes steps back; past the notes the trace is walked anew from its start."""
+        """Undoes steps; past the notes the trace is walked again from its start."""
         if not self._player.back_to(wanted):
             self.machine.close()
             self._start()
@@ -140,7 +140,7 @@ class Walk(cmd.Cmd):
         self._stand()
 
     def do_state(self, _: str) -> None:
-        """state: where the machine stands."""
+        """state: the state of the machine."""
         self._stand()
 
     def do_bots(self, _: str) -> None:

@@ -1,4 +1,4 @@
-"""Which commands of a step have to do with the rule that they break, and what was wanted in their place."""
+"""The commands of a step that are related to the broken rule, and the rule's requirement."""
 
 from __future__ import annotations
 
@@ -20,7 +20,7 @@ def spaced(c: Coord) -> str:
 
 
 def described(row: Row) -> Iterator[str]:
-    """The bots of a step with their commands."""
+    """Yields the bots of a step with their commands."""
     for bot, command, offset in row:
         yield f"  byte {offset}: bot {bot.bid} at {spaced(bot.at)}: {command}"
 
@@ -30,7 +30,7 @@ def command_of(row: Row, bot: Bot) -> Command:
 
 
 def group_of(row: Row, bot: Bot) -> Row:
-    """The bots that act together with this one: those that name the same region, or the other of a fusion."""
+    """Returns the bots that act together with this one: those that name the same region, or the other of a fusion."""
     own = command_of(row, bot)
     if own.word in ("GFill", "GVoid"):
         wanted = region(bot.at, own)
@@ -46,7 +46,7 @@ def group_of(row: Row, bot: Bot) -> Row:
 
 
 def groups_of(row: Row) -> List[Row]:
-    """The groups of a step, in rising order of their leaders."""
+    """Returns the groups of a step, in ascending order of their leaders."""
     out: List[Row] = []
     for bot, _, _ in row:
         if not any(bot.bid == it.bot.bid for members in out for it in members):
@@ -55,7 +55,7 @@ def groups_of(row: Row) -> List[Row]:
 
 
 def _uses(row: Row, c: Coord) -> bool:
-    """Whether a coordinate is volatile for some bot."""
+    """Returns whether a coordinate is volatile for some bot."""
     return any(bot.at == c or any(has(box, c) for box in boxes(bot.at, command)) for bot, command, _ in row)
 
 
@@ -141,7 +141,7 @@ def _group_shape(machine: Machine, broken: BrokenRule, row: Row, own: Row) -> It
 
 
 def _may_belong(order: Order, box: Box, lacking: Sequence[Coord]) -> bool:
-    """Whether a bot outside the group is near a corner that lacks one, or fills or voids some of the group's region."""
+    """Returns whether a bot outside the group is near a corner that lacks one, or fills or voids some of the group's region."""
     other = region(order.bot.at, order.command)
     return any(is_near(order.bot.at, corner) for corner in lacking) or (other is not None and meets(other, box))
 
@@ -182,13 +182,13 @@ WHY: Dict[str, Callable[[Machine, BrokenRule, Row, Row], Iterator[str]]] = {
 
 
 def why(machine: Machine, broken: BrokenRule, row: Row) -> Iterator[str]:
-    """The lines that tell why a step is refused, of a machine before it: which of its commands break the rule, and what was wanted."""
+    """Yields the lines that explain the refusal of a step, from a machine before it: the commands that break the rule, and its requirement."""
     own = [it for it in row if it.bot.bid == broken.bid]
     return WHY[broken.name](machine, broken, row, own)
 
 
 def why_refused(machine: Machine, data: bytes) -> List[str]:
-    """The lines of `Machine.why` for the bytes of a step."""
+    """Returns the lines of `Machine.why` for the bytes of a step."""
     try:
         machine.judge(data)
     except BrokenRule as broken:

@@ -317,7 +317,7 @@ class Models(unittest.TestCase):
 
 
 class Descriptors(unittest.TestCase):
-    """A number where a file or bytes are due is refused by a sentence, and no descriptor of that number is opened or closed."""
+    """A number in place of a file or bytes is refused with a message, and no descriptor of that number is opened or closed."""
 
     CALLS = {
         "a machine": Machine,
@@ -448,7 +448,7 @@ class Plans(unittest.TestCase):
     PLAN = b"\xfe" * 200_000 + b"\xff"
 
     def plan(self, *given):
-        """Stands in for a planner of the library: a plan of more bytes than a small buffer has."""
+        """Replaces a planner of the library: a plan of more bytes than a small buffer has."""
         *_, buffer, room, size = given
         self.calls += 1
         size._obj.value = len(self.PLAN)

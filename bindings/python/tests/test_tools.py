@@ -146,7 +146,7 @@ class Walking(unittest.TestCase):
         self.assertEqual(said[-2:], ["step 1 energy 101 bots 1 low", "  byte 1: bot 1 at 0 0 0: Fill <0,1,0>"])
 
     def test_a_run_that_ends_and_is_refused(self):
-        # P3 has the voxel 1 0 1, and no command fills it; behind the Halt stands a Wait
+        # P3 has the voxel 1 0 1, and no command fills it; a Wait follows the Halt
         self.assertEqual(self.walk("broken", trace=b"\xff")[:2], ["ended", "broken 14 WrongResult step 1 bid 0 at 1 0 1"])
         self.assertEqual(self.walk("broken", trace=b"\xff\xfe")[:2], ["ended", "broken 13 AfterHalt step 1 bid 0 at 0 0 0"])
         self.assertEqual(self.walk("broken")[0], "ended")

@@ -30,7 +30,7 @@ fn score(machine: &mut Machine) -> Score {
     (machine.remaining().unwrap_or(0), machine.state().energy)
 }
 
-/// The best score that so many moves lead to, and which of them is the first.
+/// Returns the best score of `depth` moves, and the index of the first one.
 fn search(machine: &mut Machine, moves: &[Vec<u8>], depth: usize) -> Told<(Score, usize)> {
     if depth == 0 {
         return Ok((score(machine), 0));
@@ -48,7 +48,7 @@ fn search(machine: &mut Machine, moves: &[Vec<u8>], depth: usize) -> Told<(Score
     Ok(best)
 }
 
-/// Both machines stand alike, and the trace is that of its own text.
+/// Checks that both machines have the same state, and that the trace is that of its own text.
 fn check(made: &mut Machine, scout: &mut Machine, trace: &[u8]) -> Told<()> {
     let (a, b) = (made.state(), scout.state());
     assert_eq!((a.energy, a.steps, made.count()), (b.energy, b.steps, scout.count()));

@@ -1,5 +1,5 @@
-//! A machine that is kept between steps: `steps run [light] S T B` prints what `nanobot run` prints of a run that is accepted or breaks a
-//! rule. Each step is made, taken back, and made again, and half way the machine goes on as a copy; another machine plays the trace by one
+//! A machine that persists between steps: `steps run [light] S T B` prints the line of `nanobot run` for a run that is accepted or breaks a
+//! rule. Each step is made, undone, and made again, and half way the machine continues as a copy; another machine plays the trace by one
 //! call.
 
 use nanobot::{Broken, Coord, Machine, Profile, Rule, StepError};
@@ -9,7 +9,7 @@ use std::process::ExitCode;
 
 type Told<T> = Result<T, Box<dyn Error>>;
 
-/// How many bytes the command takes whose first byte this is.
+/// Returns the size in bytes of a command with this first byte.
 fn length_of(head: u8) -> usize {
     if head >= 0xfd {
         return 1;
@@ -17,7 +17,7 @@ fn length_of(head: u8) -> usize {
     [4, 4, 1, 1, 2, 2, 1, 1][usize::from(head & 7)]
 }
 
-/// The bytes of a file, or none for `-`.
+/// Returns the bytes of a file, or none for `-`.
 fn bytes_of(name: &str) -> Told<Option<Vec<u8>>> {
     Ok(if name == "-" { None } else { Some(fs::read(name)?) })
 }
@@ -29,7 +29,7 @@ fn resolution_of(model: &[u8]) -> u32 {
     }
 }
 
-/// A step that is made, taken back, and made again.
+/// Makes a step, undoes it, and makes it again.
 fn step_twice(machine: &mut Machine, commands: &[u8]) -> Result<(), StepError> {
     let before = (machine.state(), machine.bots(), machine.count());
     machine.step(commands)?;
@@ -39,7 +39,7 @@ fn step_twice(machine: &mut Machine, commands: &[u8]) -> Result<(), StepError> {
     machine.step(commands).map(|_| ())
 }
 
-/// The rule that is broken at the end, where so many bytes of commands are left, if one is.
+/// Returns the rule that is broken at the end, with `left` bytes of commands left, if one is.
 fn finish(machine: &mut Machine, target: Option<&[u8]>, left: usize) -> Told<Option<Broken>> {
     let state = machine.state();
     let broken = |rule, at| Some(Broken { rule, step: state.steps, bid: 0, at });

@@ -3,18 +3,18 @@
 use crate::sys;
 use std::alloc::{alloc_zeroed, Layout};
 
-/// The most bytes of a trace, and so of any plan.
+/// The maximum length of a trace in bytes, and so of any plan.
 pub(crate) const MOST_TRACE: usize = 1 << 30;
 
-/// Zeros: as many as the room or, if the system refuses so many, half of it, and so on, but not fewer than the least. Of a large room memory
-/// is taken only as far as it is written.
+/// Returns zeros: `room` of them or, if allocation fails, half as many, and so on, but not fewer than the least. A large buffer occupies
+/// memory only as far as it is written.
 fn zeros(mut room: usize, least: usize) -> Option<Vec<u8>> {
     loop {
         let layout = Layout::array::<u8>(room.max(1)).ok()?;
         // SAFETY: the layout is not empty.
         let at = unsafe { alloc_zeroed(layout) };
         if !at.is_null() {
-            // SAFETY: the allocator gave so many bytes, of this layout, which are zeros.
+            // SAFETY: the allocator returned `room` bytes, of this layout, which are zeros.
             return Some(unsafe { Vec::from_raw_parts(at, room, room.max(1)) });
         }
         room /= 2;
@@ -24,7 +24,7 @@ fn zeros(mut room: usize, least: usize) -> Option<Vec<u8>> {
     }
 }
 
-/// The status and the bytes that a call writes to a buffer. A call whose buffer is too small is made again, with what it needs.
+/// Returns the status and the output of a call. A call whose buffer is too small is made again with the required room.
 pub(crate) fn given(room: usize, mut call: impl FnMut(&mut [u8], &mut usize) -> u32) -> (u32, Vec<u8>) {
     let (mut room, mut least) = (room, 0);
     loop {

@@ -1,4 +1,4 @@
-//! Why a call did not do its work. The machine is then as it was.
+//! The errors of calls. After an error the machine is unchanged.
 
 use crate::{sys, Broken, Coord, Rule};
 use std::error::Error;
@@ -8,34 +8,34 @@ use std::fmt;
 const REFUSALS: [&str; 13] =
     ["", "NoByte", "Resolution", "Short", "Long", "", "Border", "Floating", "WideHead", "WideResolution", "WideRun", "WideShort", "WideLong"];
 
-/// The name of the refusal of a model (docs/FORMATS.md, "Refusals"); "" for a number that is none.
+/// Returns the name of the refusal of a model (docs/FORMATS.md, "Refusals"), or "" for any other number.
 pub fn refusal_name(number: u32) -> &'static str {
     REFUSALS.get(number as usize).copied().unwrap_or("")
 }
 
-/// Memory ran out.
+/// Out of memory.
 #[derive(Clone, Copy, PartialEq, Eq, Debug)]
 pub struct OutOfMemory;
 
-/// Why no trace is kept.
+/// The reason for not keeping a trace.
 #[derive(Clone, Copy, PartialEq, Eq, Debug)]
 pub enum KeepError {
     /// The machine has made steps, so its trace cannot begin here.
     Begun,
 }
 
-/// Why a machine was not started.
+/// The reason for not starting a machine.
 #[derive(Clone, Copy, PartialEq, Eq, Debug)]
 pub enum StartError {
-    /// The model is refused, by the number of the refusal, with what belongs to it: how many bytes it wants, what there is (the
-    /// resolution, bytes or voxels, or the index of a run), and the voxel.
+    /// The model is refused, by the number of the refusal, with its numbers: the required number of bytes, the actual
+    /// resolution, number of bytes or voxels, or index of a run, and the voxel.
     Model { number: u32, want: u32, have: u32, at: Coord },
-    /// More than 4,096 notes were asked for, or a resolution that is not 1 to 400.
+    /// More than 4,096 notes were requested, or a resolution that is not 1 to 400.
     Argument,
     Memory,
 }
 
-/// Why a step was not made.
+/// The reason for refusing a step.
 #[derive(Clone, Copy, PartialEq, Eq, Debug)]
 pub enum StepError {
     /// The commands break a rule.
@@ -46,19 +46,19 @@ pub enum StepError {
     WrongCount { active: u32 },
     /// No bot is active.
     Ended,
-    /// The machine has made as many steps as it makes.
+    /// The machine has made its maximum number of steps.
     TooManySteps,
     Memory,
 }
 
-/// Why no step was taken back.
+/// The reason for not undoing a step.
 #[derive(Clone, Copy, PartialEq, Eq, Debug)]
 pub enum UndoError {
     /// No earlier step is noted.
     NothingNoted,
 }
 
-/// Why the commands of a trace were not counted.
+/// The reason for not counting the commands of a trace.
 #[derive(Clone, Copy, PartialEq, Eq, Debug)]
 pub enum CommandsError {
     /// The command that begins at this byte is bad or cut.
@@ -66,7 +66,7 @@ pub enum CommandsError {
     Memory,
 }
 
-/// Why no trace was given.
+/// The reason for returning no trace.
 #[derive(Clone, Copy, PartialEq, Eq, Debug)]
 pub enum TraceError {
     /// None is kept.
@@ -74,14 +74,14 @@ pub enum TraceError {
     Memory,
 }
 
-/// Why a level was not returned.
+/// The reason for returning no level.
 #[derive(Clone, Copy, PartialEq, Eq, Debug)]
 pub enum LevelError {
     OutOfSpace,
     Memory,
 }
 
-/// Why a target was not compared.
+/// The reason for not comparing a target.
 #[derive(Clone, Copy, PartialEq, Eq, Debug)]
 pub enum TargetError {
     /// The bytes are no model, by the number of the refusal.

@@ -1,7 +1,7 @@
-//! nanobot's machine, judge and planners from Rust: each step is proved to do what the rules of the ICFP Programming Contest 2018 say.
+//! nanobot's machine, judge and planners from Rust: each step is proved to follow the rules of the ICFP Programming Contest 2018.
 //!
-//! A [`Machine`] is kept between steps. The commands of a step are the bytes of a trace, the last steps can be taken back, and a
-//! call that is refused leaves the machine as it was.
+//! A [`Machine`] persists between steps. The commands of a step are the bytes of a trace, the last steps can be undone, and a refused
+//! call leaves the machine unchanged.
 //!
 //! ```
 //! use nanobot::{Machine, Profile};
@@ -29,7 +29,7 @@ pub use rule::{Broken, Rule};
 use buffer::given;
 use std::ptr::null_mut;
 
-/// The most bots that are active at once.
+/// The most active bots.
 pub const MOST_BOTS: usize = 40;
 
 /// A coordinate of a matrix. The axis y points up.
@@ -40,14 +40,14 @@ pub struct Coord {
     pub z: u32,
 }
 
-/// What a run may use: the contest's profile has 39 seeds and all commands, the light one 19 seeds and no Void, GFill and GVoid.
+/// The profile of a run: the contest's has 39 seeds and all commands, the light one 19 seeds and no Void, GFill and GVoid.
 #[derive(Clone, Copy, PartialEq, Eq, Debug)]
 pub enum Profile {
     Full,
     Light,
 }
 
-/// The state after a step: the energy so far, the steps made, how many bots are active, whether harmonics are high; and how many voxels
+/// The state after a step: the energy so far, the steps made, the active bots, whether harmonics are high, and the number of voxels that
 /// the step changed.
 #[derive(Clone, Copy, PartialEq, Eq, Debug)]
 pub struct Step {
@@ -58,8 +58,8 @@ pub struct Step {
     pub changed: u32,
 }
 
-/// How far a trace was played: the steps that were made, of the first `used` bytes, and where the machine stands after them. `refused`
-/// is why the next step was not made, which begins at byte `used`; None where as many were made as were asked for, or the bytes ended.
+/// The progress of a played trace: the steps made, of the first `used` bytes, and the machine's state after them. `refused` is the error of
+/// the next step, which begins at byte `used`, or None if the requested number was made or the bytes ended.
 #[derive(Clone, Copy, PartialEq, Eq, Debug)]
 pub struct Played {
     pub made: u32,
@@ -71,8 +71,8 @@ pub struct Played {
     pub refused: Option<StepError>,
 }
 
-/// What a step would come to: the energy that the machine would have, whether no bot would be left, how many bots would be active, whether
-/// harmonics would be high, and how many voxels would change.
+/// The outcome of a judged step: the energy after it, whether no bot would be left, the active bots, whether harmonics would be high, and
+/// the number of voxels that would change.
 #[derive(Clone, Copy, PartialEq, Eq, Debug)]
 pub struct Judged {
     pub energy: i64,
@@ -82,7 +82,7 @@ pub struct Judged {
     pub changed: u32,
 }
 
-/// The state of a machine. `noted` of its last steps can be taken back.
+/// The state of a machine. `noted` of its last steps can be undone.
 #[derive(Clone, Copy, PartialEq, Eq, Debug)]
 pub struct State {
     pub energy: i64,
@@ -93,7 +93,7 @@ pub struct State {
     pub noted: u64,
 }
 
-/// An active bot. Bit k of `seeds` says that it can make the bot k.
+/// An active bot. Bit k of `seeds` is 1 if it can make the bot k.
 #[derive(Clone, Copy, PartialEq, Eq, Debug)]
 pub struct Bot {
     pub bid: u32,
@@ -101,7 +101,7 @@ pub struct Bot {
     pub seeds: u64,
 }
 
-/// A machine. One thread at a time uses it; it may be moved to another.
+/// A machine. One thread at a time may use it; it may be moved to another.
 ///
 /// Calls that only read take `&mut self` too: the library takes the machine out of its handle for a call and puts it back.
 pub struct Machine {
@@ -112,8 +112,8 @@ pub struct Machine {
 unsafe impl Send for Machine {}
 
 impl Machine {
-    /// The machine over the legal model of these bytes. The last `notes` steps can be taken back, at most 4,096; a noted step keeps
-    /// 6 bytes for each voxel that it changed, which came to 3.7 GB at the worst that was measured.
+    /// Starts a machine over the legal model of these bytes. The last `notes` steps can be undone, at most 4,096; a noted step keeps 6 bytes
+    /// for each voxel that it changed, 3.7 GB in the worst measured case.
     pub fn start(model: &[u8], profile: Profile, notes: u32) -> Result<Machine, StartError> {
         let mut made = Machine::none();
         let mut refusal = sys::Refusal::default();
@@ -124,7 +124,7 @@ impl Machine {
         Ok(made)
     }
 
-    /// The machine over the empty model of a resolution from 1 to 400.
+    /// Starts a machine over the empty model of a resolution from 1 to 400.
     pub fn empty(resolution: u32, profile: Profile, notes: u32) -> Result<Machine, StartError> {
         let mut made = Machine::none();
         let light = profile == Profile::Light;
@@ -140,8 +140,8 @@ impl Machine {
         }
     }
 
-    /// Another machine in the same state, with a trace of its own if one is kept. No step can be taken back in it until it makes some. It takes
-    /// as long as a start over such a model.
+    /// Returns another machine in the same state, with a trace of its own if one is kept. It cannot undo earlier steps. It takes as long as a
+    /// start over such a model.
     pub fn try_clone(&mut self) -> Result<Machine, OutOfMemory> {
         let mut made = Machine::none();
         // SAFETY: the pointers are those of two references.
@@ -153,7 +153,7 @@ impl Machine {
         }
     }
 
-    /// Makes one step: the bytes spell one command for each active bot, in rising order of their bids.
+    /// Makes one step: the bytes spell one command for each active bot, in ascending order of their bids.
     pub fn step(&mut self, commands: &[u8]) -> Result<Step, StepError> {
         let mut told = sys::Step::default();
         // SAFETY: each pointer is that of a slice or a reference.
@@ -168,8 +168,8 @@ impl Machine {
         })
     }
 
-    /// Makes the steps of a trace one after another, at most `most`, until one is refused or the bytes end. The machine is then as the
-    /// last step that was made left it.
+    /// Makes the steps of a trace one after another, at most `most`, until one is refused or the bytes end. The machine is then in the state
+    /// after the last step made.
     pub fn play(&mut self, trace: &[u8], most: u32) -> Played {
         let mut told = sys::Played::default();
         // SAFETY: each pointer is that of a slice or a reference.
@@ -191,7 +191,7 @@ impl Machine {
         }
     }
 
-    /// What a step would come to. The machine stays as it is.
+    /// Returns the outcome of a step without making it. The machine is unchanged.
     pub fn judge(&mut self, commands: &[u8]) -> Result<Judged, StepError> {
         let mut told = sys::Judged::default();
         // SAFETY: each pointer is that of a slice or a reference.
@@ -212,13 +212,13 @@ impl Machine {
         })
     }
 
-    /// Takes the last step back. It never runs out of memory.
+    /// Undoes the last step. Never runs out of memory.
     pub fn undo(&mut self) -> Result<(), UndoError> {
         // SAFETY: the pointer is that of a reference.
         errors::undone(unsafe { sys::nanobot_machine_undo(&mut self.handle) })
     }
 
-    /// The state of the machine.
+    /// Returns the state of the machine.
     pub fn state(&mut self) -> State {
         let mut told = sys::State::default();
         // SAFETY: the pointers are those of two references.
@@ -233,16 +233,16 @@ impl Machine {
         }
     }
 
-    /// The active bots, in rising order of their bids.
+    /// Returns the active bots, in ascending order of their bids.
     pub fn bots(&mut self) -> Vec<Bot> {
         let mut told = [sys::Bot::default(); MOST_BOTS];
         let mut count = 0;
-        // SAFETY: the pointers are those of an array of so many bots and of two references.
+        // SAFETY: the pointers are those of an array of `told.len()` bots and of two references.
         unsafe { sys::nanobot_machine_bots(&mut self.handle, told.as_mut_ptr(), told.len(), &mut count) };
         told[..count].iter().map(bot_of).collect()
     }
 
-    /// Whether the voxel at a coordinate is full; None out of space.
+    /// Returns whether the voxel at a coordinate is full, or None out of space.
     pub fn full(&mut self, c: Coord) -> Option<bool> {
         let mut full = 0;
         // SAFETY: the pointers are those of two references.
@@ -250,7 +250,7 @@ impl Machine {
         (status == sys::DONE).then_some(full == 1)
     }
 
-    /// How far the voxel at a coordinate is from the floor along full voxels; None if it is void or not grounded.
+    /// Returns the distance of the voxel at a coordinate from the floor along full voxels, or None if it is void or not grounded.
     pub fn level(&mut self, c: Coord) -> Result<Option<u32>, LevelError> {
         let mut level = 0;
         // SAFETY: the pointers are those of two references.
@@ -258,7 +258,7 @@ impl Machine {
         Ok(errors::has_level(status)?.then_some(level))
     }
 
-    /// How many voxels are full.
+    /// Returns the number of full voxels.
     pub fn count(&mut self) -> u32 {
         let mut count = 0;
         // SAFETY: the pointers are those of two references.
@@ -266,7 +266,7 @@ impl Machine {
         count
     }
 
-    /// The least coordinate at which the matrix and the model of these bytes differ; None if they are the same.
+    /// Returns the least coordinate at which the matrix and the model of these bytes differ, or None if they are the same.
     pub fn difference(&mut self, target: &[u8]) -> Result<Option<Coord>, TargetError> {
         let (mut place, mut refusal) = (sys::Place::default(), sys::Refusal::default());
         // SAFETY: each pointer is that of a slice or a reference.
@@ -279,7 +279,7 @@ impl Machine {
         Ok(errors::differs(status, &refusal)?.then_some(at))
     }
 
-    /// At how many coordinates the matrix and the model of these bytes differ.
+    /// Returns the number of coordinates at which the matrix and the model of these bytes differ.
     pub fn differences(&mut self, target: &[u8]) -> Result<u32, TargetError> {
         let (mut count, mut refusal) = (0, sys::Refusal::default());
         // SAFETY: each pointer is that of a slice or a reference.
@@ -288,8 +288,8 @@ impl Machine {
         Ok(count)
     }
 
-    /// Makes the model of these bytes the target, and returns at how many coordinates the matrix differs from it. Each step and each
-    /// undo updates that number, which `remaining` returns.
+    /// Makes the model of these bytes the target, and returns the number of coordinates at which the matrix differs from it. Each step and
+    /// each undo updates that number, which `remaining` returns.
     pub fn aim(&mut self, target: &[u8]) -> Result<u32, TargetError> {
         let (mut count, mut refusal) = (0, sys::Refusal::default());
         // SAFETY: each pointer is that of a slice or a reference.
@@ -298,7 +298,7 @@ impl Machine {
         Ok(count)
     }
 
-    /// At how many coordinates the matrix differs from the target; None without one. Nothing is counted anew.
+    /// Returns the number of coordinates at which the matrix differs from the target, without counting again, or None without a target.
     pub fn remaining(&mut self) -> Option<u32> {
         let mut count = 0;
         // SAFETY: the pointers are those of two references.
@@ -306,7 +306,7 @@ impl Machine {
         (status == sys::DONE).then_some(count)
     }
 
-    /// Keeps the trace from here on, unless steps were made before.
+    /// Keeps the trace from now on, unless steps were made before.
     pub fn keep_trace(&mut self) -> Result<(), KeepError> {
         // SAFETY: the pointer is that of a reference.
         match unsafe { sys::nanobot_machine_keep(&mut self.handle) } {
@@ -315,7 +315,7 @@ impl Machine {
         }
     }
 
-    /// The commands of the steps that were made and not taken back, as the bytes of a trace.
+    /// Returns the commands of the steps made and not undone, as the bytes of a trace.
     pub fn trace(&mut self) -> Result<Vec<u8>, TraceError> {
         // SAFETY: the pointers are those of a slice and of two references.
         let call = |bytes: &mut [u8], size: &mut usize| unsafe {
@@ -328,7 +328,7 @@ impl Machine {
         }
     }
 
-    /// The matrix as the bytes of a model.
+    /// Returns the matrix as the bytes of a model.
     pub fn model(&mut self) -> Result<Vec<u8>, OutOfMemory> {
         let r = self.state().resolution as usize;
         // SAFETY: the pointers are those of a slice and of two references.
@@ -342,7 +342,7 @@ impl Machine {
     }
 }
 
-/// How many commands a trace has.
+/// Returns the number of commands of a trace.
 pub fn count_commands(trace: &[u8]) -> Result<u64, CommandsError> {
     let (mut count, mut offset) = (0, 0);
     // SAFETY: each pointer is that of a slice or a reference.
@@ -353,13 +353,13 @@ pub fn count_commands(trace: &[u8]) -> Result<u64, CommandsError> {
     }
 }
 
-/// The version of the library: ten thousand for each first number of it, a hundred for each second, one for each third.
+/// Returns the version of the library: ten thousand for each first number of it, a hundred for each second, one for each third.
 pub fn version() -> u32 {
     // SAFETY: the call takes nothing.
     unsafe { sys::nanobot_version() }
 }
 
-/// A bot as the library returns it.
+/// Converts a bot of the library.
 fn bot_of(told: &sys::Bot) -> Bot {
     Bot {
         bid: told.bid,

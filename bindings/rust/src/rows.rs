@@ -1,4 +1,4 @@
-//! Traces that are judged, models that are checked, and plans.
+//! The judge, checks of models, and plans.
 
 use crate::buffer::{self, MOST_TRACE};
 use crate::{sys, Broken, Profile};
@@ -8,14 +8,14 @@ use std::fmt;
 /// No line of the program is longer.
 const LINE: usize = 256;
 
-/// What an accepted run costs.
+/// The cost of an accepted run.
 #[derive(Clone, Copy, PartialEq, Eq, Debug)]
 pub struct Cost {
     pub energy: i64,
     pub steps: u32,
 }
 
-/// The status and the line that the program prints, which is empty if memory ran out (7).
+/// The status and the printed line of the program; the line is empty if memory ran out (7).
 #[derive(Clone, PartialEq, Eq, Debug)]
 pub struct Refused {
     pub status: u32,
@@ -23,7 +23,7 @@ pub struct Refused {
 }
 
 impl Refused {
-    /// The rule that is broken, if it is one (status 1).
+    /// The broken rule, if there is one (status 1).
     pub fn broken(&self) -> Option<Broken> {
         Broken::of_line(&self.line)
     }
@@ -37,7 +37,7 @@ impl fmt::Display for Refused {
 
 impl Error for Refused {}
 
-/// Which planner plans. Void takes the source alone, Low and Swarm the target alone.
+/// A planner. Void takes only the source, Low and Swarm only the target.
 #[derive(Clone, Copy, PartialEq, Eq, Debug)]
 pub enum Planner {
     Layer,
@@ -48,7 +48,7 @@ pub enum Planner {
     Swarm,
 }
 
-/// What a call gives into a buffer.
+/// Returns the output of a call, or its refusal.
 fn given(room: usize, call: impl FnMut(&mut [u8], &mut usize) -> u32) -> Result<Vec<u8>, Refused> {
     match buffer::given(room, call) {
         (sys::DONE, bytes) => Ok(bytes),
@@ -64,12 +64,12 @@ fn of_one(call: sys::OfOne, model: &[u8], room: usize) -> Result<Vec<u8>, Refuse
     given(room, |buffer, size| unsafe { call(model.as_ptr(), model.len(), buffer.as_mut_ptr(), buffer.len(), size) })
 }
 
-/// The trace that a text spells.
+/// Returns the trace that a text spells.
 pub fn asm(text: &str) -> Result<Vec<u8>, Refused> {
     of_one(sys::nanobot_asm, text.as_bytes(), text.len() + LINE)
 }
 
-/// The text of a trace: a line for each command.
+/// Returns the text of a trace: a line for each command.
 pub fn dis(trace: &[u8]) -> Result<String, Refused> {
     Ok(String::from_utf8_lossy(&of_one(sys::nanobot_dis, trace, 18 * trace.len() + LINE)?).into_owned())
 }
@@ -99,7 +99,7 @@ fn line_of(source: &[u8], target: &[u8], trace: &[u8], light: bool) -> Result<Ve
     })
 }
 
-/// What the trace costs from the source to the target, if it is accepted. None is the empty model of the other's resolution.
+/// Returns the cost of the trace from the source to the target, if it is accepted. None is the empty model of the other's resolution.
 pub fn judge(source: Option<&[u8]>, target: Option<&[u8]>, trace: &[u8], profile: Profile) -> Result<Cost, Refused> {
     let (source, target, light) = (source.unwrap_or(&[]), target.unwrap_or(&[]), profile == Profile::Light);
     let mut cost = Cost { energy: 0, steps: 0 };
@@ -123,14 +123,14 @@ pub fn judge(source: Option<&[u8]>, target: Option<&[u8]>, trace: &[u8], profile
     line_of(source, target, trace, light).map(|_| cost)
 }
 
-/// What the program prints of a legal model: `legal resolution R full N`.
+/// Returns the program's line for a legal model: `legal resolution R full N`.
 pub fn check(model: &[u8]) -> Result<String, Refused> {
     let line = of_one(sys::nanobot_check, model, LINE)?;
     Ok(String::from_utf8_lossy(&line).trim_end().to_owned())
 }
 
-/// A trace from the source to the target. None is the empty model of the other's resolution. The plan is made once: its buffer has room
-/// for every plan, and takes memory only as far as it is written.
+/// Returns a trace from the source to the target. None is the empty model of the other's resolution. The plan is made once: its buffer has
+/// room for every plan, and occupies memory only as far as it is written.
 pub fn plan(planner: Planner, source: Option<&[u8]>, target: Option<&[u8]>) -> Result<Vec<u8>, Refused> {
     let (source, target) = (source.unwrap_or(&[]), target.unwrap_or(&[]));
     match planner {

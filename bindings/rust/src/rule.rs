@@ -44,12 +44,12 @@ const RULES: [Rule; 15] = [
 ];
 
 impl Rule {
-    /// The number of the rule.
+    /// Returns the number of the rule.
     pub fn number(self) -> u32 {
         self as u32
     }
 
-    /// The rule of a number from 1 to 15.
+    /// Returns the rule of a number from 1 to 15.
     pub fn from_number(number: u32) -> Option<Rule> {
         RULES.get((number as usize).wrapping_sub(1)).copied()
     }
@@ -61,7 +61,7 @@ impl fmt::Display for Rule {
     }
 }
 
-/// The rule that is broken, in which step, by which bot (0 for the rules of no bot), and where.
+/// The broken rule, with its step, its bot (0 for the rules of no bot), and its coordinate.
 ///
 /// It prints the line of the program: `broken 12 Ungrounded step 7 bid 0 at 0 1 0`.
 #[derive(Clone, Copy, PartialEq, Eq, Debug)]
@@ -73,7 +73,7 @@ pub struct Broken {
 }
 
 impl Broken {
-    /// The broken rule that a line of the program tells; None of any other line.
+    /// Returns the broken rule of a line of the program, or None for any other line.
     pub(crate) fn of_line(line: &str) -> Option<Broken> {
         let mut words = line.split(' ');
         let mut number = |before: &str| (words.next()? == before).then(|| words.next()?.parse().ok())?;

@@ -1,5 +1,5 @@
-// A machine that is kept between steps, from Go, as machine.c is from C: `machine run [light] S T B` prints what `nanobot run` prints of a
-// run that is accepted or breaks a rule, and ends with its status. The header and the library are found by the environment:
+// A machine that persists between steps, from Go, as machine.c from C: `machine run [light] S T B` prints the line of `nanobot run` for a
+// run that is accepted or breaks a rule, and exits with its status. The header and the library are found by the environment:
 //
 //	CGO_CFLAGS=-I$PWD/include CGO_LDFLAGS=$PWD/out/libnanobot.a go build -C examples/linked/go -o /tmp/machine .
 package main
@@ -7,7 +7,7 @@ package main
 /*
 #include "nanobot_machine.h"
 
-// A slice of no bytes has a null pointer, which no call takes.
+// An empty slice has a null pointer, which no call accepts.
 static const uint8_t *none(void) { return NANOBOT_NONE; }
 */
 import "C"
@@ -20,7 +20,7 @@ import (
 
 const mostBots = 40
 
-// refusal is why a trace is not accepted: the line that nanobot prints, and its status.
+// refusal is the refusal of a trace: the line that nanobot prints, and its status.
 type refusal struct {
 	line   string
 	status int
@@ -96,7 +96,7 @@ func (m *machine) bot(index int) C.nanobot_bot {
 	return bots[index]
 }
 
-// play makes the steps of a trace as far as they go, and returns how many bytes are left.
+// play makes the steps of a trace until one is refused, and returns the number of bytes left.
 func (m *machine) play(trace []byte) (int, error) {
 	var told C.nanobot_played
 	data, size := lend(trace)
@@ -115,7 +115,7 @@ func (m *machine) play(trace []byte) (int, error) {
 	}
 }
 
-// commands returns how many commands the bytes spell.
+// commands returns the number of commands that the bytes spell.
 func commands(trace []byte) int {
 	var count, offset C.uint64_t
 	data, size := lend(trace)
@@ -123,7 +123,7 @@ func commands(trace []byte) int {
 	return int(count)
 }
 
-// finish judges the end of a run, after which so many bytes are left.
+// finish judges the end of a run, with this many bytes left.
 func (m *machine) finish(target []byte, left int) error {
 	state := m.state()
 	if left > 0 {

@@ -41,7 +41,7 @@ def _print(given: argparse.Namespace, records: Sequence[Dict[str, object]], tabl
 
 
 def _number(least: int, most: int) -> Callable[[str], int]:
-    """The type of an argument that is a number within bounds."""
+    """Returns the type of an argument that is a number within bounds."""
 
     def number(word: str) -> int:
         if not re.fullmatch("[1-9][0-9]*", word) or not least <= int(word) <= most:

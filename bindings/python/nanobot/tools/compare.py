@@ -27,7 +27,7 @@ class Problem:
 
 
 def problems(models: Path) -> List[Problem]:
-    """The problems of a folder, by the contest's names (NAME_src.mdl, NAME_tgt.mdl), or of a file with `NAME SOURCE TARGET` lines.
+    """Returns the problems of a folder, by the contest's names (NAME_src.mdl, NAME_tgt.mdl), or of a file with `NAME SOURCE TARGET` lines.
 
     Raises ValueError for a line that is none, and OSError."""
     if models.is_dir():
@@ -49,7 +49,7 @@ def problems(models: Path) -> List[Problem]:
 
 
 def plan(planner: str, problem: Problem) -> Optional[bytes]:
-    """The plan of a planner for a problem, None if it plans no such problem. Raises `Refused`."""
+    """Returns the plan of a planner for a problem, None if it plans no such problem. Raises `Refused`."""
     both: Dict[str, Callable[..., bytes]] = {"layer": plan_layer, "group": plan_group, "crew": plan_crew}
     up: Dict[str, Callable[..., bytes]] = {"low": plan_low, "swarm": plan_swarm}
     if planner in both:
@@ -85,7 +85,7 @@ class Column:
         return path.read_bytes() if path.exists() else None
 
     def energy(self, name: str) -> Optional[int]:
-        """The energy of an accepted trace."""
+        """Returns the energy of an accepted trace."""
         result = self.results[name]
         return result.energy if isinstance(result, Cost) else None
 
@@ -99,11 +99,11 @@ class Comparison:
     baseline: Optional[Column] = None
 
     def best(self, name: str) -> Optional[int]:
-        """The least energy for a problem."""
+        """Returns the least energy for a problem."""
         return min((energy for column in self.columns if (energy := column.energy(name)) is not None), default=None)
 
     def ratio(self, column: Column, name: str) -> Optional[float]:
-        """The energy for a problem over the best one or the baseline's; None if one of them is missing or 0."""
+        """Returns the energy for a problem over the best one or the baseline's; None if one of them is missing or 0."""
         energy, base = column.energy(name), (self.baseline.energy(name) if self.baseline else self.best(name))
         return energy / base if energy is not None and base else None
 
@@ -112,7 +112,7 @@ class Comparison:
         return [column.name for column in self.columns if best is not None and column.energy(name) == best]
 
     def mean(self, column: Column) -> Optional[float]:
-        """The geometric mean of the ratios."""
+        """Returns the geometric mean of the ratios."""
         logs = [math.log(ratio) for problem in self.problems if (ratio := self.ratio(column, problem.name))]
         return math.exp(sum(logs) / len(logs)) if logs else None
 
@@ -122,7 +122,7 @@ class Comparison:
 
 
 def compare(found: List[Problem], columns: List[Column], baseline: Optional[Column] = None) -> Comparison:
-    """Judges the traces of all columns for all problems, and plans where a column is a planner. Raises OSError."""
+    """Judges the traces of all columns for all problems, and plans for a column that is a planner. Raises OSError."""
     every = [*columns, *([baseline] if baseline else [])]
     progress, done = Progress("compare", len(found) * len(every)), 0
     for problem in found:
@@ -145,7 +145,7 @@ def _ratio(ratio: Optional[float]) -> str:
 
 
 def table(found: Comparison) -> Iterator[str]:
-    """The comparison as lines for people: energies and steps, ratios, winners; then wins, means and refusals."""
+    """Yields the comparison as lines for people: energies and steps, ratios, winners; then wins, means and refusals."""
     names = [column.name for column in found.columns]
     rows = [["problem", *(part for name in names for part in (name, "steps", "ratio")), "winner"]]
     for problem in found.problems:
@@ -168,7 +168,7 @@ def table(found: Comparison) -> Iterator[str]:
 
 
 def records(found: Comparison) -> List[Dict[str, object]]:
-    """The comparison as one record for each problem and column."""
+    """Returns the comparison as one record for each problem and column."""
     out: List[Dict[str, object]] = []
     for problem in found.problems:
         for column in found.columns:
@@ -184,7 +184,7 @@ def records(found: Comparison) -> List[Dict[str, object]]:
 
 
 def columns_of(folders: List[str], planners: str) -> List[Column]:
-    """The columns of a command: planners first, then folders. Folders of one name are told apart by their paths."""
+    """Returns the columns of a command: planners first, then folders. Folders of the same name are distinguished by their paths."""
     paths = [Path(folder) for folder in folders]
     names = [path.resolve().name for path in paths]
     distinct = [str(path) if names.count(name) > 1 or name in PLANNERS else name for path, name in zip(paths, names)]

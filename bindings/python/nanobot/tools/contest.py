@@ -34,7 +34,7 @@ def _found(folder: Path) -> Iterator[Path]:
 
 
 def find(folders: List[Path]) -> Files:
-    """The models and traces of folders. Raises ValueError for two different models of one name, and if there is no
+    """Returns the models and traces of folders. Raises ValueError for two different models of one name, and if there is no
     model; and OSError."""
     models: Dict[str, Path] = {}
     traces: List[Path] = []

@@ -18,8 +18,8 @@ from ..progress import Progress
 from .judge import Outcome, Run, judge_here
 from .program import Unavailable, program
 
-# Makes a run on a host, where the program and the files lie below the folder that it is started in, or here, if they do
-# not.
+# Makes a run on a host, with the program and the files below the folder that it is started in, or here, if they are not
+# there.
 ON_A_HOST = r"""below=$PWD; program=./nanobot; [ -x "$program" ] || { below=; program=PROGRAM; }
 named() { case $1 in -) echo - ;; *) echo "$below$1" ;; esac; }
 said=$(LIMIT"$program" run "$(named {3})" "$(named {4})" "$(named {5})" 2>&1)
@@ -146,7 +146,7 @@ class Hosts:
         return [*words, "-a", str(jobs), command]
 
     def _log(self, numbers: List[int]) -> Dict[int, Tuple[str, str]]:
-        """What to say of each run that has no answer, by the log of parallel: its line N + 1 begins with the number of
+        """Returns the message for each run without an answer, by the log of parallel: its line N + 1 begins with the number of
         a job."""
         out = {number: ("-", "was not run") for number in numbers}
         with suppress(FileNotFoundError):
@@ -157,7 +157,7 @@ class Hosts:
 
 
 def _job(run: Run) -> List[str]:
-    """The trace, then source, target and trace as whole names or -, and the files that are sent for source and
+    """Returns the trace, then source, target and trace as whole names or -, and the files that are sent for source and
     target."""
     whole = ["-" if name == "-" else os.path.realpath(name) for name in run[:3]]
     return [run.trace, *whole, *(whole[2] if name == "-" else name for name in whole[:2])]

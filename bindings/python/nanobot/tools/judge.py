@@ -47,13 +47,13 @@ class Outcome(NamedTuple):
 
 
 def record_of_run(outcome: Outcome) -> Dict[str, object]:
-    """The record of a run among those of models."""
+    """Returns the record of a run among those of models."""
     record: Dict[str, object] = {"model": None}
     return {**record, **outcome.record()}
 
 
 def record_of_model(name: str, line: str) -> Dict[str, object]:
-    """The record of a refused model, with the fields of a run's."""
+    """Returns the record of a refused model, with the fields of a run's."""
     record: Dict[str, object] = {
         "model": name,
         "trace": None,
@@ -67,7 +67,7 @@ def record_of_model(name: str, line: str) -> Dict[str, object]:
 
 
 def runs_of(text: str) -> List[Run]:
-    """The runs of lines SOURCE TARGET TRACE. Raises ValueError for a line that is none."""
+    """Returns the runs of lines SOURCE TARGET TRACE. Raises ValueError for a line that is none."""
     runs = []
     for line in text.splitlines():
         words = line.split()
@@ -87,7 +87,7 @@ def judge_here(runs: List[Run], jobs: int, seconds: Optional[int]) -> List[Outco
 
 
 def accepted(outcomes: Iterable[Outcome]) -> bool:
-    """Whether all traces are accepted."""
+    """Returns whether all traces are accepted."""
     return all(outcome.cost for outcome in outcomes)
 
 

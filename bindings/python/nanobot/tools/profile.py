@@ -20,7 +20,7 @@ BARS = " ▁▂▃▄▅▆▇█"
 
 @dataclass
 class Profile:
-    """What a trace spends: the line of its verdict, and the counts of its steps in equal parts, from first to last."""
+    """The costs of a trace: the line of its verdict, and the counts of its steps in equal parts, from first to last."""
 
     line: str
     resolution: int
@@ -33,12 +33,12 @@ class Profile:
         return summed(self.parts)
 
     def phases(self) -> List[Counts]:
-        """The counts of the steps in ten parts."""
+        """Returns the counts of the steps in ten parts."""
         size = COLUMNS // PHASES
         return [summed(self.parts[first : first + size]) for first in range(0, COLUMNS, size)]
 
     def energy(self, counts: Counts) -> Dict[str, int]:
-        """The energy of these steps by cause (docs/FORMATS.md, "Commands")."""
+        """Returns the energy of these steps by cause (docs/FORMATS.md, "Commands")."""
         volume = self.resolution**3
         return {
             "upkeep under Low": 3 * volume * (counts.steps - counts.high),
@@ -56,7 +56,7 @@ def summed(parts: List[Counts]) -> Counts:
 
 
 def source_model(source: Optional[Source], target: Optional[Source]) -> Model:
-    """The source model of a run."""
+    """Returns the source model of a run."""
     if source is not None and source != "-":
         return Model.from_bytes(bytes_of(source, "the source"))
     return Model.empty(Model.from_bytes(bytes_of(target or b"", "the target")).resolution)
@@ -107,7 +107,7 @@ def phases(found: Profile) -> Iterator[str]:
 
 
 def advice(found: Profile) -> Iterator[str]:
-    """What to look at first, the greatest loss first."""
+    """Yields the points to improve, the greatest loss first."""
     whole = found.whole
     spent = found.energy(whole)
     total = max(sum(spent.values()), 1)
@@ -142,7 +142,7 @@ def timeline(found: Profile) -> Iterator[str]:
 
 
 def told(found: Profile, chart: bool) -> Iterator[str]:
-    """The lines of a profile."""
+    """Yields the lines of a profile."""
     whole = found.whole
     yield found.line
     yield f"resolution {found.resolution}, {whole.steps} steps, {whole.bots} commands, at most {found.most_bots} bots, {whole.bots / max(whole.steps, 1):.1f} on average"

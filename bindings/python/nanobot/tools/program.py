@@ -39,7 +39,7 @@ def _stop(number: int, _: Optional[FrameType]) -> None:
 
 @contextmanager
 def stoppable() -> Iterator[None]:
-    """In this block TERM and HUP raise SystemExit, as Ctrl-C raises KeyboardInterrupt, so that what was begun is
+    """Makes TERM and HUP raise SystemExit in this block, as Ctrl-C raises KeyboardInterrupt, so that started work is
     ended."""
     numbers = [number for number in (signal.SIGTERM, signal.SIGHUP) if signal.getsignal(number) != signal.SIG_IGN]
     before = {number: signal.signal(number, _stop) for number in numbers}

@@ -17,7 +17,7 @@ EIGHT = [bytes(byte >> bit & 1 for bit in range(8)) for byte in range(256)]
 
 @dataclass
 class Counts:
-    """What some steps came to: numbers of steps, of commands and of voxels."""
+    """The counts of some steps: numbers of steps, of commands and of voxels."""
 
     steps: int = 0
     high: int = 0  # steps under High harmonics
@@ -148,7 +148,7 @@ class Player:
         return at + 1
 
     def _group(self, index: int, head: int, at: int) -> int:
-        """A GFill or a GVoid. The members of a group name one region, which is done once."""
+        """Applies a GFill or a GVoid. The members of a group name the same region, which is changed once."""
         corner = self._places[index] + self._near[head >> 3]
         sides = [byte - 30 for byte in self._trace[at + 1 : at + 4]]
         low = corner + sum(min(side, 0) * stride for side, stride in zip(sides, self._strides[1:]))
@@ -174,7 +174,7 @@ class Player:
             self.counts.revoided += x * y * z - was
 
     def _regroup(self) -> None:
-        """The bots after Fissions, Fusions and a Halt."""
+        """Updates the bots after Fissions, Fusions and a Halt."""
         bots = {bid: (place, seeds) for bid, place, seeds in zip(self._bids, self._places, self._seeds)}
         for index, place, given in self._born:
             bid = self._bids[index]

@@ -51,7 +51,7 @@ class Rows:
         self.bits = grounded
 
     def model(self) -> Model:
-        """The model with these voxels."""
+        """Returns the model with these voxels."""
         r = self.resolution
         data = bytearray((r**3 + 7) // 8 + r)
         for x, wall in enumerate(self.bits):
@@ -99,7 +99,7 @@ def sphere(resolution: int, hollow: bool = False) -> Model:
     """Returns the model of the largest ball that touches the floor, or of its shell of two voxels."""
     rows = _size(resolution)
     radius = max((resolution - 3) / 2, 0)
-    middle, height = (resolution - 1) / 2, radius - 0.5  # half a voxel lower than a ball that touches the floor, so it stands on a cap
+    middle, height = (resolution - 1) / 2, radius - 0.5  # half a voxel lower than a ball that touches the floor, so it rests on a cap
     for x in range(resolution):
         for y in range(resolution):
             apart = (x - middle) ** 2 + (y - height) ** 2
@@ -132,7 +132,7 @@ def _layers(model: Model) -> List[List[str]]:
 
 
 def _bounds(tests: Iterable[bool]) -> Tuple[int, int]:
-    """The first and the one past the last that hold."""
+    """Returns the first and the one past the last that hold."""
     hold = [place for place, test in enumerate(tests) if test]
     return hold[0], hold[-1] + 1
 

@@ -16,7 +16,7 @@ def _sum(place: Place, difference: Place) -> Place:
 
 
 def after(bots: Bots, commands: List[Command]) -> Bots:
-    """The bots after a step: by bid the place and the seeds. Raises LookupError if the step breaks a rule that the trace alone shows."""
+    """Returns the bots after a step: by bid the position and the seeds. Raises LookupError if the step breaks a rule that the trace alone shows."""
     later: Bots = {}
     fusing = []
     for (bid, (place, seeds)), command in zip(sorted(bots.items()), commands):
@@ -40,7 +40,7 @@ def after(bots: Bots, commands: List[Command]) -> Bots:
 
 
 def _step(trace: bytes, offset: int, count: int) -> Tuple[List[Tuple[int, Command]], int, Optional[BadCommands]]:
-    """At most so many commands from a byte on with their offsets, the byte behind them, and the fault that ended them early."""
+    """Returns at most `count` commands from an offset on with their offsets, the offset after them, and the fault that ended them early."""
     row: List[Tuple[int, Command]] = []
     while len(row) < count and offset < len(trace):
         try:
@@ -53,9 +53,9 @@ def _step(trace: bytes, offset: int, count: int) -> Tuple[List[Tuple[int, Comman
 
 
 def listed(trace: bytes, first: int = 1, last: Optional[int] = None) -> Iterator[str]:
-    """Yields a line for each command of the steps from `first` to `last`: its step, bot, byte, number, the bot's place before the step, and
-    its text. Which bot a command is for follows from the trace alone as long as no rule is broken; nothing is judged. The last line says
-    where that ends, if it ends before the trace does."""
+    """Yields a line for each command of the steps from `first` to `last`: its step, bot, byte, number, the bot's position before the step, and
+    its text. The trace alone determines the bot of a command as long as no rule is broken; nothing is judged. The last line reports
+    the end of that, if it is before the end of the trace."""
     bots: Bots = {1: ((0, 0, 0), list(range(2, 41)))}
     step = number = offset = 0
     while offset < len(trace) and bots and (last is None or step < last):

@@ -19,17 +19,17 @@ def aligned(rows: List[List[str]]) -> Iterator[str]:
 
 
 def share(part: int, whole: int) -> str:
-    """A part of a whole in per cent."""
+    """Returns a part of a whole in per cent."""
     return f"{100 * part / whole:.1f} %" if whole else "-"
 
 
 def as_json(records: Sequence[Dict[str, object]]) -> str:
-    """The records as a list of JSON."""
+    """Returns the records as a list of JSON."""
     return json.dumps(records, indent=2)
 
 
 def as_csv(records: Sequence[Dict[str, object]]) -> str:
-    """The records as lines with commas, below the names of their fields."""
+    """Returns the records as lines with commas, below the names of their fields."""
     out = io.StringIO()
     writer = csv.DictWriter(out, list(records[0]) if records else [], lineterminator="\n")
     writer.writeheader()
@@ -38,5 +38,5 @@ def as_csv(records: Sequence[Dict[str, object]]) -> str:
 
 
 def printable(text: str) -> str:
-    """The text with a mark for each byte of a file's name that is no text."""
+    """Returns the text with a mark for each byte of a file's name that is no text."""
     return os.fsencode(text).decode(errors="replace")

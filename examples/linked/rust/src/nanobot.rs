@@ -1,5 +1,5 @@
 //! Safe functions over the exports of the static library. The declarations are those of `include/nanobot.h`; slices and
-//! references of Rust keep what is asked there of pointers and lengths.
+//! references of Rust follow its rules for pointers and lengths.
 
 mod sys {
     extern "C" {
@@ -79,10 +79,10 @@ pub const DONE: u32 = 0;
 /// The status of a buffer that is too small.
 const TOO_SMALL: u32 = 10;
 
-/// A status, and the line that is printed, or the bytes of a plan.
+/// A status, and the printed line or the bytes of a plan.
 pub type Told = (u32, Vec<u8>);
 
-/// Which planner plans.
+/// A planner.
 #[derive(Clone, Copy)]
 pub enum Planner {
     Layer,
@@ -93,7 +93,7 @@ pub enum Planner {
     Swarm,
 }
 
-/// What a call gives into a buffer, which is made larger if it is too small.
+/// Returns the output of a call, whose buffer is made larger if it is too small.
 fn given(call: impl Fn(&mut [u8], &mut usize) -> u32) -> Told {
     let mut buffer = vec![0; 200];
     loop {
@@ -137,7 +137,7 @@ pub fn judge(source: &[u8], target: &[u8], trace: &[u8], light: bool) -> Told {
     })
 }
 
-/// Judges as `judge` does: the status, the energy and the steps, both 0 if the run is not accepted.
+/// Judges as `judge` does, and returns the status, the energy and the steps, both 0 if the run is not accepted.
 pub fn cost(source: &[u8], target: &[u8], trace: &[u8], light: bool) -> (u32, i64, u32) {
     let (mut energy, mut steps) = (0, 0);
     // SAFETY: as above, and both numbers are borrowed for the call alone.
