@@ -13,7 +13,7 @@ signal.signal(signal.SIGPIPE, signal.SIG_DFL)
 
 
 def _make(where):
-    """A new folder, in which a file was written. Ends the script with 12 if there is none."""
+    """Returns a new folder, in which a file was written. Ends the script with 12 if there is none."""
     name = ""
     try:
         name = tempfile.mkdtemp(dir=where)
@@ -38,7 +38,7 @@ def _remove(name):
 
 @contextlib.contextmanager
 def folder():
-    """The name of a temporary folder, which is removed at the end, also on a signal and on a closed pipe. What the script starts makes
+    """Returns the name of a temporary folder, which is removed at the end, also on a signal and on a closed pipe. What the script starts makes
     its temporary files there."""
     for number in SIGNALS:
         if signal.getsignal(number) != signal.SIG_IGN:

@@ -39,7 +39,7 @@ def _functions(tree: Tree, crate: str) -> Iterator[Function]:
 
 
 def bundles(tree: Tree, crate: str) -> Iterator[tuple[str, tuple[str, ...], list[Function]]]:
-    """Each large enough set of clauses that two functions share, with all functions that have it."""
+    """Yields each large enough set of clauses that two functions share, with all functions that have it."""
     functions = list(_functions(tree, crate))
     pairs = itertools.combinations(functions, 2)
     for clauses in {tuple(it for it in one.clauses if it in other.clauses) for one, other in pairs}:
@@ -49,7 +49,7 @@ def bundles(tree: Tree, crate: str) -> Iterator[tuple[str, tuple[str, ...], list
 
 
 def rows(tree: Tree, crates: list[str]) -> Iterator[str]:
-    """The bundles, those first that would save most lines."""
+    """Yields the bundles, those first that would save most lines."""
     found = [bundle for crate in crates for bundle in bundles(tree, crate)]
     found.sort(key=lambda it: (-(len(it[1]) - 1) * len(it[2]), it[0], it[1]))
     for crate, clauses, having in found:

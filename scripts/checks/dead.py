@@ -93,7 +93,7 @@ class Module:
                 self.cases.update((case, name) for case in CASE.findall("\n".join(it.lines)))
 
     def named(self, text: str) -> Iterator[Key]:
-        """The items of modules that a text of this file may name."""
+        """Yields the items of modules that a text of this file may name."""
         for word in set(NAME.findall(text)):
             first, _, rest = word.partition(".")
             if rest and first in self.aliases:
@@ -104,14 +104,14 @@ class Module:
                 yield self.name, first
 
     def named_by_paths(self) -> Iterator[Key]:
-        """The items that a source names by their paths, as `using(crate::proofs::Lists::same)`."""
+        """Yields the items that a source names by their paths, as `using(crate::proofs::Lists::same)`."""
         for crate, part, inner, name in PATH.findall(self.text):
             first = self.name.split(".")[1] if crate == "crate" else crate
             yield ".".join(("Rattle", first, part, *inner[:-2].split("::"))), name
 
 
 def _modules(tree: Tree) -> tuple[dict[str, Module], list[Module]]:
-    """The modules with items that something has to name, and the files that name things by themselves."""
+    """Returns the modules with items that something has to name, and the files that name things by themselves."""
     library, roots = {}, []
     for path, text in tree.files("(?:proofs|specs|src)/"):
         _, crate, part, *inner = path.rsplit(".", 1)[0].split("/")
@@ -127,7 +127,7 @@ def _modules(tree: Tree) -> tuple[dict[str, Module], list[Module]]:
 
 
 def unreached(tree: Tree) -> Iterator[tuple[str, int, str]]:
-    """The items that nothing reaches: path of the module below crates/, line and name."""
+    """Yields the items that nothing reaches: path of the module below crates/, line and name."""
     library, roots = _modules(tree)
     pending = [key for module in roots for key in (*module.named(module.text), *module.named_by_paths())]
     seen: set[Key] = set()

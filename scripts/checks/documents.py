@@ -68,7 +68,7 @@ def _faults_of_samples(path: str, text: str, sources: list[str]) -> Iterator[str
 
 
 def _faults_of_readme(tree: Tree, crate: str) -> Iterator[str]:
-    """A README lists exactly the files of src/ and specs/, and the crates below and above as crates.txt does."""
+    """Checks that a README lists exactly the files of src/ and specs/, and the crates below and above as crates.txt does."""
     text = tree.readme(crate)
     if not text:
         yield f"{crate} has no README.md"
@@ -84,7 +84,7 @@ def _faults_of_readme(tree: Tree, crate: str) -> Iterator[str]:
 
 
 def _neighbors(tree: Tree, crate: str) -> str:
-    """What a README says of the crates below and above."""
+    """Returns the sentence of a README on the crates below and above."""
     below = [it for it in tree.crates[crate] if it in tree.crates]
     of_kit = [it for it in tree.crates[crate] if it not in tree.crates]
     above = [it for it in tree.crates if crate in tree.crates[it]]
@@ -101,7 +101,7 @@ def _quoted(names: list[str]) -> str:
 
 
 def _faults_of_promises(tree: Tree, crate: str) -> Iterator[str]:
-    """docs/PROMISES.md names each public call of a library crate."""
+    """Checks that docs/PROMISES.md names each public call of a library crate."""
     root = tree.texts.get(f"crates/{crate}/src/lib.rt")
     if crate in UNPROMISED or root is None:
         return
@@ -115,7 +115,7 @@ def _faults_of_promises(tree: Tree, crate: str) -> Iterator[str]:
 
 
 def _calls(text: str) -> Iterator[tuple[str, str]]:
-    """The public functions of a file, each with the type whose method it is, or an empty text."""
+    """Yields the public functions of a file, each with the type whose method it is, or an empty text."""
     owner = ""
     for line in text.splitlines():
         if opened := re.match(r"impl(?:<[^>]*>)? (?:[\w<>]+ for )?(\w+)", line):
@@ -127,7 +127,7 @@ def _calls(text: str) -> Iterator[tuple[str, str]]:
 
 
 def _faults_of_counts(tree: Tree) -> Iterator[str]:
-    """README.md and docs/PROMISES.md have the counts of scripts/what_to_believe."""
+    """Checks that README.md and docs/PROMISES.md have the counts of scripts/what_to_believe."""
     loader = importlib.machinery.SourceFileLoader("what_to_believe", str(tree.top / "scripts/what_to_believe"))
     module = importlib.util.module_from_spec(importlib.util.spec_from_loader(loader.name, loader))
     loader.exec_module(module)

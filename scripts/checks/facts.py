@@ -16,7 +16,7 @@ WORD = re.compile(r"[^\s(){}\[\],;]+")
 
 
 def _statements(text: str) -> Iterator[tuple[str, str]]:
-    """The lemmas of a file with their statements; those within another lemma are left out."""
+    """Yields the lemmas of a file with their statements; those within another lemma are left out."""
     lines, at = text.split("\n"), 0
     while at < len(lines):
         found = HEAD.match(lines[at])
@@ -33,7 +33,7 @@ def _statements(text: str) -> Iterator[tuple[str, str]]:
 
 
 def _normal(statement: str) -> str:
-    """The statement with its bound names numbered in their order."""
+    """Returns the statement with its bound names numbered in their order."""
     text = re.sub(r"\s+", " ", re.sub(r"\{-.*?-\}", "", statement)).strip()
     numbers: dict[str, str] = {}
     bound = [name for group in BINDER.findall(text) for name in group.split()]
@@ -49,7 +49,7 @@ def _normal(statement: str) -> str:
 
 
 def copies(tree: Tree) -> list[tuple[str, list[tuple[str, str]]]]:
-    """The statements that are proved more than once, with the file and name of each lemma; those of several crates first."""
+    """Returns the statements that are proved more than once, with the file and name of each lemma; those of several crates first."""
     found: dict[str, list[tuple[str, str]]] = collections.defaultdict(list)
     for path, text in tree.lemmas():
         for name, statement in _statements(text):

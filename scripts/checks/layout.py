@@ -10,7 +10,7 @@ from checks.tree import Tree
 
 
 def formatter() -> str:
-    """The kit's formatter, which formats many crates at once; empty without the kit."""
+    """Returns the kit's formatter, which formats many crates at once; empty without the kit."""
     rt = shutil.which("rt")
     found = os.path.join(os.path.dirname(os.path.realpath(rt)), "rattle") if rt else ""
     return found if os.access(found, os.X_OK) else ""

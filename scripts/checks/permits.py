@@ -1,4 +1,4 @@
-"""Counters of touches: no crate that a judgement or a session stands on can open one."""
+"""Counters of touches: no crate that a judgement or a session depends on can open one."""
 from __future__ import annotations
 
 from typing import Iterator

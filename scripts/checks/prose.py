@@ -44,13 +44,13 @@ COMMENT[".rs"] = COMMENT[".rt"]
 
 
 def part_of(path: str) -> str:
-    """The part of the tree that a path is counted with."""
+    """Returns the part of the tree that a path is counted with."""
     names = path.split("/")
     return "/".join(names[:2]) if names[0] in ("crates", "docs") else names[0]
 
 
 def prose_of(path: str, text: str) -> str:
-    """The prose of a document, or the comments of a source; empty for other files."""
+    """Returns the prose of a document, or the comments of a source; empty for other files."""
     if path.endswith(".md"):
         return re.sub(r"`[^`\n]*`", "it", re.sub(r"^```.*?^```", "", text, flags=re.MULTILINE | re.DOTALL))
     comment = COMMENT.get(path[path.rfind("."):])
@@ -60,13 +60,13 @@ def prose_of(path: str, text: str) -> str:
 
 
 def long_sentences(prose: str) -> list[str]:
-    """The sentences, items and cells with too many words."""
+    """Returns the sentences, items and cells with too many words."""
     parts = re.split(r"\n\s*\n|\n(?=\s*(?:[-*]|\d+\.) )|\||(?<=[.!?:;])\s", prose)
     return [" ".join(part.split()) for part in parts if len(part.split()) > MOST_WORDS]
 
 
 def counts(tree: Tree) -> dict[str, tuple[int, int]]:
-    """How many coined words the prose of each part has, and how many long sentences its documents and headers have."""
+    """Returns the number of coined words in the prose of each part, and of long sentences in its documents and headers."""
     found: dict[str, list[int]] = collections.defaultdict(lambda: [0, 0])
     for path, text in tree.texts.items():
         prose = prose_of(path, text) if path != "scripts/checks/prose.py" else ""
@@ -92,7 +92,7 @@ def faults(tree: Tree) -> Iterator[str]:
 
 
 def rows(tree: Tree, chosen: list[str]) -> Iterator[str]:
-    """Each coined word with what to write, and each long sentence, of the crates."""
+    """Yields each coined word with what to write, and each long sentence, of the crates."""
     for path, text in tree.texts.items():
         if path.split("/")[1:2] and path.split("/")[0] == "crates" and path.split("/")[1] not in chosen:
             continue

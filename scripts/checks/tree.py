@@ -31,20 +31,20 @@ class Tree:
                         yield os.path.relpath(path, self.top), file.read()
 
     def files(self, part: str = "", suffix: str = "") -> Iterator[tuple[str, str]]:
-        """The path and text of each file below that folder of any crate, such as `specs`, with that suffix."""
+        """Yields the path and text of each file below that folder of any crate, such as `specs`, with that suffix."""
         pattern = re.compile(rf"crates/[^/]+/{part}.*{re.escape(suffix)}$", re.DOTALL)
         return ((path, text) for path, text in self.texts.items() if pattern.match(path))
 
     def lemmas(self) -> Iterator[tuple[str, str]]:
-        """The files of proofs/ that have lemmas: those that neither answer a goal nor list the others."""
+        """Yields the files of proofs/ that have lemmas: those that neither answer a goal nor list the others."""
         return ((path, text) for path, text in self.files("proofs/", ".antt") if path.rsplit("/", 1)[1] not in GOALS | {"Lib.antt"})
 
     def readme(self, crate: str) -> str:
-        """The text of a crate's README, empty if there is none."""
+        """Returns the text of a crate's README, empty if there is none."""
         return self.texts.get(f"crates/{crate}/README.md", "")
 
     def below(self, names: set[str]) -> set[str]:
-        """These crates and all crates of the repository below them."""
+        """Returns these crates and all crates of the repository below them."""
         found = set(names)
         while more := {it for crate in found for it in self.crates[crate] if it in self.crates} - found:
             found |= more
@@ -52,5 +52,5 @@ class Tree:
 
 
 def crate_of(path: str) -> str:
-    """The crate of a path below crates/."""
+    """Returns the crate of a path below crates/."""
     return path.split("/", 2)[1]

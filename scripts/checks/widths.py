@@ -17,7 +17,7 @@ OPERATORS = [" → ", " ⊎ ", " × ", " ≡ ", " ≤ ", " < ", " ∙ ", " || ",
 
 
 def depths(text: str) -> list[int]:
-    """How many brackets are open behind each character; a text's quotes are brackets too."""
+    """Returns the number of open brackets after each character; a text's quotes are brackets too."""
     found, depth, in_text = [], 0, False
     for at, character in enumerate(text):
         if character == '"' and text[at - 1:at] != "\\":
@@ -30,30 +30,30 @@ def depths(text: str) -> list[int]:
 
 
 def cut(text: str, places: list[int]) -> list[str]:
-    """The parts between these places, each without the blank before it."""
+    """Returns the parts between these places, each without the blank before it."""
     return [text[a:b].strip() for a, b in zip([0, *places], [*places, len(text)])]
 
 
 def at_operator(text: str, operator: str) -> list[str]:
-    """The parts of a term at an operator outside of brackets: each but the first begins with it."""
+    """Returns the parts of a term at an operator outside of brackets: each but the first begins with it."""
     open_at = depths(text)
     return cut(text, [at for at in range(len(text)) if open_at[at] == 0 and text.startswith(operator, at)])
 
 
 def at_groups(text: str) -> list[str]:
-    """A term cut between one bracket's end and the next one's begin: between groups of bound variables, or arguments."""
+    """Returns a term cut between one bracket's end and the next one's begin: between groups of bound variables, or arguments."""
     open_at = depths(text)
     return cut(text, [at for at in range(1, len(text) - 1) if open_at[at] == 0 and text[at] == " " and text[at - 1] in ")}" and text[at + 1] in "({"])
 
 
 def at_variables(text: str) -> list[str]:
-    """A term cut between the groups of variables that it binds first, if it does."""
+    """Returns a term cut between the groups of variables that it binds first, if it does."""
     groups = at_groups(text)
     return groups if all(" : " in group for group in groups) else [text]
 
 
 def at_arguments(text: str) -> list[str]:
-    """A term cut between its arguments; one that binds a variable behind what it binds, and a record's fields one from another."""
+    """Returns a term cut between its arguments; one that binds a variable behind what it binds, and a record's fields one from another."""
     open_at = depths(text)
     if text.startswith("λ "):
         return cut(text, [text.index(". ") + 1]) if ". " in text else [text]
@@ -64,7 +64,7 @@ def at_arguments(text: str) -> list[str]:
 
 
 def pieces(text: str, room: int) -> list[str]:
-    """What of a term may stand on lines of its own, in pieces of at most so many columns where it can be had."""
+    """Splits a term into parts that may be on lines of their own, of at most `room` columns if possible."""
     if len(text) <= room:
         return [text]
     if text.startswith(("λ ", "{ ")):
@@ -86,7 +86,7 @@ def pieces(text: str, room: int) -> list[str]:
 
 
 def broken(line: str) -> list[str] | None:
-    """The lines of a statement, or None where it is none, or cannot be broken."""
+    """Returns the lines of a statement, or None if it is none, or cannot be broken."""
     found = STATEMENT.match(line)
     if not found or found[2].split()[0] in NO_NAMES or depths(found[3])[-1] != 0 or line.endswith((";", "{", "=", ",")) or len(at_operator(found[3], " = ")) > 1:
         return None
@@ -101,7 +101,7 @@ def broken(line: str) -> list[str] | None:
 
 
 def filled(first: str, parts: list[str], deep: str) -> list[str]:
-    """The first line and the parts behind it, each on a line as long as it fits."""
+    """Returns the first line and the parts behind it, each on a line as long as it fits."""
     lines = [first]
     for part in parts:
         if len(lines[-1]) + 1 + len(part) <= MOST:
@@ -112,13 +112,13 @@ def filled(first: str, parts: list[str], deep: str) -> list[str]:
 
 
 def broken_head(line: str) -> list[str] | None:
-    """The lines of a record's first line, between its parameters, or None where it is none."""
+    """Returns the lines of a record's first line, broken between its parameters, or None if it is none."""
     found = re.match(r"^((?:pub )?record \S+) ([({].*[)}]) (: .* where)$", line)
     return filled(found[1], [*at_arguments(found[2]), found[3]], "    ") if found else None
 
 
 def broken_definition(line: str) -> list[str] | None:
-    """The lines of a definition's equation, or None where it is none, or has cases or local names."""
+    """Returns the lines of a definition's equation, or None if it is none, or has cases or local names."""
     sides = at_operator(line, " = ")
     if len(sides) != 2 or line[:1] in ("", " ", "-") or re.search(r"\b(elim|let|where|in|use)\b", line):
         return None
@@ -130,12 +130,12 @@ def indent_of(line: str) -> int:
 
 
 def too_wide(rows: list[str]) -> int:
-    """How many columns stand beyond the 120th."""
+    """Returns the number of columns beyond the 120th."""
     return sum(max(0, len(row) - MOST) for row in rows)
 
 
 def statement_at(rows: list[str], at: int) -> list[str]:
-    """The lines of what begins at a line and goes on where those behind it stand further in."""
+    """Returns the lines of the statement that begins at a line and continues on more deeply indented ones."""
     end = at + 1
     while end < len(rows) and rows[end].strip() not in ("", "where") and indent_of(rows[end]) > indent_of(rows[at]):
         end += 1
@@ -143,7 +143,7 @@ def statement_at(rows: list[str], at: int) -> list[str]:
 
 
 def all_broken(rows: list[str], defines: bool) -> list[str]:
-    """The lines of a file with their statements broken, and where it defines, its definitions too. One of several lines is joined
+    """Returns the lines of a file with their statements broken, and its definitions too if it has them. One of several lines is joined
     first."""
     out, at = [], 0
     while at < len(rows):
@@ -162,7 +162,7 @@ def all_broken(rows: list[str], defines: bool) -> list[str]:
 
 
 def _files(tree: Tree) -> Iterator[tuple[str, list[str], list[str]]]:
-    """The files with statements that could be broken: path, lines, and lines once they are broken."""
+    """Yields the files with statements that could be broken: path, lines, and lines once they are broken."""
     for path, text in tree.files("(?:proofs|specs)/", ".antt"):
         rows = text.split("\n")
         if any(len(row) > MOST for row in rows):

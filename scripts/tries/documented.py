@@ -29,7 +29,7 @@ def documents() -> list[pathlib.Path]:
 
 
 def commands_of(page: pathlib.Path) -> Iterator[Tuple[str, str, Optional[int]]]:
-    """For each command of a page: the command, what it prints, and its status, or None if the page says none."""
+    """Yields, for each command of a page, the command, its output, and its status, or None if the page has none."""
     text = page.read_text(encoding="utf-8")
     for command, line, status in ROW.findall(text):
         yield command, line + "\n", int(status)
@@ -40,7 +40,7 @@ def commands_of(page: pathlib.Path) -> Iterator[Tuple[str, str, Optional[int]]]:
 
 
 def value(text: str, constants: dict[str, bytes]) -> bytes:
-    """The bytes of a literal of the sources, or of a constant."""
+    """Returns the bytes of a literal of the sources, or of a constant."""
     if text.startswith("b"):
         return ast.literal_eval(text)
     if text.startswith("&"):
@@ -49,7 +49,7 @@ def value(text: str, constants: dict[str, bytes]) -> bytes:
 
 
 def worked_rows() -> Tuple[dict[str, bytes], list[WorkedRow]]:
-    """The files of the table, and the rows that run a trace, check or forge a model, or assemble or disassemble a
+    """Returns the files of the table, and the rows that run a trace, check or forge a model, or assemble or disassemble a
     trace."""
     files: dict[str, bytes] = {}
     rows: list[WorkedRow] = []

@@ -1,4 +1,4 @@
-"""Random steps and traces for the tries, which break no rule or one that is wanted, by the states of the reference."""
+"""Random steps and traces for the tries, which break no rule or a required one, by the states of the reference."""
 from __future__ import annotations
 
 import random
@@ -22,7 +22,7 @@ def times(n: int, d: Coord) -> Coord:
 
 
 def linear(dice: random.Random, most: int) -> Coord:
-    """A difference along one axis."""
+    """Returns a difference along one axis."""
     return times(dice.choice([-1, 1]) * dice.randint(1, most), dice.choice(AXES))
 
 
@@ -34,7 +34,7 @@ def is_free(state: State, cells: set[Coord], taken: set[Coord]) -> bool:
 
 
 def alone(dice: random.Random, state: State, bid: int, taken: set[Coord]) -> Optional[Tuple[Command, set[Coord]]]:
-    """A command that the bot can do beside what is taken, with what it takes."""
+    """Returns a command that the bot can perform outside the taken coordinates, with the coordinates that it takes."""
     at, seeds = state.bots[bid]
     kind = dice.choice(["SMove"] * 9 + ["LMove"] * 3 + ["Fission"] * 6 + ["Fill"] * 6 + ["Void"] * 3 + ["Flip"] * (dice.random() < 0.2))
     if kind == "Flip":
@@ -51,7 +51,7 @@ def alone(dice: random.Random, state: State, bid: int, taken: set[Coord]) -> Opt
 
 
 def pairs_of(state: State) -> Iterator[Tuple[int, int, Command, Command]]:
-    """What two bots may do together: to fuse, or to fill a line."""
+    """Yields the actions of two bots together: to fuse, or to fill a line."""
     for a, (p, _) in state.bots.items():
         for b, (q, _) in state.bots.items():
             between = minus(q, p)
@@ -66,7 +66,7 @@ def pairs_of(state: State) -> Iterator[Tuple[int, int, Command, Command]]:
 
 
 def together(dice: random.Random, state: State) -> Tuple[dict[int, Command], set[Coord]]:
-    """The commands of two bots that can act together, with what they take; none if there are no such bots."""
+    """Returns the commands of two bots that can act together, with what they take; none if there are no such bots."""
     positions = {bot.position for bot in state.bots.values()}
     pairs = list(pairs_of(state)) if 1 < len(state.bots) < 8 and dice.random() < 0.4 else []
     for _ in range(min(4, len(pairs))):
@@ -94,7 +94,7 @@ def random_step(dice: random.Random, state: State) -> dict[int, Command]:
 
 
 def good_step(dice: random.Random, state: State) -> Row:
-    """A step that breaks no rule."""
+    """Returns a step that breaks no rule."""
     for _ in range(20):
         commands = random_step(dice, state)
         row = [commands[bid] for bid in sorted(state.bots)]
@@ -107,14 +107,14 @@ def good_step(dice: random.Random, state: State) -> Row:
 
 
 def toward(dice: random.Random, state: State, at: Coord) -> Coord:
-    """A near difference, mostly to where something is."""
+    """Returns a near difference, usually to a full voxel or a bot."""
     taken = state.full | {bot.position for bot in state.bots.values()}
     found = [d for d in NEAR if plus(at, d) in taken]
     return dice.choice(found) if found and dice.random() < 0.7 else dice.choice(NEAR)
 
 
 def wrong_command(dice: random.Random, state: State, bid: int, rule: int) -> Command:
-    """A command that may break a rule."""
+    """Returns a command that may break a rule."""
     near, grouped = toward(dice, state, state.bots[bid].position), dice.choice(["GFill", "GVoid"])
     if rule in (2, 3, 4):
         return HALT
@@ -141,7 +141,7 @@ def same_corner(dice: random.Random, state: State, commands: dict[int, Command])
 
 
 def wrong_step(dice: random.Random, state: State, rule: int) -> Optional[Row]:
-    """A step that breaks this rule, if one is found."""
+    """Returns a step that breaks this rule, if one is found."""
     bids = sorted(state.bots)
     for _ in range(60):
         commands = random_step(dice, state)
@@ -164,7 +164,7 @@ def wrong_step(dice: random.Random, state: State, rule: int) -> Optional[Row]:
 
 
 def random_trace(dice: random.Random, source: State, steps: int, rule: int) -> List[Row]:
-    """The commands of each step: none breaks a rule but the last, which breaks this one if it can; with rule 0 none does."""
+    """Returns the commands of each step: none breaks a rule but the last, which breaks this one if it can; with rule 0 none does."""
     state, rows = source.copy(), []  # type: State, List[Row]
     if rule == 0 and steps < 6:
         # There and back, to a halt.
@@ -188,7 +188,7 @@ def random_trace(dice: random.Random, source: State, steps: int, rule: int) -> L
 
 
 def random_full(dice: random.Random, r: int) -> set[Coord]:
-    """Towers and arms, which mostly make a legal model."""
+    """Returns towers and arms, which usually make a legal model."""
     full: set[Coord] = set()
     for _ in range(dice.randint(0, 6) if r >= 3 else 0):
         x, z, high = dice.randint(1, r - 2), dice.randint(1, r - 2), dice.randint(0, r - 2)
