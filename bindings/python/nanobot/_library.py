@@ -32,11 +32,11 @@ class Broken(ctypes.Structure):
     _fields_ = [(name, c_uint32) for name in ("rule", "step", "bid", "x", "y", "z")]
 
 
-class StepTold(ctypes.Structure):
+class StepReport(ctypes.Structure):
     _fields_ = [("energy", c_int64), ("offset", c_uint64), ("steps", c_uint32), ("active", c_uint32), ("broken", Broken), ("high", c_uint32), ("changed", c_uint32)]
 
 
-class PlayedTold(ctypes.Structure):
+class PlayedReport(ctypes.Structure):
     _fields_ = (
         [("energy", c_int64), ("used", c_uint64), ("offset", c_uint64)]
         + [(name, c_uint32) for name in ("made", "steps", "active", "high")]
@@ -44,7 +44,7 @@ class PlayedTold(ctypes.Structure):
     )
 
 
-class JudgedTold(ctypes.Structure):
+class JudgedReport(ctypes.Structure):
     _fields_ = [("energy", c_int64), ("offset", c_uint64), ("halts", c_uint32), ("broken", Broken)] + [
         (name, c_uint32) for name in ("active", "high", "changed")
     ]
@@ -54,7 +54,7 @@ class StateTold(ctypes.Structure):
     _fields_ = [("energy", c_int64)] + [(name, c_uint32) for name in ("steps", "active", "resolution", "high")] + [("noted", c_uint64)]
 
 
-class BotTold(ctypes.Structure):
+class BotReport(ctypes.Structure):
     _fields_ = [("seeds", c_uint64)] + [(name, c_uint32) for name in ("bid", "x", "y", "z")]
 
 
@@ -78,13 +78,13 @@ CALLS: Dict[str, List[Any]] = {
     "nanobot_dis": BYTES + GIVEN,
     "nanobot_machine_start": BYTES + [c_bool, c_uint32, MACHINE, POINTER(Refusal)],
     "nanobot_machine_start_empty": [c_uint32, c_bool, c_uint32, MACHINE],
-    "nanobot_machine_step": [MACHINE] + BYTES + [POINTER(StepTold)],
-    "nanobot_machine_play": [MACHINE] + BYTES + [c_uint32, POINTER(PlayedTold)],
-    "nanobot_machine_judge": [MACHINE] + BYTES + [POINTER(JudgedTold)],
+    "nanobot_machine_step": [MACHINE] + BYTES + [POINTER(StepReport)],
+    "nanobot_machine_play": [MACHINE] + BYTES + [c_uint32, POINTER(PlayedReport)],
+    "nanobot_machine_judge": [MACHINE] + BYTES + [POINTER(JudgedReport)],
     "nanobot_machine_undo": [MACHINE],
     "nanobot_machine_copy": [MACHINE, MACHINE],
     "nanobot_machine_tell": [MACHINE, POINTER(StateTold)],
-    "nanobot_machine_bots": [MACHINE, POINTER(BotTold), c_size_t, POINTER(c_size_t)],
+    "nanobot_machine_bots": [MACHINE, POINTER(BotReport), c_size_t, POINTER(c_size_t)],
     "nanobot_machine_full": [MACHINE, c_uint32, c_uint32, c_uint32, POINTER(c_uint32)],
     "nanobot_machine_level": [MACHINE, c_uint32, c_uint32, c_uint32, POINTER(c_uint32)],
     "nanobot_machine_count": [MACHINE, POINTER(c_uint32)],

@@ -292,7 +292,7 @@ class Machine:
         Raises `BrokenRule`, `BadCommands` (bytes that are no commands), `WrongCount`, `NoBot` (a bid that is not active), `Ended`,
         `TooManySteps`, `Closed`, TypeError or MemoryError; the machine is then as it was. It takes some microseconds, and a
         time that grows with the voxels whose level changes."""
-        result, data = lib.StepTold(), self._spelled(commands)
+        result, data = lib.StepReport(), self._spelled(commands)
         status = library.machine_step(byref(self._handle), data, len(data), byref(result))
         if status:
             self._refuse(status, result.broken, result.offset, data)
@@ -306,7 +306,7 @@ class Machine:
         end after a step, also if bots are left. A step takes a fraction of a microsecond.
 
         Raises `Closed`, TypeError, ValueError, OSError or MemoryError; after a MemoryError the steps before it are made."""
-        data, result = bytes_of(trace, "a trace"), lib.PlayedTold()
+        data, result = bytes_of(trace, "a trace"), lib.PlayedReport()
         begin = number_of("offset", offset, 0, len(data))
         steps = MOST_NUMBER if most is None else number_of("most", most, 0, MOST_NUMBER)
         status = library.machine_play(byref(self._handle), lib.address_of(data) + begin, len(data) - begin, steps, byref(result))
@@ -319,7 +319,7 @@ class Machine:
 
         Takes the same commands as `step`, and raises the same errors. The machine stays as it is. It takes as long as a step and an undo;
         after one that breaks rule 12 the next step, judgement or level takes as long as a start."""
-        result, data = lib.JudgedTold(), self._spelled(commands)
+        result, data = lib.JudgedReport(), self._spelled(commands)
         status = library.machine_judge(byref(self._handle), data, len(data), byref(result))
         if status:
             self._refuse(status, result.broken, result.offset, data)
@@ -375,7 +375,7 @@ class Machine:
 
     def _tell_bots(self) -> List[Any]:
         if self._bots is None:
-            self._bots = (lib.BotTold * MOST_BOTS)()
+            self._bots = (lib.BotReport * MOST_BOTS)()
         count = c_size_t()
         self._check(library.machine_bots(byref(self._handle), self._bots, MOST_BOTS, byref(count)))
         return self._bots[: count.value]  # type: ignore[no-any-return]

@@ -256,7 +256,7 @@ impl Airspace {
         let task = if length(second) == 0 {
             BotTask::Move(first)
         } else {
-            BotTask::Bend(first, second)
+            BotTask::TwoLegMove(first, second)
         };
         let moved = CrewBot {
             at: bend.plus(second),

@@ -22,10 +22,10 @@ impl Airspace {
 
     /// A bot takes another one up.
     fn fuse(&mut self, keeper: u8, joiner: u8, d: Diff) {
-        self.order(keeper, BotTask::Lead(d, joiner));
+        self.order(keeper, BotTask::FuseAsPrimary(d, joiner));
         let bot = self.bot(joiner);
         let gone = CrewBot {
-            task: BotTask::Join(opposite(d)),
+            task: BotTask::FuseAsSecondary(opposite(d)),
             active: false,
             ..bot
         };

@@ -189,7 +189,7 @@ impl Writer {
             member.task = BotTask::Wait;
         }
         match member.task {
-            BotTask::Join(_) => self.leave(number),
+            BotTask::FuseAsSecondary(_) => self.leave(number),
             BotTask::Split(_, child) => self.bear(number, child),
             _ => {}
         }
@@ -230,8 +230,8 @@ impl Writer {
             };
             let TaskNote { bot, task } = *doing;
             let task = undoing(task);
-            if let BotTask::Lead(d, child) = task {
-                self.order(child, BotTask::Join(opposite(d)));
+            if let BotTask::FuseAsPrimary(d, child) = task {
+                self.order(child, BotTask::FuseAsSecondary(opposite(d)));
             }
             if let BotTask::Wait = task {
                 continue;

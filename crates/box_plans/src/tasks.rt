@@ -11,7 +11,7 @@ pub(crate) enum BotTask {
     /// Moves along one axis.
     Move(Diff),
     /// Moves along one axis, and then along another.
-    Bend(Diff, Diff),
+    TwoLegMove(Diff, Diff),
     /// Fills a voxel.
     Fill(Diff),
     /// Voids a voxel.
@@ -23,9 +23,9 @@ pub(crate) enum BotTask {
     /// Splits: the new bot, of this number, is at the difference.
     Split(Diff, u8),
     /// Fuses, as the primary, with the bot of this number at the difference.
-    Lead(Diff, u8),
+    FuseAsPrimary(Diff, u8),
     /// Fuses, as the secondary, with the bot at the difference.
-    Join(Diff),
+    FuseAsSecondary(Diff),
 }
 
 /// Returns the difference that leads back.
@@ -37,19 +37,19 @@ pub(crate) fn opposite(d: Diff) -> Diff {
     )
 }
 
-/// Returns the task that undoes a task. For `Join` that is `Wait`, because the primary makes the bot anew.
+/// Returns the task that undoes a task. For `FuseAsSecondary` that is `Wait`, because the primary makes the bot anew.
 pub(crate) fn undoing(task: BotTask) -> BotTask {
     match task {
         BotTask::Wait => BotTask::Wait,
         BotTask::Move(d) => BotTask::Move(opposite(d)),
-        BotTask::Bend(d, e) => BotTask::Bend(opposite(e), opposite(d)),
+        BotTask::TwoLegMove(d, e) => BotTask::TwoLegMove(opposite(e), opposite(d)),
         BotTask::Fill(d) => BotTask::Void(d),
         BotTask::Void(d) => BotTask::Fill(d),
         BotTask::Group(d, far) => BotTask::GroupVoid(d, far),
         BotTask::GroupVoid(d, far) => BotTask::Group(d, far),
-        BotTask::Split(d, child) => BotTask::Lead(d, child),
-        BotTask::Lead(d, child) => BotTask::Split(d, child),
-        BotTask::Join(_) => BotTask::Wait,
+        BotTask::Split(d, child) => BotTask::FuseAsPrimary(d, child),
+        BotTask::FuseAsPrimary(d, child) => BotTask::Split(d, child),
+        BotTask::FuseAsSecondary(_) => BotTask::Wait,
     }
 }
 
@@ -58,14 +58,14 @@ fn command_if_near(task: BotTask, seeds: u8) -> Option<Command> {
     match task {
         BotTask::Wait => Some(Command::Wait),
         BotTask::Move(d) => Some(Command::SMove(Long::of(d)?)),
-        BotTask::Bend(d, e) => Some(Command::LMove(Short::of(d)?, Short::of(e)?)),
+        BotTask::TwoLegMove(d, e) => Some(Command::LMove(Short::of(d)?, Short::of(e)?)),
         BotTask::Fill(d) => Some(Command::Fill(Near::of(d)?)),
         BotTask::Void(d) => Some(Command::Void(Near::of(d)?)),
         BotTask::Group(d, far) => Some(Command::GFill(Near::of(d)?, Far::of(far)?)),
         BotTask::GroupVoid(d, far) => Some(Command::GVoid(Near::of(d)?, Far::of(far)?)),
         BotTask::Split(d, _) => Some(Command::Fission(Near::of(d)?, seeds)),
-        BotTask::Lead(d, _) => Some(Command::FusionP(Near::of(d)?)),
-        BotTask::Join(d) => Some(Command::FusionS(Near::of(d)?)),
+        BotTask::FuseAsPrimary(d, _) => Some(Command::FusionP(Near::of(d)?)),
+        BotTask::FuseAsSecondary(d) => Some(Command::FusionS(Near::of(d)?)),
     }
 }
 

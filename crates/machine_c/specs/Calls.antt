@@ -23,11 +23,11 @@ use Rattle.kept_machine.specs.Kept.{Kept}
 use Rattle.machine_c.specs.declared.status.TheConstants.{DONE, BROKEN, ARGUMENT, MODEL, COMMANDS, MEMORY, TOO_SMALL, NO_MACHINE, ENDED, COUNT, LONG, NO_NOTE, OUTSIDE, NO_LEVEL}
 use Rattle.machine_c.specs.declared.stepping.StepAnswer.{StepAnswer}
 use Rattle.machine_c.specs.declared.stepping.StepAnswer.TheVariants.{Made, Refused, Unread}
-use Rattle.machine_c.specs.declared.told.BotTold.{BotTold}
-use Rattle.machine_c.specs.declared.told.BrokenTold.{BrokenTold}
-use Rattle.machine_c.specs.declared.told.MachineTold.{MachineTold}
-use Rattle.machine_c.specs.declared.told.ModelTold.{ModelTold}
-use Rattle.machine_c.specs.declared.told.StepTold.{StepTold}
+use Rattle.machine_c.specs.declared.reports.BotReport.{BotReport}
+use Rattle.machine_c.specs.declared.reports.BrokenReport.{BrokenReport}
+use Rattle.machine_c.specs.declared.reports.MachineReport.{MachineReport}
+use Rattle.machine_c.specs.declared.reports.ModelReport.{ModelReport}
+use Rattle.machine_c.specs.declared.reports.StepReport.{StepReport}
 use Rattle.machine_c.specs.Told.{bot_told, broken_told, fault_told, none_broken, number_refusal}
 
 -- ---- starts
@@ -48,12 +48,12 @@ Starts old new status (Ok k) = (new ≡ Some k) × (status ≡ DONE)
 Starts old new status (Err fault) = (new ≡ old) × (status ≡ status_of_start fault)
 
 -- the refusal, if there is one
-abbrev pub refusal_by : Result Kept ModelFault → ModelTold
+abbrev pub refusal_by : Result Kept ModelFault → ModelReport
 refusal_by (Ok k) = number_refusal 0 0 0
 refusal_by (Err fault) = fault_told fault
 
 -- a machine starts over the model that the bytes hold, unless `notes` is above the maximum
-abbrev pub IsStarted : List ℕ → Bool → ℕ → Option Kept → Option Kept → ModelTold → ℕ → Type 0
+abbrev pub IsStarted : List ℕ → Bool → ℕ → Option Kept → Option Kept → ModelReport → ℕ → Type 0
 IsStarted bytes light notes old new told status =
     ((4096 < notes) × (new ≡ old) × (told ≡ number_refusal 0 0 0) × (status ≡ ARGUMENT))
     ⊎ ((notes ≤ 4096)
@@ -101,7 +101,7 @@ status_of_step (Unread (trace_fault.Refused refusal)) = COMMANDS
 status_of_step (Unread trace_fault.Memory) = MEMORY
 
 -- the rule that a step breaks
-abbrev pub rule_told : StepAnswer → BrokenTold
+abbrev pub rule_told : StepAnswer → BrokenReport
 rule_told (Refused (no_step.Broken b)) = broken_told b
 rule_told _ = none_broken
 
@@ -122,7 +122,7 @@ high_of Low = 0
 high_of High = 1
 
 -- the machine after a step, and the reason for a refusal
-abbrev pub step_told : Kept → StepAnswer → StepTold
+abbrev pub step_told : Kept → StepAnswer → StepReport
 step_told k answer =
     record {
       energy = k.state.energy;
@@ -135,7 +135,7 @@ step_told k answer =
     }
 
 -- a step of the bytes
-abbrev pub IsStepped : Option Kept → List ℕ → Option Kept → StepTold → StepTold → ℕ → Type 0
+abbrev pub IsStepped : Option Kept → List ℕ → Option Kept → StepReport → StepReport → ℕ → Type 0
 IsStepped None bytes new before after status = (new ≡ None) × (after ≡ before) × (status ≡ NO_MACHINE)
 IsStepped (Some old) bytes new before after status =
     (k : Kept) × (new ≡ Some k) × (answer : StepAnswer) × ComesTo old bytes k answer
@@ -155,7 +155,7 @@ IsUndone (Some old) new status =
 -- ---- the results of calls
 
 -- the machine's state in numbers
-abbrev pub machine_told : Kept → MachineTold
+abbrev pub machine_told : Kept → MachineReport
 machine_told k =
     record {
       energy = k.state.energy;
@@ -166,7 +166,7 @@ machine_told k =
       noted = length k.past;
     }
 
-abbrev pub IsMachineTold : Option Kept → MachineTold → MachineTold → ℕ → Type 0
+abbrev pub IsMachineTold : Option Kept → MachineReport → MachineReport → ℕ → Type 0
 IsMachineTold None before after status = (after ≡ before) × (status ≡ NO_MACHINE)
 IsMachineTold (Some k) before after status = (after ≡ machine_told k) × (status ≡ DONE)
 
@@ -182,7 +182,7 @@ abbrev pub GivesNothing : {X : Type 0} → List X → List X → ℕ → Type 0
 GivesNothing before after count = (after ≡ before) × (count ≡ 0)
 
 -- the active bots, in rising order of their bids
-abbrev pub AreBotsTold : Option Kept → List BotTold → List BotTold → ℕ → ℕ → Type 0
+abbrev pub AreBotsTold : Option Kept → List BotReport → List BotReport → ℕ → ℕ → Type 0
 AreBotsTold None before after count status = GivesNothing before after count × (status ≡ NO_MACHINE)
 AreBotsTold (Some k) before after count status =
     GivesAll (map bot_told k.state.bots) before after count status

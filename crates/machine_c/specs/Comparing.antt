@@ -9,8 +9,8 @@ use Rattle.kept_machine.specs.Kept.{Kept}
 use Rattle.machine_c.specs.declared.comparing.TargetAnswer.{TargetAnswer}
 use Rattle.machine_c.specs.declared.comparing.TargetAnswer.TheVariants.{Same, Differs, Unlike, Refused}
 use Rattle.machine_c.specs.declared.status.TheConstants.{DIFFERS, DONE, MEMORY, MODEL, NO_MACHINE, RESOLUTION}
-use Rattle.machine_c.specs.declared.told.ModelTold.{ModelTold}
-use Rattle.machine_c.specs.declared.told.PlaceTold.{PlaceTold}
+use Rattle.machine_c.specs.declared.reports.ModelReport.{ModelReport}
+use Rattle.machine_c.specs.declared.reports.PlaceReport.{PlaceReport}
 use Rattle.machine_c.specs.Told.{fault_told, number_refusal}
 
 -- the comparison of a matrix with the bytes of a target, which need not be legal
@@ -32,16 +32,16 @@ status_of_target Unlike = RESOLUTION
 status_of_target (Refused model_fault.Memory) = MEMORY
 status_of_target (Refused _) = MODEL
 
-abbrev pub place_by : TargetAnswer → PlaceTold
+abbrev pub place_by : TargetAnswer → PlaceReport
 place_by (Differs at) = record { x = at.x; y = at.y; z = at.z }
 place_by _ = record { x = 0; y = 0; z = 0 }
 
-abbrev pub refusal_of_target : TargetAnswer → ModelTold
+abbrev pub refusal_of_target : TargetAnswer → ModelReport
 refusal_of_target (Refused fault) = fault_told fault
 refusal_of_target _ = number_refusal 0 0 0
 
 -- the matrix of a machine is compared with a target
-abbrev pub IsCompared : Option Kept → List ℕ → PlaceTold → PlaceTold → ModelTold → ModelTold → ℕ → Type 0
+abbrev pub IsCompared : Option Kept → List ℕ → PlaceReport → PlaceReport → ModelReport → ModelReport → ℕ → Type 0
 IsCompared None bytes before after refusal_before refusal status =
     (after ≡ before) × (refusal ≡ refusal_before) × (status ≡ NO_MACHINE)
 IsCompared (Some k) bytes before after refusal_before refusal status =

@@ -9,7 +9,7 @@ use Rattle.kept_machine.specs.Kept.{Kept}
 use Rattle.machine_c.specs.declared.counting.CountAnswer.{CountAnswer}
 use Rattle.machine_c.specs.declared.counting.CountAnswer.TheVariants.{Counted, Unlike, Refused}
 use Rattle.machine_c.specs.declared.status.TheConstants.{DONE, MEMORY, MODEL, NO_MACHINE, NO_TARGET, RESOLUTION}
-use Rattle.machine_c.specs.declared.told.ModelTold.{ModelTold}
+use Rattle.machine_c.specs.declared.reports.ModelReport.{ModelReport}
 use Rattle.machine_c.specs.Told.{fault_told, number_refusal}
 
 -- the differences of a matrix and the bytes of a target, which need not be legal
@@ -31,12 +31,12 @@ abbrev pub differences_by : CountAnswer → ℕ
 differences_by (Counted count) = count
 differences_by _ = 0
 
-abbrev pub refusal_of_count : CountAnswer → ModelTold
+abbrev pub refusal_of_count : CountAnswer → ModelReport
 refusal_of_count (Refused fault) = fault_told fault
 refusal_of_count _ = number_refusal 0 0 0
 
 -- the call returns the number of coordinates at which the matrix of a machine and a target differ
-abbrev pub AreDifferencesTold : Option Kept → List ℕ → ℕ → ℕ → ModelTold → ModelTold → ℕ → Type 0
+abbrev pub AreDifferencesTold : Option Kept → List ℕ → ℕ → ℕ → ModelReport → ModelReport → ℕ → Type 0
 AreDifferencesTold None bytes before after refusal_before refusal status =
     (after ≡ before) × (refusal ≡ refusal_before) × (status ≡ NO_MACHINE)
 AreDifferencesTold (Some k) bytes before after refusal_before refusal status =
@@ -50,7 +50,7 @@ KeepsTarget old bytes new (Counted count) =
 KeepsTarget old bytes new _ = new ≡ old
 
 -- a machine is given its target
-abbrev pub IsTargetSet : Option Kept → List ℕ → Option Kept → ℕ → ℕ → ModelTold → ModelTold → ℕ → Type 0
+abbrev pub IsTargetSet : Option Kept → List ℕ → Option Kept → ℕ → ℕ → ModelReport → ModelReport → ℕ → Type 0
 IsTargetSet None bytes new before after refusal_before refusal status =
     (new ≡ None) × (after ≡ before) × (refusal ≡ refusal_before) × (status ≡ NO_MACHINE)
 IsTargetSet (Some old) bytes new before after refusal_before refusal status =

@@ -6,7 +6,7 @@ use Rattle.kept_machine.specs.Kept.{Kept}
 use Rattle.machine_c.specs.declared.status.TheConstants.{NO_MACHINE}
 use Rattle.machine_c.specs.declared.stepping.StepAnswer.{StepAnswer}
 use Rattle.machine_c.specs.declared.stepping.StepAnswer.TheVariants.{Made}
-use Rattle.machine_c.specs.declared.told.JudgedTold.{JudgedTold}
+use Rattle.machine_c.specs.declared.reports.JudgedReport.{JudgedReport}
 use Rattle.machine_c.specs.Calls.{ComesTo, StepComesTo, bit_of, changed_by, high_of, offset_by, rule_told, status_of_step}
 
 -- the outcome of a step if the machine made it: a step of commands, or of the bytes that spell them
@@ -35,7 +35,7 @@ halts_by (Made made) = bit_of (made.active == 0)
 halts_by _ = 0
 
 -- the results of judging a step
-abbrev pub judged_told : Kept → StepAnswer → JudgedTold
+abbrev pub judged_told : Kept → StepAnswer → JudgedReport
 judged_told k answer =
     record {
       energy = energy_by k.state.energy answer;
@@ -48,7 +48,7 @@ judged_told k answer =
     }
 
 -- the call judges the step that the bytes spell; without a machine it changes nothing
-abbrev pub IsJudged : Option Kept → List ℕ → JudgedTold → JudgedTold → ℕ → Type 0
+abbrev pub IsJudged : Option Kept → List ℕ → JudgedReport → JudgedReport → ℕ → Type 0
 IsJudged None bytes before after status = (after ≡ before) × (status ≡ NO_MACHINE)
 IsJudged (Some k) bytes before after status =
     (answer : StepAnswer) × WouldComeTo k bytes answer × (after ≡ judged_told k answer)

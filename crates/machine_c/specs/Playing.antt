@@ -14,8 +14,8 @@ use Rattle.machine_c.specs.declared.playing.Played.{Played}
 use Rattle.machine_c.specs.declared.status.TheConstants.{DONE, NO_MACHINE}
 use Rattle.machine_c.specs.declared.stepping.StepAnswer.{StepAnswer}
 use Rattle.machine_c.specs.declared.stepping.StepAnswer.TheVariants.{Made, Refused, Unread}
-use Rattle.machine_c.specs.declared.told.BrokenTold.{BrokenTold}
-use Rattle.machine_c.specs.declared.told.PlayedTold.{PlayedTold}
+use Rattle.machine_c.specs.declared.reports.BrokenReport.{BrokenReport}
+use Rattle.machine_c.specs.declared.reports.PlayedReport.{PlayedReport}
 use Rattle.machine_c.specs.Calls.{ComesTo, high_of, rule_told, status_of_step}
 use Rattle.machine_c.specs.Told.{none_broken}
 
@@ -84,7 +84,7 @@ abbrev pub status_of_play : Option StepAnswer → ℕ
 status_of_play None = DONE
 status_of_play (Some answer) = status_of_step answer
 
-abbrev pub rule_of_stop : Option StepAnswer → BrokenTold
+abbrev pub rule_of_stop : Option StepAnswer → BrokenReport
 rule_of_stop None = none_broken
 rule_of_stop (Some answer) = rule_told answer
 
@@ -93,7 +93,7 @@ bad_byte_of used (Some (Unread (trace_fault.Refused refusal))) = used + refused_
 bad_byte_of used _ = 0
 
 -- the machine after a trace, and the reason why the next step was refused
-abbrev pub played_told : Kept → Played → PlayedTold
+abbrev pub played_told : Kept → Played → PlayedReport
 played_told k played =
     record {
       energy = k.state.energy;
@@ -107,7 +107,7 @@ played_told k played =
     }
 
 -- a trace played on the machine of a handle
-abbrev pub IsTracePlayed : Option Kept → List ℕ → ℕ → Option Kept → PlayedTold → PlayedTold → ℕ → Type 0
+abbrev pub IsTracePlayed : Option Kept → List ℕ → ℕ → Option Kept → PlayedReport → PlayedReport → ℕ → Type 0
 IsTracePlayed None trace most new before after status = (new ≡ None) × (after ≡ before) × (status ≡ NO_MACHINE)
 IsTracePlayed (Some old) trace most new before after status =
     (k : Kept) × (new ≡ Some k) × (played : Played) × IsPlayed old trace most k played

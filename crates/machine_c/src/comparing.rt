@@ -3,8 +3,8 @@ ghost use Rattle.std.specs.Prelude.{◌≡◌};
 ghost use Rattle.machine_c.specs.Comparing.{IsCompared, Compares, place_by, refusal_of_target, status_of_target};
 
 use crate::handle::Handle;
+use crate::reports::{ModelReport, PlaceReport};
 use crate::status::{DIFFERS, DONE, MEMORY, MODEL, NO_MACHINE, RESOLUTION};
-use crate::told::{ModelTold, PlaceTold};
 use kept_machine::KeptMachine;
 use model_file::{ModelFault, read_model};
 use std::alloc::Global;
@@ -38,22 +38,22 @@ impl TargetAnswer {
     }
 
     /// Returns the coordinate of a difference.
-    fn place(self) -> PlaceTold
+    fn place(self) -> PlaceReport
         ensures { result ≡ place_by self }
     {
         match self {
-            TargetAnswer::Differs(at) => PlaceTold::of(at),
-            _ => PlaceTold { x: 0, y: 0, z: 0 },
+            TargetAnswer::Differs(at) => PlaceReport::of(at),
+            _ => PlaceReport { x: 0, y: 0, z: 0 },
         }
     }
 
     /// Returns the refusal of the bytes.
-    fn refusal(self) -> ModelTold
+    fn refusal(self) -> ModelReport
         ensures { result ≡ refusal_of_target self }
     {
         match self {
-            TargetAnswer::Refused(fault) => ModelTold::of(fault),
-            _ => ModelTold::none(),
+            TargetAnswer::Refused(fault) => ModelReport::of(fault),
+            _ => ModelReport::none(),
         }
     }
 }
@@ -81,8 +81,8 @@ pub extern "C" fn nanobot_machine_compare(
     alloc: Global,
     handle: &mut Handle,
     target: &[u8],
-    place: &mut PlaceTold,
-    refusal: &mut ModelTold,
+    place: &mut PlaceReport,
+    refusal: &mut ModelReport,
 ) -> u32
     ensures same { handle.new.machine ≡ handle.old.machine }
     ensures told { IsCompared handle.old.machine target.now place.old place.new refusal.old refusal.new result }

@@ -3,8 +3,8 @@ ghost use Rattle.std.specs.Prelude.{◌≡◌};
 ghost use Rattle.machine_c.specs.Counting.{AreDifferencesTold, Counts, IsTargetSet, IsRemainingTold, KeepsTarget, differences_by, refusal_of_count, status_of_count};
 
 use crate::handle::Handle;
+use crate::reports::ModelReport;
 use crate::status::{DONE, MEMORY, MODEL, NO_MACHINE, NO_TARGET, RESOLUTION};
-use crate::told::ModelTold;
 use kept_machine::KeptMachine;
 use model_file::{ModelFault, read_model};
 use std::alloc::Global;
@@ -44,12 +44,12 @@ impl CountAnswer {
     }
 
     /// Returns the refusal of the bytes.
-    fn refusal(self) -> ModelTold
+    fn refusal(self) -> ModelReport
         ensures { result ≡ refusal_of_count self }
     {
         match self {
-            CountAnswer::Refused(fault) => ModelTold::of(fault),
-            _ => ModelTold::none(),
+            CountAnswer::Refused(fault) => ModelReport::of(fault),
+            _ => ModelReport::none(),
         }
     }
 }
@@ -75,7 +75,7 @@ pub extern "C" fn nanobot_machine_differences(
     handle: &mut Handle,
     target: &[u8],
     count: &mut u32,
-    refusal: &mut ModelTold,
+    refusal: &mut ModelReport,
 ) -> u32
     ensures same { handle.new.machine ≡ handle.old.machine }
     ensures told { AreDifferencesTold handle.old.machine target.now count.old count.new refusal.old refusal.new result }
@@ -113,7 +113,7 @@ pub extern "C" fn nanobot_machine_aim(
     handle: &mut Handle,
     target: &[u8],
     count: &mut u32,
-    refusal: &mut ModelTold,
+    refusal: &mut ModelReport,
 ) -> u32
     ensures { IsTargetSet handle.old.machine target.now handle.new.machine count.old count.new refusal.old refusal.new result }
 {

@@ -4,9 +4,9 @@ ghost use Rattle.machine_c.specs.Judging.{IsJudged, WouldComeTo, WouldStep, acti
 
 use crate::handle::Handle;
 use crate::reading::high;
+use crate::reports::JudgedReport;
 use crate::status::NO_MACHINE;
 use crate::stepping::{StepAnswer, only_command};
-use crate::told::JudgedTold;
 use kept_machine::KeptMachine;
 use nano_spec::{Command, Harmonics};
 use std::alloc::Global;
@@ -78,10 +78,10 @@ fn harmonics_after(harmonics: Harmonics, answer: StepAnswer) -> Harmonics
 }
 
 /// Returns the numbers of a step that would have this outcome.
-fn told_of(machine: &KeptMachine, answer: StepAnswer) -> JudgedTold
+fn told_of(machine: &KeptMachine, answer: StepAnswer) -> JudgedReport
     ensures { result ≡ judged_told machine.now answer }
 {
-    JudgedTold {
+    JudgedReport {
         energy: energy_after(machine.energy(), answer),
         offset: answer.offset(),
         halts: halts(answer),
@@ -98,7 +98,7 @@ pub extern "C" fn nanobot_machine_judge(
     alloc: Global,
     handle: &mut Handle,
     commands: &[u8],
-    told: &mut JudgedTold,
+    told: &mut JudgedReport,
 ) -> u32
     ensures same { handle.new.machine ≡ handle.old.machine }
     ensures told { IsJudged handle.old.machine commands.now told.old told.new result }

@@ -10,11 +10,11 @@ mod judging;
 mod parts;
 mod playing;
 mod reading;
+mod reports;
 mod starting;
 mod status;
 mod stepping;
 #[cfg(test)]
 mod tests;
-mod told;
 mod tracing;
 mod version;

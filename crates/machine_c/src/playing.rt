@@ -4,9 +4,9 @@ ghost use Rattle.machine_c.specs.Playing.{IsFrontMade, IsNextStep, IsPlayed, IsT
 
 use crate::handle::Handle;
 use crate::reading::high;
+use crate::reports::{BrokenReport, PlayedReport};
 use crate::status::{DONE, NO_MACHINE};
 use crate::stepping::StepAnswer;
-use crate::told::{BrokenTold, PlayedTold};
 use kept_machine::KeptMachine;
 use nano_spec::Command;
 use std::alloc::Global;
@@ -33,12 +33,12 @@ impl Played {
     }
 
     /// Returns the broken rule.
-    fn broken_rule(self) -> BrokenTold
+    fn broken_rule(self) -> BrokenReport
         ensures { result ≡ rule_of_stop self.stop }
     {
         match self.stop {
             Some(answer) => answer.broken_rule(),
-            None => BrokenTold::none(),
+            None => BrokenReport::none(),
         }
     }
 
@@ -166,7 +166,7 @@ pub extern "C" fn nanobot_machine_play(
     handle: &mut Handle,
     trace: &[u8],
     most: u32,
-    told: &mut PlayedTold,
+    told: &mut PlayedReport,
 ) -> u32
     ensures { IsTracePlayed handle.old.machine trace.now most handle.new.machine told.old told.new result }
 {
@@ -174,7 +174,7 @@ pub extern "C" fn nanobot_machine_play(
         return NO_MACHINE;
     };
     let played = play(alloc, &mut machine, trace, most);
-    *told = PlayedTold {
+    *told = PlayedReport {
         energy: machine.energy(),
         used: played.used as u64,
         offset: played.bad_byte(trace),

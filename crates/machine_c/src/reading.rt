@@ -7,8 +7,8 @@ ghost use Rattle.machine_c.specs.Calls.{AreBotsTold, GivesAll, IsCounted, IsFull
 ghost use Rattle.machine_c.specs.Told.{bot_told};
 
 use crate::handle::Handle;
+use crate::reports::{BotReport, MachineReport};
 use crate::status::{DONE, MEMORY, NO_LEVEL, NO_MACHINE, OUTSIDE, TOO_SMALL};
-use crate::told::{BotTold, MachineTold};
 use kept_machine::{KeptMachine, NoLevel};
 use model_file::write_model;
 use nano_spec::{Bot, Harmonics};
@@ -20,7 +20,7 @@ use vox_geom::Coord;
 pub extern "C" fn nanobot_machine_tell(
     alloc: Global,
     handle: &mut Handle,
-    told: &mut MachineTold,
+    told: &mut MachineReport,
 ) -> u32
     ensures same { handle.new.machine ≡ handle.old.machine }
     ensures told { IsMachineTold handle.old.machine told.old told.new result }
@@ -28,7 +28,7 @@ pub extern "C" fn nanobot_machine_tell(
     let Some(machine) = handle.take(alloc) else {
         return NO_MACHINE;
     };
-    *told = MachineTold {
+    *told = MachineReport {
         energy: machine.energy(),
         steps: machine.steps_done(),
         active: u32::from(machine.active()),
@@ -51,7 +51,7 @@ pub(crate) fn high(harmonics: Harmonics) -> u32
 }
 
 /// Writes the bots to the front of the buffer if they fit, and their number to `count`.
-fn give_bots(bots: &[Bot], out: &mut [BotTold], count: &mut usize) -> u32
+fn give_bots(bots: &[Bot], out: &mut [BotReport], count: &mut usize) -> u32
     ensures { GivesAll (map bot_told bots.now) out.old out.new count.new result }
 {
     *count = bots.len();
@@ -59,7 +59,7 @@ fn give_bots(bots: &[Bot], out: &mut [BotTold], count: &mut usize) -> u32
         return TOO_SMALL;
     }
     for i in 0..bots.len() {
-        out[i] = BotTold::of(&bots[i]);
+        out[i] = BotReport::of(&bots[i]);
     }
     DONE
 }
@@ -69,7 +69,7 @@ fn give_bots(bots: &[Bot], out: &mut [BotTold], count: &mut usize) -> u32
 pub extern "C" fn nanobot_machine_bots(
     alloc: Global,
     handle: &mut Handle,
-    bots: &mut [BotTold],
+    bots: &mut [BotReport],
     count: &mut usize,
 ) -> u32
     ensures same { handle.new.machine ≡ handle.old.machine }

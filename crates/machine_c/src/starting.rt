@@ -5,8 +5,8 @@ ghost use Rattle.kept_machine.specs.Calls.{Opens, OpensFile};
 ghost use Rattle.machine_c.specs.Calls.{IsCopied, IsStarted, IsStartedEmpty, profile_by, status_of_start};
 
 use crate::handle::Handle;
+use crate::reports::ModelReport;
 use crate::status::{ARGUMENT, DONE, MEMORY, MODEL, NO_MACHINE};
-use crate::told::ModelTold;
 use kept_machine::KeptMachine;
 use model_file::ModelFault;
 use nano_spec::Profile;
@@ -84,11 +84,11 @@ pub extern "C" fn nanobot_machine_start(
     light: bool,
     notes: u32,
     handle: &mut Handle,
-    told: &mut ModelTold,
+    told: &mut ModelReport,
 ) -> u32
     ensures { IsStarted model.now light notes handle.old.machine handle.new.machine told.new result }
 {
-    *told = ModelTold::none();
+    *told = ModelReport::none();
     if notes > MOST_NOTES {
         return ARGUMENT;
     }
@@ -98,7 +98,7 @@ pub extern "C" fn nanobot_machine_start(
             DONE
         }
         Err(fault) => {
-            *told = ModelTold::of(fault);
+            *told = ModelReport::of(fault);
             status(fault)
         }
     }

@@ -5,8 +5,8 @@ ghost use Rattle.machine_c.specs.Calls.{StepComesTo, ComesTo, IsStepped, IsUndon
 
 use crate::handle::Handle;
 use crate::reading::high;
+use crate::reports::{BrokenReport, StepReport};
 use crate::status::{BROKEN, COMMANDS, COUNT, DONE, ENDED, LONG, MEMORY, NO_MACHINE, NO_NOTE};
-use crate::told::{BrokenTold, StepTold};
 use kept_machine::{KeptMachine, NoStep, StepDone};
 use nano_spec::Command;
 use std::alloc::Global;
@@ -41,12 +41,12 @@ impl StepAnswer {
     }
 
     /// Returns the broken rule, all fields 0 if there is none.
-    pub fn broken_rule(self) -> BrokenTold
+    pub fn broken_rule(self) -> BrokenReport
         ensures { result ≡ rule_told self }
     {
         match self {
-            StepAnswer::Refused(NoStep::Broken(broken)) => BrokenTold::of(broken),
-            _ => BrokenTold::none(),
+            StepAnswer::Refused(NoStep::Broken(broken)) => BrokenReport::of(broken),
+            _ => BrokenReport::none(),
         }
     }
 
@@ -117,7 +117,7 @@ pub extern "C" fn nanobot_machine_step(
     alloc: Global,
     handle: &mut Handle,
     commands: &[u8],
-    told: &mut StepTold,
+    told: &mut StepReport,
 ) -> u32
     ensures { IsStepped handle.old.machine commands.now handle.new.machine told.old told.new result }
 {
@@ -125,7 +125,7 @@ pub extern "C" fn nanobot_machine_step(
         return NO_MACHINE;
     };
     let answer = step_by(alloc, &mut machine, commands);
-    *told = StepTold {
+    *told = StepReport {
         energy: machine.energy(),
         offset: answer.offset(),
         steps: machine.steps_done(),

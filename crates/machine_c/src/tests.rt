@@ -12,13 +12,14 @@ use crate::reading::{
     nanobot_machine_bots, nanobot_machine_count, nanobot_machine_full, nanobot_machine_level,
     nanobot_machine_model, nanobot_machine_tell,
 };
+use crate::reports::{
+    BotReport, BrokenReport, JudgedReport, MachineReport, ModelReport, PlaceReport, PlayedReport,
+    StepReport,
+};
 use crate::starting::{
     nanobot_machine_copy, nanobot_machine_end, nanobot_machine_start, nanobot_machine_start_empty,
 };
 use crate::stepping::{nanobot_machine_step, nanobot_machine_undo};
-use crate::told::{
-    BotTold, BrokenTold, JudgedTold, MachineTold, ModelTold, PlaceTold, PlayedTold, StepTold,
-};
 use crate::tracing::{nanobot_machine_keep, nanobot_machine_trace};
 use std::alloc::Global;
 use std::process::Abort;
@@ -61,12 +62,12 @@ fn assert_steps(
     commands: &[u8],
     (status, energy, steps, rule): (u32, i64, u32, u32),
 ) {
-    let mut told = StepTold {
+    let mut told = StepReport {
         energy: 7,
         offset: 7,
         steps: 7,
         active: 7,
-        broken: BrokenTold::none(),
+        broken: BrokenReport::none(),
         high: 7,
         changed: 7,
     };
@@ -87,11 +88,11 @@ fn assert_judged(
     commands: &[u8],
     (status, energy, halts, rule): (u32, i64, u32, u32),
 ) {
-    let mut told = JudgedTold {
+    let mut told = JudgedReport {
         energy: 7,
         offset: 7,
         halts: 7,
-        broken: BrokenTold::none(),
+        broken: BrokenReport::none(),
         active: 7,
         high: 7,
         changed: 7,
@@ -113,7 +114,7 @@ fn assert_plays(
     (trace, most): (&[u8], u32),
     (status, made, used, offset): (u32, u32, u64, u64),
 ) {
-    let mut told = PlayedTold {
+    let mut told = PlayedReport {
         energy: 7,
         used: 7,
         offset: 7,
@@ -121,7 +122,7 @@ fn assert_plays(
         steps: 7,
         active: 7,
         high: 7,
-        broken: BrokenTold::none(),
+        broken: BrokenReport::none(),
     };
     assert_eq!(rt;
         nanobot_machine_play(alloc, handle, trace, most, &mut told),
@@ -147,7 +148,7 @@ fn assert_trace(rt: &impl Abort, alloc: Global, handle: &mut Handle, bytes: &[u8
 /// Asserts that the matrix differs from the model at `want` coordinates.
 fn assert_differs(rt: &impl Abort, alloc: Global, handle: &mut Handle, target: &[u8], want: u32) {
     let mut count = 7;
-    let mut refusal = ModelTold::none();
+    let mut refusal = ModelReport::none();
     assert_eq!(rt;
         nanobot_machine_differences(alloc, handle, target, &mut count, &mut refusal),
         0
@@ -162,7 +163,7 @@ fn assert_undone(rt: &impl Abort, alloc: Global, handle: &mut Handle, status: u3
 
 /// Asserts that the machine has made `steps` steps and can undo `noted` of them.
 fn assert_stands(rt: &impl Abort, alloc: Global, handle: &mut Handle, steps: u32, noted: u64) {
-    let mut told = MachineTold {
+    let mut told = MachineReport {
         energy: 7,
         steps: 7,
         active: 7,
@@ -246,7 +247,7 @@ fn two_bots_are_told(rt: HostRuntime) -> Result<(), Fail> {
     let alloc = rt.alloc();
     let mut handle = empty_of_three(&rt, alloc, 0);
     assert_steps(&rt, alloc, &mut handle, SPLIT, (0, 125, 1, 0));
-    let mut bots = [BotTold {
+    let mut bots = [BotReport {
         seeds: 0,
         bid: 0,
         x: 0,
@@ -273,7 +274,7 @@ fn two_bots_are_told(rt: HostRuntime) -> Result<(), Fail> {
 fn models_are_started_compared_and_given(rt: HostRuntime) -> Result<(), Fail> {
     let alloc = rt.alloc();
     let mut handle = Handle::empty(alloc);
-    let mut refusal = ModelTold::none();
+    let mut refusal = ModelReport::none();
     assert_eq!(&rt;
         nanobot_machine_start(alloc, BORDER, false, 0, &mut handle, &mut refusal),
         3
@@ -293,7 +294,7 @@ fn models_are_started_compared_and_given(rt: HostRuntime) -> Result<(), Fail> {
         0
     );
     assert_eq!(&rt; full, 1);
-    let mut place = PlaceTold { x: 7, y: 7, z: 7 };
+    let mut place = PlaceReport { x: 7, y: 7, z: 7 };
     assert_eq!(&rt;
         nanobot_machine_compare(alloc, &mut handle, P3, &mut place, &mut refusal),
         0
@@ -365,7 +366,7 @@ fn differences_are_counted(rt: HostRuntime) -> Result<(), Fail> {
     assert_steps(&rt, alloc, &mut handle, FILL, (0, 113, 1, 0));
     assert_differs(&rt, alloc, &mut handle, P3, 2);
     let mut count = 7;
-    let mut refusal = ModelTold::none();
+    let mut refusal = ModelReport::none();
     assert_eq!(&rt;
         nanobot_machine_differences(alloc, &mut handle, &[0x02, 0x00], &mut count, &mut refusal),
         19
@@ -398,7 +399,7 @@ fn a_target_is_kept(rt: HostRuntime) -> Result<(), Fail> {
     let mut handle = empty_of_three(&rt, alloc, 2);
     assert_remains(&rt, alloc, &mut handle, (22, 7));
     let mut count = 7;
-    let mut refusal = ModelTold::none();
+    let mut refusal = ModelReport::none();
     assert_eq!(&rt;
         nanobot_machine_aim(alloc, &mut handle, &[0x02, 0x00], &mut count, &mut refusal),
         19

@@ -334,7 +334,7 @@ fn first_ungrounded_in<L: Ledger>(
     ensures { IfOk result (λ at. FirstUngrounded planes.now at) }
 {
     let mut steps: Steps<L> = Steps::new(blank, CounterPermit);
-    if planes.is_heap(&mut steps) {
+    if planes.has_no_overhangs(&mut steps) {
         return Ok(None);
     }
     let mut flood = Flood {

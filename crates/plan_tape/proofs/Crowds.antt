@@ -16,7 +16,7 @@ use Rattle.nano_spec.specs.State.{State}
 use Rattle.nano_spec.specs.Step.{after}
 use Rattle.nano_spec.specs.Volatile.{volatile_regions}
 use Rattle.step_order.specs.Acting.{goal_of, leaves_voxels, stays_one}
-use Rattle.step_order.specs.Apart.{AreApart, AreUntangled, LieApart, MayMeet}
+use Rattle.step_order.specs.Apart.{AreApart, DoNotInterfere, LieApart, MayMeet}
 use Rattle.step_order.specs.Unbroken.{AreFree, IsFree, MayAct}
 use Rattle.plan_tape.specs.Crowd.{AllStep, AreWaysApart, CanGo, MayGo, way}
 use Rattle.plan_tape.specs.Progress.{IsHeld, TapeState, state_of, tape_stepped}
@@ -66,7 +66,7 @@ module _ (p : TapeState) where
   meet_by a g [] h k = tt
   meet_by a g (b ∷ xs) h k = (inr (apart_by a b g h.0 k.0), meet_by a g xs h.1 k.1)
 
-  untangled_by : (xs : List Act) → AllByRecursion (CanGo p) xs → AreWaysApart xs → AreUntangled xs
+  untangled_by : (xs : List Act) → AllByRecursion (CanGo p) xs → AreWaysApart xs → DoNotInterfere xs
   untangled_by [] h k = tt
   untangled_by (a ∷ xs) h k = (meet_by a h.0 xs h.1 k.0, untangled_by xs h.1 k.1)
 

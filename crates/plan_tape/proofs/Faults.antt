@@ -34,8 +34,8 @@ abbrev pub with_one : Matrix → Harmonics → Bot → ℤ → Profile → State
 with_one m h b e profile = record { matrix = m; harmonics = h; bots = b ∷ []; energy = e; profile = profile }
 
 -- with this command the bot breaks no rule that is judged bot by bot
-abbrev pub IsFaultless : Matrix → Harmonics → Bot → ℤ → Profile → Command → Type 0
-IsFaultless m h b e profile k = (rule : Rule) → fault (with_one m h b e profile) (lone b k ∷ []) (lone b k) rule ≡ None
+abbrev pub BreaksNoBotRule : Matrix → Harmonics → Bot → ℤ → Profile → Command → Type 0
+BreaksNoBotRule m h b e profile k = (rule : Rule) → fault (with_one m h b e profile) (lone b k ∷ []) (lone b k) rule ≡ None
 
 no_pairs : (m : Matrix) (a : Act) (step : ℕ) (leads : Bool) → judge_pairs m (a ∷ []) step (cond leads (a ∷ []) []) ≡ []
 no_pairs m a step true = refl
@@ -43,24 +43,24 @@ no_pairs m a step false = refl
 
 -- if so, the step breaks no rule that is judged at its start
 pub unbroken : (m : Matrix) (h : Harmonics) (b : Bot) (e : ℤ) (profile : Profile) (k : Command) (step : ℕ)
-    → IsFaultless m h b e profile k → broken (with_one m h b e profile) (k ∷ []) step ≡ None
+    → BreaksNoBotRule m h b e profile k → broken (with_one m h b e profile) (k ∷ []) step ≡ None
 unbroken m h b e profile k step f = simp f (ap first_value (no_pairs m (lone b k) step (is_leader (lone b k ∷ []) (lone b k))))
 
 module _ (m : Matrix) (h : Harmonics) (b : Bot) (e : ℤ) (profile : Profile) where
-  pub flip_faults : is_allowed profile Flip ≡ true → IsFaultless m h b e profile Flip
+  pub flip_faults : is_allowed profile Flip ≡ true → BreaksNoBotRule m h b e profile Flip
   flip_faults a Forbidden = rw a refl
   flip_faults a Blocked = none_find _ (all_of m) (λ c i. and_false (is_full m c))
   flip_faults a _ = refl
 
   pub fill_faults : (d : Diff) → is_allowed profile (Fill d) ≡ true
-      → in_space m.resolution (plus (point b.pos) d) ≡ true → IsFaultless m h b e profile (Fill d)
+      → in_space m.resolution (plus (point b.pos) d) ≡ true → BreaksNoBotRule m h b e profile (Fill d)
   fill_faults d a i Forbidden = rw a refl
   fill_faults d a i OutOfSpace = rw i refl
   fill_faults d a i Blocked = none_find _ (all_of m) (λ c i. and_false (is_full m c))
   fill_faults d a i _ = refl
 
   pub void_faults : (d : Diff) → is_allowed profile (Void d) ≡ true
-      → in_space m.resolution (plus (point b.pos) d) ≡ true → IsFaultless m h b e profile (Void d)
+      → in_space m.resolution (plus (point b.pos) d) ≡ true → BreaksNoBotRule m h b e profile (Void d)
   void_faults d a i Forbidden = rw a refl
   void_faults d a i OutOfSpace = rw i refl
   void_faults d a i Blocked = none_find _ (all_of m) (λ c i. and_false (is_full m c))
@@ -68,14 +68,14 @@ module _ (m : Matrix) (h : Harmonics) (b : Bot) (e : ℤ) (profile : Profile) wh
 
   pub move_faults : (d : Diff) → is_allowed profile (SMove d) ≡ true
       → in_space m.resolution (plus (point b.pos) d) ≡ true → IsVoid m (between (point b.pos) (plus (point b.pos) d))
-      → IsFaultless m h b e profile (SMove d)
+      → BreaksNoBotRule m h b e profile (SMove d)
   move_faults d a i v Forbidden = rw a refl
   move_faults d a i v OutOfSpace = rw i refl
   move_faults d a i v Blocked = none_find _ (all_of m) (λ c j. one_way (is_within (between (point b.pos) (plus (point b.pos) d)) (point c)) (is_full m c) (v c))
   move_faults d a i v _ = refl
 
   pub halt_faults : is_allowed profile Halt ≡ true → same_point (point b.pos) (point origin) ≡ true → h ≡ Low
-      → IsFaultless m h b e profile Halt
+      → BreaksNoBotRule m h b e profile Halt
   halt_faults a o l Forbidden = rw a refl
   halt_faults a o l HaltOrigin = rw o refl
   halt_faults a o l HaltLow = rw l refl

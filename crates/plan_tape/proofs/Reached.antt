@@ -22,7 +22,7 @@ use Rattle.nano_spec.specs.State.{State, opening}
 use Rattle.nano_spec.specs.Verdict.{Run, VerdictOf, breaks, compared, ending, ends, first_difference, goes}
 use Rattle.nano_spec.proofs.Unique.{Next-unique}
 use Rattle.nano_spec.proofs.Accepted.{accepted_step}
-use Rattle.plan_tape.specs.Reaches.{FallsAt, IsDecided, Reaches, ReachesTarget, starts, steps_on}
+use Rattle.plan_tape.specs.Reaches.{DecidesAt, IsDecided, Reaches, ReachesTarget, starts, steps_on}
 use Rattle.plan_tape.proofs.Runs.{run_of}
 
 -- ---- one step
@@ -124,7 +124,7 @@ module _ (source target : Matrix) (profile : Profile) (energy : ℤ) (steps : �
   at_end before (k ∷ more) s done r none h = absurd (cc)
 
   there : (commands : List Command) (d : IsDecided source target profile commands (Accepted energy steps))
-      → FallsAt target d.last d.rest d.done (Accepted energy steps)
+      → DecidesAt target d.last d.rest d.done (Accepted energy steps)
       → ReachesTarget source target profile commands energy steps
   there commands d (inl h) = subst (λ (k : List Command). ReachesTarget source target profile k energy steps) (sym d.joined) (at_end d.before d.rest d.last d.done d.reaches h.0 (sym h.1))
   there commands d (inr h) = absurd (let e = h.2 in cc)

@@ -31,7 +31,7 @@ use Rattle.plan_tape.specs.Leg.{AreLegs, AreVoidTo, IsLeg, IsOnward, IsVoidAlong
 use Rattle.plan_tape.specs.Progress.{IsAllowed, IsHeld, IsReachable, TapeState, beside, bots_at, spot, state_of, upkeep_of_step}
 use Rattle.plan_tape.specs.Reaches.{Reaches, steps_on}
 use Rattle.system_state.proofs.OnlyBot.{cost_is, fill_cost, matrix_filled, matrix_voided, untouched, void_cost}
-use Rattle.plan_tape.proofs.Faults.{IsFaultless, fill_faults, flip_faults, halt_faults, lone, move_faults, unbroken, void_faults, with_one}
+use Rattle.plan_tape.proofs.Faults.{BreaksNoBotRule, fill_faults, flip_faults, halt_faults, lone, move_faults, unbroken, void_faults, with_one}
 use Rattle.plan_tape.proofs.Legs.{bots_at-bots_at, bots_at-spot, first_void, last_void, length-bots_at, mlen-along, plus-along, put-component_of, put-put, put_in_space, spot-bots_at}
 use Rattle.step_order.specs.Unbroken.{IsVoid}
 
@@ -65,7 +65,7 @@ IsRun p = Reaches p.source p.profile p.commands (state_of p) p.steps
 
 -- the effect of a command of the only bot that breaks no rule
 pub record Does (p : TapeState) (b : Bot) (k : Command) (m : Matrix) (h : Harmonics) (bots : List Bot) (cost : ℤ) : Type 0 where
-  pub faultless : IsFaultless p.matrix p.harmonics b p.energy p.profile k
+  pub faultless : BreaksNoBotRule p.matrix p.harmonics b p.energy p.profile k
   pub matrix_is : matrix_after p.matrix (lone b k ∷ []) ≡ m
   pub harmonics_are : harmonics_after p.harmonics (lone b k ∷ []) ≡ h
   pub bots_are : bots_after (lone b k ∷ []) ≡ bots

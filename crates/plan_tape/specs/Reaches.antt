@@ -34,8 +34,8 @@ pub record ReachesTarget (source target : Matrix) (profile : Profile) (commands 
   pub same : first_difference last.matrix target ≡ None
 
 -- the state decides the verdict after this number of steps: no bot is left, or the next commands break a rule
-abbrev pub FallsAt : Matrix → State → List Command → ℕ → Verdict → Type 0
-FallsAt target s rest done verdict = ((s.bots ≡ []) × (verdict ≡ ending target s rest done))
+abbrev pub DecidesAt : Matrix → State → List Command → ℕ → Verdict → Type 0
+DecidesAt target s rest done verdict = ((s.bots ≡ []) × (verdict ≡ ending target s rest done))
     ⊎ ((b : Broken) × Next s (take (length s.bots) rest) (done + 1) (Breaks b) × (verdict ≡ Refused b))
 
 -- a prefix of the commands reaches the state that decides the verdict
@@ -47,4 +47,4 @@ pub record IsDecided (source target : Matrix) (profile : Profile) (commands : Li
   pub last : State
   pub done : ℕ
   pub reaches : Reaches source profile before last done
-  pub falls : FallsAt target last rest done verdict
+  pub falls : DecidesAt target last rest done verdict

@@ -383,8 +383,8 @@ impl Squad {
     pub(crate) fn gather_two(&mut self, yard: &mut Yard, mate: u8) {
         let (rear, front) = (yard.spot(self.lead).z, yard.spot(mate).z);
         if rear == 0 && front == 1 {
-            yard.order(self.lead, Task::Lead(along(1), mate, 0));
-            yard.order(mate, Task::Join(along(-1)));
+            yard.order(self.lead, Task::FuseAsPrimary(along(1), mate, 0));
+            yard.order(mate, Task::FuseAsSecondary(along(-1)));
             self.mate = None;
             return;
         }

@@ -321,10 +321,13 @@ impl Quads {
         for i in 0..self.quads.len() {
             if let Some(quad) = self.quad(i) {
                 let yard = &mut self.team.yard;
-                yard.order(quad.first, Task::Lead(along_z(1), quad.behind, 0));
-                yard.order(quad.behind, Task::Join(along_z(-1)));
-                yard.order(quad.beside, Task::Lead(along_z(1), quad.opposite, 0));
-                yard.order(quad.opposite, Task::Join(along_z(-1)));
+                yard.order(quad.first, Task::FuseAsPrimary(along_z(1), quad.behind, 0));
+                yard.order(quad.behind, Task::FuseAsSecondary(along_z(-1)));
+                yard.order(
+                    quad.beside,
+                    Task::FuseAsPrimary(along_z(1), quad.opposite, 0),
+                );
+                yard.order(quad.opposite, Task::FuseAsSecondary(along_z(-1)));
             }
         }
         self.team.yard.step()
@@ -335,8 +338,8 @@ impl Quads {
         for i in 0..self.quads.len() {
             if let Some(quad) = self.quad(i) {
                 let yard = &mut self.team.yard;
-                yard.order(quad.first, Task::Lead(along_x(1), quad.beside, 1));
-                yard.order(quad.beside, Task::Join(along_x(-1)));
+                yard.order(quad.first, Task::FuseAsPrimary(along_x(1), quad.beside, 1));
+                yard.order(quad.beside, Task::FuseAsSecondary(along_x(-1)));
             }
         }
         self.team.yard.step()

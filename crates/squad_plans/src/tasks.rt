@@ -28,9 +28,9 @@ pub(crate) enum Task {
     /// Makes the bot with this index at a difference, with this number of seeds.
     Split(Diff, u8, u8),
     /// Fuses with the bot at a difference, as the primary; the other has this index and this number of seeds.
-    Lead(Diff, u8, u8),
+    FuseAsPrimary(Diff, u8, u8),
     /// Fuses with the bot at a difference, as the secondary.
-    Join(Diff),
+    FuseAsSecondary(Diff),
 }
 
 /// Returns the difference, with x and z exchanged if `turned`.
@@ -72,9 +72,9 @@ pub(crate) fn undoing(task: Task) -> Task {
         Task::VoidRun(d, length) => Task::Run(d, length),
         Task::VoidPlane(d, dx, dz) => Task::FillPlane(d, dx, dz),
         Task::FillPlane(d, dx, dz) => Task::VoidPlane(d, dx, dz),
-        Task::Split(d, child, seeds) => Task::Lead(d, child, seeds),
-        Task::Lead(d, child, seeds) => Task::Split(d, child, seeds),
-        Task::Join(_) => Task::Wait,
+        Task::Split(d, child, seeds) => Task::FuseAsPrimary(d, child, seeds),
+        Task::FuseAsPrimary(d, child, seeds) => Task::Split(d, child, seeds),
+        Task::FuseAsSecondary(_) => Task::Wait,
     }
 }
 
@@ -113,8 +113,8 @@ fn command_if_near(task: Task, turned: bool) -> Option<Command> {
             Far::of(turn(Diff { dx, dy: 0, dz }, turned))?,
         )),
         Task::Split(d, _, seeds) => Some(Command::Fission(Near::of(turn(d, turned))?, seeds)),
-        Task::Lead(d, _, _) => Some(Command::FusionP(Near::of(turn(d, turned))?)),
-        Task::Join(d) => Some(Command::FusionS(Near::of(turn(d, turned))?)),
+        Task::FuseAsPrimary(d, _, _) => Some(Command::FusionP(Near::of(turn(d, turned))?)),
+        Task::FuseAsSecondary(d) => Some(Command::FusionS(Near::of(turn(d, turned))?)),
     }
 }
 

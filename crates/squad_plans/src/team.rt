@@ -384,8 +384,9 @@ impl Team {
                 } = *birth;
                 if of == round {
                     let (lead, join) = (self.lead(parent), self.lead(child));
-                    self.yard.order(lead, Task::Lead(along_x(1), join, seeds));
-                    self.yard.order(join, Task::Join(along_x(-1)));
+                    self.yard
+                        .order(lead, Task::FuseAsPrimary(along_x(1), join, seeds));
+                    self.yard.order(join, Task::FuseAsSecondary(along_x(-1)));
                     if let Some(squad) = self.squads.get_mut(child) {
                         squad.lead = 0;
                     }

@@ -248,7 +248,7 @@ impl Yard {
         let task = worker.task;
         let was_active = worker.active;
         worker.task = Task::Wait;
-        if let Task::Join(_) = task {
+        if let Task::FuseAsSecondary(_) = task {
             worker.active = false;
         }
         if !was_active {
@@ -298,8 +298,8 @@ impl Yard {
                 break;
             };
             let task = undoing(doing.task);
-            if let Task::Lead(d, child, _) = task {
-                self.order(child, Task::Join(opposite(d)));
+            if let Task::FuseAsPrimary(d, child, _) = task {
+                self.order(child, Task::FuseAsSecondary(opposite(d)));
             }
             if let Task::Wait = task {
                 continue;
@@ -314,7 +314,7 @@ impl Yard {
             let Some(doing) = self.doing(i) else {
                 break;
             };
-            if let Task::Lead(_, child, _) = doing.task {
+            if let Task::FuseAsPrimary(_, child, _) = doing.task {
                 self.arrive(child, Spot::home());
             }
         }

@@ -21,7 +21,7 @@ use Rattle.nano_spec.specs.Profile.{is_allowed}
 use Rattle.nano_spec.specs.Rules.{corners_of, fault, repeats}
 use Rattle.nano_spec.specs.State.{State, origin, seed_list}
 use Rattle.nano_spec.specs.Volatile.{volatile_regions}
-use Rattle.step_order.specs.Apart.{AreApart, AreBelow, AreUntangled, LieApart, MayMeet, before_x, before_y, before_z, after_x, after_y, after_z}
+use Rattle.step_order.specs.Apart.{AreApart, AreBelow, DoNotInterfere, LieApart, MayMeet, before_x, before_y, before_z, after_x, after_y, after_z}
 use Rattle.step_order.specs.Unbroken.{AreFree, AreOneGroup, HasPartner, IsCornered, IsFree, IsFreeWay, IsMember, MayAct, MayHalt, MayJoin}
 use Rattle.step_order.proofs.Judgements.{Agree, AreClear, contained}
 use Rattle.step_order.proofs.Lists.{In, any_in, filter_every, in_any, none_find}
@@ -77,7 +77,7 @@ turned a b (inr h) = inr (λ c v w. h c w v)
 
 -- ---- bots that fuse in pairs or act alone
 
-agree_in : (xs : List Act) → AreUntangled xs → (a b : Act) → In a xs → In b xs → Agree a b
+agree_in : (xs : List Act) → DoNotInterfere xs → (a b : Act) → In a xs → In b xs → Agree a b
 agree_in [] h a b i j = absurd i
 agree_in (x ∷ xs) h a b (inl i) (inl j) = inl (subst (λ (y : Act). are_together a y ≡ true) (i ∙ sym j) (with_itself a))
 agree_in (x ∷ xs) h a b (inl i) (inr j) = subst (λ (y : Act). Agree y b) (sym i) (meets x b (all_by (λ (y : Act). MayMeet x y) xs b h.0 j))

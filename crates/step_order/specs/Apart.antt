@@ -33,6 +33,6 @@ abbrev pub MayMeet : Act → Act → Type 0
 MayMeet a b = IsTrue (are_partners a b) ⊎ AreApart a b
 
 -- any two bots fuse, or have disjoint volatile regions
-abbrev pub AreUntangled : List Act → Type 0
-AreUntangled [] = Unit {0}
-AreUntangled (a ∷ more) = AllByRecursion (λ b. MayMeet a b) more × AreUntangled more
+abbrev pub DoNotInterfere : List Act → Type 0
+DoNotInterfere [] = Unit {0}
+DoNotInterfere (a ∷ more) = AllByRecursion (λ b. MayMeet a b) more × DoNotInterfere more

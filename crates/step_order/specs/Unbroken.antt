@@ -14,7 +14,7 @@ use Rattle.nano_spec.specs.Matrix.{Matrix, is_full}
 use Rattle.nano_spec.specs.Profile.{is_allowed}
 use Rattle.nano_spec.specs.Rules.{corners_of, repeats}
 use Rattle.nano_spec.specs.State.{State, origin, seed_list}
-use Rattle.step_order.specs.Apart.{AreUntangled}
+use Rattle.step_order.specs.Apart.{DoNotInterfere}
 
 -- no full voxel is in the region
 abbrev pub IsVoid : Matrix → Span → Type 0
@@ -64,7 +64,7 @@ pub record IsFree (s : State) (all : List Act) (a : Act) : Type 0 where
 -- no bot has a group command, each has what it needs, and any two fuse or have disjoint volatile regions
 pub record AreFree (s : State) (all : List Act) : Type 0 where
   pub each : AllByRecursion (IsFree s all) all
-  pub untangled : AreUntangled all
+  pub untangled : DoNotInterfere all
 
 -- ---- one group
 

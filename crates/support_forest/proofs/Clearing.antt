@@ -7,7 +7,7 @@ use Rattle.vox_geom.proofs.Points.{same_or_not}
 use Rattle.support_forest.specs.Directions.{Toward, lies_left, lies_right, lies_under, lies_over, lies_near, lies_far}
 use Rattle.support_forest.specs.Grid.{Grid, word_at}
 use Rattle.support_forest.specs.Stretches.{AreCleared, IsPast, IsStretch, IsTaking, RowIsFree, TakesMore, further}
-use Rattle.support_forest.specs.Taking.{HaveTaken, IsNoParent}
+use Rattle.support_forest.specs.Taking.{HaveVoidedOne, IsNoParent}
 use Rattle.support_forest.specs.Words.{AreExact, IsWritten}
 use Rattle.support_forest.proofs.Each.{before_last, taking_listed, taking_taken}
 use Rattle.support_forest.proofs.Taking.{exact_without}
@@ -91,7 +91,7 @@ in_row d c (suc n) = elim (same_or_not d (further c n)) [
 ]
 
 pub one_taken : (now new : Grid) (gone : List Coord) (end count : ℕ) (rest : List Coord) (steps after : ℕ) (x : Coord)
-    → count ≡ 1 → count ≤ end → x ≡ slice_index_or gone (end - count) x → HaveTaken now new x steps after
+    → count ≡ 1 → count ≤ end → x ≡ slice_index_or gone (end - count) x → HaveVoidedOne now new x steps after
     → TakesMore now new gone end (end - count) rest rest steps after
 one_taken now new gone end count rest steps after x c l e h old before a p =
     let end_is : end ≡ end - count + 1 = omega arith in

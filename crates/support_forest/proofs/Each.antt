@@ -13,7 +13,7 @@ use Rattle.support_forest.specs.Grid.{Grid, word_at}
 use Rattle.support_forest.specs.Losing.{CanRemove, HaveRemoved}
 use Rattle.support_forest.specs.Placing.{ArePlaced, HavePlaced}
 use Rattle.support_forest.specs.Stretches.{IsPast, IsTaking}
-use Rattle.support_forest.specs.Taking.{AreTaken, HaveTaken}
+use Rattle.support_forest.specs.Taking.{AreTaken, HaveVoidedOne}
 use Rattle.support_forest.specs.Waiting.{CanAdd, HaveAdded}
 use Rattle.support_forest.specs.Words.{height, AreExact, has_changed, changed}
 use Rattle.support_forest.proofs.Counts.{count_le, differ, do_differ}
@@ -202,7 +202,7 @@ not_past old gone i x a l e m = let at_most_m : i + 1 ≤ m.0 = m.1 in a.differ 
 
 pub taking_taken : (old now new : Grid) (gone : List Coord) (i : ℕ) (rest : List Coord) (before steps after : ℕ)
     (x : Coord) → CanRemove old gone → IsTaking old now gone (i + 1) rest before steps → x ≡ slice_index_or gone i x
-    → HaveTaken now new x steps after → IsTaking old new gone i rest before after
+    → HaveVoidedOne now new x steps after → IsTaking old new gone i rest before after
 taking_taken old now new gone i rest before steps after x a p e h =
     let below_length : i < length gone = let its_within = p.within in omega arith in
     record {

@@ -8,7 +8,7 @@ use Rattle.brick_arena.specs.Slots.{Slots, with_row, words_of}
 use Rattle.support_forest.specs.Directions.{Toward, lies_left, lies_right, lies_under, lies_over, lies_near, lies_far}
 use Rattle.support_forest.specs.Grid.{Grid, IsStore, count_words, floating_count, slot_of, word_at, word_index}
 use Rattle.support_forest.specs.Stretches.{AreCleared, AreWritten, LieInRow, RowIsFree, further}
-use Rattle.support_forest.specs.Words.{AreExact, IsWritten, leans}
+use Rattle.support_forest.specs.Words.{AreExact, IsWritten, is_overhang}
 use Rattle.support_forest.proofs.Clearing.{in_row}
 use Rattle.support_forest.proofs.Stretches.{row_index, row_slot, row_space}
 use Rattle.support_forest.proofs.Writes.{keeps, sets, still_counted, straight_not_one}
@@ -25,14 +25,14 @@ pub record CanRow (g : Grid) (c : Coord) (slot index word : ℕ) : Type 0 where
   pub row : LieInRow g c 8
   pub own : slot_of g c ≡ Some slot
   pub at : index ≡ word_index c
-  pub level : leans word ≡ false
-  pub levels : (k : ℕ) → k < 8 → leans (word_at g (further c k)) ≡ false
+  pub level : is_overhang word ≡ false
+  pub levels : (k : ℕ) → k < 8 → is_overhang (word_at g (further c k)) ≡ false
   pub written : (k : ℕ) → k < 8
       → get_or (words_of (with_row g.bricks slot index (k + 1) word) slot) (index + k) 0 ≡ word
 
 pub can_row : (g q : Grid) (c : Coord) (slot index word : ℕ) → g ≡ q → IsStore g → LieInRow q c 8
-    → slot_of q c ≡ Some slot → index ≡ word_index c → leans word ≡ false
-    → ((k : ℕ) → k < 8 → leans (word_at q (further c k)) ≡ false)
+    → slot_of q c ≡ Some slot → index ≡ word_index c → is_overhang word ≡ false
+    → ((k : ℕ) → k < 8 → is_overhang (word_at q (further c k)) ≡ false)
     → ((k : ℕ) → k < 8 → get_or (words_of (with_row g.bricks slot index (k + 1) word) slot) (index + k) 0 ≡ word)
     → CanRow g c slot index word
 can_row g q c slot index word same h r o a l ls w = record {
@@ -41,7 +41,7 @@ can_row g q c slot index word same h r o a l ls w = record {
   own = subst (λ (x : Grid). slot_of x c ≡ Some slot) (sym same) o;
   at = a;
   level = l;
-  levels = λ k m. ap (λ (x : Grid). leans (word_at x (further c k))) same ∙ ls k m;
+  levels = λ k m. ap (λ (x : Grid). is_overhang (word_at x (further c k))) same ∙ ls k m;
   written = w;
 }
 
@@ -49,7 +49,7 @@ can_row g q c slot index word same h r o a l ls w = record {
 record IsRowed (g : Grid) (c : Coord) (slot index word k : ℕ) : Type 0 where
   store : IsStore (rowed g slot index word k)
   floating : floating_count (rowed g slot index word k) ≡ floating_count g
-  leaning : count_words leans (rowed g slot index word k) ≡ count_words leans g
+  leaning : count_words is_overhang (rowed g slot index word k) ≡ count_words is_overhang g
   later : (j : ℕ) → k ≤ j → word_at (rowed g slot index word k) (further c j) ≡ word_at g (further c j)
 
 one_more : (g : Grid) (c : Coord) (slot index word k : ℕ) → CanRow g c slot index word
@@ -78,12 +78,12 @@ is_rowed g c slot index word (suc k) h l =
     let one_more_here = one_more g c slot index word k h rowed_here.store k_below_8 in
     let now : Grid = rowed g slot index word k in
     let next : Grid = rowed g slot index word (suc k) in
-    let stood : leans (word_at now (further c k)) ≡ false = ap leans (rowed_here.later k (omega arith)) ∙ h.levels k k_below_8 in
+    let stood : is_overhang (word_at now (further c k)) ≡ false = ap is_overhang (rowed_here.later k (omega arith)) ∙ h.levels k k_below_8 in
     let within = row_space g c 8 k h.row k_below_8 in
     record {
       store = one_more_here.1;
       floating = still_counted (λ n. n == 1) now next (further c k) word refl within one_more_here.0 (straight_not_one (word_at now (further c k)) stood) (straight_not_one word h.level) ∙ rowed_here.floating;
-      leaning = still_counted leans now next (further c k) word refl within one_more_here.0 stood h.level ∙ rowed_here.leaning;
+      leaning = still_counted is_overhang now next (further c k) word refl within one_more_here.0 stood h.level ∙ rowed_here.leaning;
       later = λ j m. one_more_here.0.kept (further c j) (λ e. let sum_is : c.z + j ≡ c.z + k = ap (λ (x : Coord). x.z) e in omega arith) ∙ rowed_here.later j (omega arith);
     }
 
@@ -92,7 +92,7 @@ pub record WroteRow (g : Grid) (v : Slots) (c : Coord) (word : ℕ) : Type 0 whe
   pub store : IsStore (record { resolution = g.resolution; table = g.table; bricks = v })
   pub floating : floating_count (record { resolution = g.resolution; table = g.table; bricks = v }) ≡ floating_count g
   pub leaning :
-      count_words leans (record { resolution = g.resolution; table = g.table; bricks = v }) ≡ count_words leans g
+      count_words is_overhang (record { resolution = g.resolution; table = g.table; bricks = v }) ≡ count_words is_overhang g
   pub written : AreWritten g (record { resolution = g.resolution; table = g.table; bricks = v }) c word
 
 pub wrote_row : (g : Grid) (v : Slots) (c : Coord) (slot index word : ℕ) → CanRow g c slot index word

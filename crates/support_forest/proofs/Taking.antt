@@ -9,11 +9,11 @@ use Rattle.support_forest.specs.Directions.{Toward, lies_left, lies_right, lies_
 use Rattle.support_forest.specs.Grid.{Grid, word_at}
 use Rattle.support_forest.specs.Losing.{CanRemove, HaveRemoved}
 use Rattle.support_forest.specs.Placing.{AreBesideWords, IsWordToward}
-use Rattle.support_forest.specs.Taking.{HangsNot, HaveTaken, IsNoParent, NoneHangs}
+use Rattle.support_forest.specs.Taking.{HangsNot, HaveVoidedOne, IsNoParent, HasNoChild}
 use Rattle.support_forest.specs.Words.{AreExact, IsWritten}
 use Rattle.support_forest.proofs.Placing.{only_one}
 
-pub none_hangs : (w : Coord → ℕ) (c : Coord) (b : Beside) → AreBesideWords w c b → NoneHangs b → IsNoParent w c
+pub none_hangs : (w : Coord → ℕ) (c : Coord) (b : Beside) → AreBesideWords w c b → HasNoChild b → IsNoParent w c
 none_hangs w c b k n q h t = by t
   where
     by : Toward (w q % 8) q c → ⊥
@@ -44,7 +44,7 @@ exact_without r w v c e n k = record {
 
 taken_by : (old new : Grid) (c : Coord) (before after : ℕ) → AreExact old.resolution (word_at old)
     → IsNoParent (word_at old) c → IsWritten (word_at old) (word_at new) c 0 → new.resolution ≡ old.resolution
-    → after ≤ before + 8 → HaveTaken old new c before after
+    → after ≤ before + 8 → HaveVoidedOne old new c before after
 taken_by old new c before after e n w r t = record {
   resolution = r;
   exact = subst (λ (s : ℕ). AreExact s (word_at new)) (sym r) (exact_without old.resolution (word_at old) (word_at new) c e n w);
@@ -55,7 +55,7 @@ taken_by old new c before after e n w r t = record {
 
 pub taken : (old new : Grid) (c : Coord) (before mid next after : ℕ) → AreExact old.resolution (word_at old)
     → IsNoParent (word_at old) c → IsWritten (word_at old) (word_at new) c 0 → new.resolution ≡ old.resolution
-    → mid ≤ before + 6 → next ≤ mid + 1 → after ≡ next + 1 → HaveTaken old new c before after
+    → mid ≤ before + 6 → next ≤ mid + 1 → after ≡ next + 1 → HaveVoidedOne old new c before after
 taken old new c before mid next after e n w r l m t = taken_by old new c before after e n w r (omega arith)
 
 -- ---- the voxel is on the floor
@@ -75,13 +75,13 @@ none_hangs_on_floor r w c over e y k n q h t = by t
 
 pub taken_from_floor : (old new : Grid) (c : Coord) (over before mid after : ℕ) → AreExact old.resolution (word_at old)
     → c.y ≡ 0 → IsWordToward (word_at old) c 4 over → HangsNot over 3 → IsWritten (word_at old) (word_at new) c 0
-    → new.resolution ≡ old.resolution → mid ≤ before + 1 → after ≡ mid + 1 → HaveTaken old new c before after
+    → new.resolution ≡ old.resolution → mid ≤ before + 1 → after ≡ mid + 1 → HaveVoidedOne old new c before after
 taken_from_floor old new c over before mid after e y k n w r l t = taken_by old new c before after e (none_hangs_on_floor old.resolution (word_at old) c over e y k n) w r (omega arith)
 
 -- ---- the only one
 
 pub taken_removed : (old new : Grid) (gone : List Coord) (c : Coord) (before after : ℕ) → length gone ≡ 1
-    → c ≡ slice_index_or gone 0 c → CanRemove old gone → HaveTaken old new c before after
+    → c ≡ slice_index_or gone 0 c → CanRemove old gone → HaveVoidedOne old new c before after
     → HaveRemoved old new gone 62 before after
 taken_removed old new gone c before after l e a p = record {
   resolution = p.resolution;

@@ -13,7 +13,7 @@ abbrev pub HangsNot : ℕ → ℕ → Type 0
 HangsNot word toward = 8 ≤ word → word % 8 ≡ toward → ⊥
 
 -- the voxel between these six neighbors is the parent of none
-pub record NoneHangs (b : Beside) : Type 0 where
+pub record HasNoChild (b : Beside) : Type 0 where
   pub left : HangsNot b.left 2
   pub right : HangsNot b.right 1
   pub under : HangsNot b.under 4
@@ -31,12 +31,12 @@ pub record TellsParent (told : Bool) (g : Grid) (c : Coord) (before after : ℕ)
   pub touches : after ≤ before + 6
 
 -- the forest is consistent, and the voxel is full
-pub record CanTake (g : Grid) (c : Coord) : Type 0 where
+pub record CanVoid (g : Grid) (c : Coord) : Type 0 where
   pub exact : AreExact g.resolution (word_at g)
   pub full : 0 < word_at g c
 
 -- the voxel became void, no other word changed, and the forest is consistent
-pub record HaveTaken (old new : Grid) (c : Coord) (before after : ℕ) : Type 0 where
+pub record HaveVoidedOne (old new : Grid) (c : Coord) (before after : ℕ) : Type 0 where
   pub resolution : new.resolution ≡ old.resolution
   pub exact : AreExact new.resolution (word_at new)
   pub gone : word_at new c ≡ 0
@@ -46,7 +46,7 @@ pub record HaveTaken (old new : Grid) (c : Coord) (before after : ℕ) : Type 0 
 -- the voxel became void, or nothing changed
 abbrev pub TakesOrStays : Bool → Grid → Grid → Coord → ℕ → ℕ → Type 0
 TakesOrStays done old new c before after =
-    MatchBool done (HaveTaken old new c before after) ((new ≡ old) × (after ≤ before + 6))
+    MatchBool done (HaveVoidedOne old new c before after) ((new ≡ old) × (after ≤ before + 6))
 
 -- voxels of `gone` became void one after another, each without children; the rest may still be removed
 pub record AreTaken (old new : Grid) (gone rest : List Coord) (before after : ℕ) : Type 0 where

@@ -5,7 +5,7 @@ ghost use Rattle.support_forest.specs.Grid.{word_at};
 ghost use Rattle.support_forest.specs.Placing.{AreBesideWords, CanPlace, CanPlaceIn, IsAround, IsWordToward, LeavesRoom, MayLieUnder, MayStand, PlacesOrStays, StandsOrStays};
 ghost use Rattle.support_forest.specs.Access.{LieInSpace};
 ghost use Rattle.support_forest.specs.Spots.{IsReadAt, voxel_in};
-ghost use Rattle.support_forest.specs.Words.{IsStraight};
+ghost use Rattle.support_forest.specs.Words.{NoneOverhangs};
 
 use crate::beside::{Beside, place_in_chunk, words_beside, words_beyond};
 use crate::cells::Cells;
@@ -352,7 +352,7 @@ fn stand_in<L: Ledger>(cells: &mut Cells, spot: u32, slot: u32, steps: &mut Step
 #[inline(always)]
 fn stand_straight<L: Ledger>(cells: &mut Cells, spot: u32, slot: u32, steps: &mut Steps<L>) -> bool
     requires can { CanPlaceIn cells.old (voxel_in cells.old spot) slot }
-    requires straight { IsStraight (word_at cells.old) }
+    requires straight { NoneOverhangs (word_at cells.old) }
     ensures { StandsOrStays result cells.old cells.new (voxel_in cells.old spot) steps.old steps.new }
 {
     cells.recall();

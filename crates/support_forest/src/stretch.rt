@@ -384,7 +384,7 @@ fn list_voxels(
 }
 
 /// Voids or defers the last segment of `gone` before `end`, and returns the index of its first voxel.
-pub fn take_stretch<L: Ledger>(
+pub fn void_segment<L: Ledger>(
     cells: &mut Cells,
     gone: &[Coord],
     end: usize,

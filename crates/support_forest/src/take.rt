@@ -3,8 +3,8 @@ ghost use Rattle.std.specs.Prelude.{◌≡◌, Some, false};
 ghost use Rattle.support_forest.specs.Access.{LieInBrick};
 ghost use Rattle.support_forest.specs.Grid.{slot_of, word_at};
 ghost use Rattle.support_forest.specs.Spots.{voxel_in};
-ghost use Rattle.support_forest.specs.Words.{IsStraight};
-ghost use Rattle.support_forest.specs.Taking.{CanTake, HangsNot, TakesOrStays, TellsParent};
+ghost use Rattle.support_forest.specs.Words.{NoneOverhangs};
+ghost use Rattle.support_forest.specs.Taking.{CanVoid, HangsNot, TakesOrStays, TellsParent};
 
 use crate::beside::place_in_chunk;
 use crate::cells::Cells;
@@ -78,7 +78,7 @@ fn is_parent<L: Ledger>(cells: &Cells, spot: u32, slot: u32, steps: &mut Steps<L
 /// Like [`take`], on the floor. There only the voxel above can be a child.
 #[inline(always)]
 fn take_from_floor<L: Ledger>(cells: &mut Cells, c: Coord, slot: u32, steps: &mut Steps<L>) -> bool
-    requires can { CanTake cells.old c }
+    requires can { CanVoid cells.old c }
     requires floor { c.y ≡ 0 }
     requires slot { slot_of cells.old c ≡ Some slot }
     ensures { TakesOrStays result cells.old cells.new c steps.old steps.new }
@@ -94,7 +94,7 @@ fn take_from_floor<L: Ledger>(cells: &mut Cells, c: Coord, slot: u32, steps: &mu
 /// Like [`take`], above the floor, for a voxel whose brick has this slot.
 #[inline(always)]
 fn take_from_air<L: Ledger>(cells: &mut Cells, spot: u32, slot: u32, steps: &mut Steps<L>) -> bool
-    requires can { CanTake cells.old (voxel_in cells.old spot) }
+    requires can { CanVoid cells.old (voxel_in cells.old spot) }
     requires slot { slot_of cells.old (voxel_in cells.old spot) ≡ Some slot }
     ensures { TakesOrStays result cells.old cells.new (voxel_in cells.old spot) steps.old steps.new }
 {
@@ -109,9 +109,9 @@ fn take_from_air<L: Ledger>(cells: &mut Cells, spot: u32, slot: u32, steps: &mut
 /// Like [`take`], above the floor in a forest without overhangs. There only the voxel above can be a child.
 #[inline(always)]
 fn take_straight<L: Ledger>(cells: &mut Cells, spot: u32, slot: u32, steps: &mut Steps<L>) -> bool
-    requires can { CanTake cells.old (voxel_in cells.old spot) }
+    requires can { CanVoid cells.old (voxel_in cells.old spot) }
     requires slot { slot_of cells.old (voxel_in cells.old spot) ≡ Some slot }
-    requires straight { IsStraight (word_at cells.old) }
+    requires straight { NoneOverhangs (word_at cells.old) }
     ensures { TakesOrStays result cells.old cells.new (voxel_in cells.old spot) steps.old steps.new }
 {
     cells.recall();
@@ -128,7 +128,7 @@ fn take_straight<L: Ledger>(cells: &mut Cells, spot: u32, slot: u32, steps: &mut
 /// Voids a full voxel if it is no other's parent, and returns whether it did; otherwise changes nothing.
 #[inline(always)]
 pub fn take<L: Ledger>(cells: &mut Cells, c: Coord, steps: &mut Steps<L>) -> bool
-    requires { CanTake cells.old c }
+    requires { CanVoid cells.old c }
     ensures { TakesOrStays result cells.old cells.new c steps.old steps.new }
 {
     let spot = cells.spot(c);

@@ -7,7 +7,7 @@ use Rattle.vox_geom.specs.Region.{Span}
 use Rattle.nano_spec.specs.Act.{Act, position}
 use Rattle.nano_spec.specs.Group.{are_partners}
 use Rattle.nano_spec.specs.Volatile.{volatile_regions}
-use Rattle.step_order.specs.Apart.{AreApart, AreUntangled, LieApart, MayMeet}
+use Rattle.step_order.specs.Apart.{AreApart, DoNotInterfere, LieApart, MayMeet}
 
 -- the region is in columns from one to another
 pub record IsInColumns (low high : ℕ) (s : Span) : Type 0 where
@@ -55,7 +55,7 @@ past low high a h l none = tt
 past low high a h {next} l (one {a = b} end up k rest) = (inr (fenced_apart low high next end a b l h k), past low high a h (omega arith) rest)
 past low high a h {next} l (two {a = b} {b = c} end k m p) = (inr (fenced_apart low high next end a b l h k), (inr (fenced_apart low high next end a c l h m), tt))
 
-pub untangled : {low : ℕ} {all : List Act} → AreFenced low all → AreUntangled all
+pub untangled : {low : ℕ} {all : List Act} → AreFenced low all → DoNotInterfere all
 untangled none = tt
 untangled {low} (one {a = a} high up k rest) = (past low high a k (omega arith) rest, untangled rest)
 untangled (two high k m p) = ((inl p, tt), (tt, tt))

@@ -15,7 +15,7 @@ use Rattle.vox_geom.proofs.Truths.{first_of_two}
 use Rattle.vox_geom.proofs.Points.{space_by_test}
 use Rattle.nano_spec.specs.Matrix.{is_full}
 use Rattle.nano_spec.specs.Model.{bit}
-use Rattle.vox_planes.specs.Heap.{IsHeap}
+use Rattle.vox_planes.specs.Heap.{HasNoOverhangs}
 use Rattle.vox_planes.specs.Layers.{IsLayered, bit_index, is_set, layer_words, layered}
 use Rattle.vox_planes.proofs.Bits.{in_layer}
 use Rattle.vox_planes.proofs.Voxels.{is_full-layered}
@@ -95,9 +95,9 @@ one_down (suc y) n l = let less : suc y - 1 ≡ y = omega arith in suc-mul y n �
 bit_under : (r : ℕ) (c : Coord) → 0 < c.y → bit_index r c - layer_words r * 64 ≡ bit_index r (under c)
 bit_under r c l = let down : c.y * layer_words r ≡ (c.y - 1) * layer_words r + layer_words r = one_down c.y (layer_words r) l in omega arith
 
-pub is_heap-held : (r : ℕ) (ws : List ℕ) (layer end : ℕ) → layer ≡ layer_words r → r * layer_words r ≤ end
-    → AreHeld ws layer end → IsHeap (layered r ws)
-is_heap-held r ws layer end size all a = λ c h. by c h (cases_lt 0 c.y)
+pub has_no_overhangs-held : (r : ℕ) (ws : List ℕ) (layer end : ℕ) → layer ≡ layer_words r → r * layer_words r ≤ end
+    → AreHeld ws layer end → HasNoOverhangs (layered r ws)
+has_no_overhangs-held r ws layer end size all a = λ c h. by c h (cases_lt 0 c.y)
   where
     by : (c : Coord) → IsTrue (is_full (layered r ws) c) → ((0 < c.y) ⊎ (c.y ≤ 0))
         → (c.y ≡ 0) ⊎ IsTrue (is_full (layered r ws) (under c))
@@ -124,7 +124,7 @@ not_first (suc q) n m i e l h = omega arith
 abbrev voxel : ℕ → ℕ → ℕ → Coord
 voxel r y at = record { x = at / r; y = y; z = at % r }
 
-module _ (r : ℕ) (ws : List ℕ) (h : IsLayered r ws) (heap : IsHeap (layered r ws)) where
+module _ (r : ℕ) (ws : List ℕ) (h : IsLayered r ws) (heap : HasNoOverhangs (layered r ws)) where
   -- a bit above the floor that is 1 has a bit below it that is 1
   held_in_heap : (y at j : ℕ) → 0 < y → y < r → at < layer_words r * 64 → y * layer_words r * 64 + at ≡ j
       → is_set ws j ≡ true → is_set ws (j - layer_words r * 64) ≡ true

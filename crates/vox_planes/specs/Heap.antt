@@ -6,8 +6,8 @@ use Rattle.nano_spec.specs.Matrix.{Matrix, is_full}
 use Rattle.vox_planes.specs.Layers.{is_set}
 
 -- each full voxel is on the floor or above a full one
-abbrev pub IsHeap : Matrix → Type 0
-IsHeap m = (c : Coord) → IsTrue (is_full m c) → (c.y ≡ 0) ⊎ IsTrue (is_full m (below c))
+abbrev pub HasNoOverhangs : Matrix → Type 0
+HasNoOverhangs m = (c : Coord) → IsTrue (is_full m c) → (c.y ≡ 0) ⊎ IsTrue (is_full m (below c))
 
 -- whether the voxels of a column from the floor up to a height are all full
 abbrev pub is_full_up_to : Matrix → Coord → ℕ → Bool

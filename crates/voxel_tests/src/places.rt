@@ -68,7 +68,7 @@ fn the_earlier_coordinate(rt: HostRuntime) -> Result<(), Fail> {
 
 /// Asserts whether each full voxel is on the floor or above a full one.
 fn assert_heap<L: Ledger>(rt: &impl Abort, planes: &Planes, heap: bool, steps: &mut Steps<L>) {
-    assert!(rt; planes.is_heap(steps) == heap);
+    assert!(rt; planes.has_no_overhangs(steps) == heap);
 }
 
 /// Voxels above one another, one that floats, and an overhang.

@@ -7,7 +7,7 @@ ghost use Rattle.nano_spec.specs.Matrix.{all_of, is_full};
 ghost use Rattle.nano_spec.specs.Model.{bit, volume};
 ghost use Rattle.nano_spec.specs.Verdict.{first_difference};
 ghost use Rattle.vox_planes.specs.Difference.{earlier as earlier_of, in_layer_differ};
-ghost use Rattle.vox_planes.specs.Heap.{IsHeap, goes, is_stacked};
+ghost use Rattle.vox_planes.specs.Heap.{HasNoOverhangs, goes, is_stacked};
 ghost use Rattle.vox_planes.specs.Layers.{is_set as is_set_of, layer_words as layer_words_of};
 ghost use Rattle.vox_planes.specs.Voxel.{IsWhole};
 
@@ -77,9 +77,9 @@ impl Planes {
     /// Returns whether there are no overhangs: each full voxel is on the floor or above a full one.
     ///
     /// Makes at most two touches for each voxel.
-    pub fn is_heap<L: Ledger>(&self, steps: &mut Steps<L>) -> bool
-        ensures heap { result ≡ true → IsHeap self.now }
-        ensures other { result ≡ false → IsHeap self.now → ⊥ }
+    pub fn has_no_overhangs<L: Ledger>(&self, steps: &mut Steps<L>) -> bool
+        ensures heap { result ≡ true → HasNoOverhangs self.now }
+        ensures other { result ≡ false → HasNoOverhangs self.now → ⊥ }
         ensures touches { steps.new ≤ steps.old + 2 * volume self.now.resolution }
     {
         let layer = self.layer;

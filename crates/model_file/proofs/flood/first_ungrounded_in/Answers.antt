@@ -8,7 +8,7 @@ use Rattle.nano_spec.specs.Matrix.{is_full}
 use Rattle.model_file.specs.declared.flood.Flood.{Flood}
 use Rattle.model_file.specs.Flood.{IsStart}
 use Rattle.model_file.proofs.Beginnings.{begun_dropped, floor_dropped, flood_begun}
-use Rattle.model_file.proofs.Heaps.{heap_is_grounded}
+use Rattle.model_file.proofs.Heaps.{grounded_without_overhangs}
 use Rattle.model_file.proofs.Spreads.{found_starts, left_is_ungrounded}
 use Rattle.model_file.proofs.flood.first_ungrounded_in.Goals as goal
 
@@ -37,5 +37,5 @@ returns g c =
     subst (λ (o : Option Coord). FirstUngrounded planes o) (first_is planes.resolution (is_full left) c.least_full.result least)
     (left_is_ungrounded planes c.spread.new.self (is_full left) done c.in_ok-spread.ensures.all (λ d t. t) (λ d t. t))
 
-pub returns-then-is_heap : goal.returns-then-is_heap
-returns-then-is_heap g c = heap_is_grounded c.args.planes.now (c.is_heap.ensures.heap c.if-is_heap.true)
+pub returns-then-has_no_overhangs : goal.returns-then-has_no_overhangs
+returns-then-has_no_overhangs g c = grounded_without_overhangs c.args.planes.now (c.has_no_overhangs.ensures.heap c.if-has_no_overhangs.true)

@@ -4,7 +4,7 @@ use Rattle.std.proofs.lemmas.List.Elements.{Contains-get_or}
 use Rattle.vox_geom.specs.declared.coordinate.Coord.{Coord}
 use Rattle.support_forest.specs.Grid.{side}
 use Rattle.support_forest.specs.Offers.{listed_voxels}
-use Rattle.support_forest.specs.Waiting.{CanResettle, HaveResettled}
+use Rattle.support_forest.specs.Waiting.{CanResettle, HaveRepaired}
 use Rattle.support_forest.proofs.Marks.{in_space_by, marked_none, marked_more, marked_low, next_void, all_marked, can_resettle, have_added, spots_more, spots_of_all}
 use Rattle.support_forest.proofs.add.add_and_settle.Goals as goal
 
@@ -30,11 +30,11 @@ loop-c-preserved g c = (
   spots_more _ _ _ _ _ _ _ _ c.loop-c.invariant.1 c.loop-c-test.true (get_or_default _ _ _ _ c.loop-c-test.true) (c.fill.ensures.resolution ∙ c.loop-c.invariant.0.resolution) c.spot.ensures.voxel c.in_ok-push.ensures.items,
 )
 
-pub resettle-requires-clause-none : goal.resettle-requires-clause-none
-resettle-requires-clause-none g c e = marked_low _ _ _ _ _ _ c.loop-c.invariant.0 (c.is_blank-are_levels.ensures (not_false _ e))
+pub repair-requires-clause-none : goal.repair-requires-clause-none
+repair-requires-clause-none g c e = marked_low _ _ _ _ _ _ c.loop-c.invariant.0 (c.is_blank-are_levels.ensures (not_false _ e))
 
-pub resettle-requires-clause-can : goal.resettle-requires-clause-can
-resettle-requires-clause-can g c =
+pub repair-requires-clause-can : goal.repair-requires-clause-can
+repair-requires-clause-can g c =
     subst (λ (l : List Coord). CanResettle c.loop-c.cells l)
     (sym (spots_of_all _ _ _ _ _ _ c.loop-c.invariant.1 c.loop-c-test.false c.loop-c.invariant.0.resolution c.deref.ensures.value))
     (can_resettle _ _ _ c.requires (all_marked _ _ _ _ _ _ c.loop-c.invariant.0 c.loop-c-test.false))
@@ -43,4 +43,4 @@ pub returns : goal.returns
 returns g c =
     let spots = spots_of_all _ _ _ _ _ _ c.loop-c.invariant.1 c.loop-c-test.false c.loop-c.invariant.0.resolution c.deref.ensures.value in
     have_added _ _ _ _ _ _ _ _ c.requires c.loop-c.invariant.0 c.loop-c-test.false (let in_range = c.loop-c.auto.c-index-end in omega arith)
-    (subst (λ (l : List Coord). HaveResettled c.loop-c.cells c.resettle.new.cells l c.loop-c.steps c.resettle.new.steps) spots c.in_ok-resettle.ensures)
+    (subst (λ (l : List Coord). HaveRepaired c.loop-c.cells c.repair.new.cells l c.loop-c.steps c.repair.new.steps) spots c.in_ok-repair.ensures)

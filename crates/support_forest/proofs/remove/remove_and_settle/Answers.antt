@@ -2,7 +2,7 @@ use Rattle.std.proofs.Common.{◌<◌, ◌≤◌, sym, ◌∙◌, ap, subst, ari
 use Rattle.vox_geom.specs.declared.coordinate.Coord.{Coord}
 use Rattle.support_forest.specs.Grid.{side}
 use Rattle.support_forest.specs.Offers.{orphans_at}
-use Rattle.support_forest.specs.Waiting.{CanResettle, HaveResettled}
+use Rattle.support_forest.specs.Waiting.{CanResettle, HaveRepaired}
 use Rattle.support_forest.proofs.Handling.{handled_none, handled_more, orphan_inside, still_inside}
 use Rattle.support_forest.proofs.Orphans.{no_voxels, orphan_below, orphan_here, orphans_length, voxels_same}
 use Rattle.support_forest.proofs.Removing.{can_resettle, have_removed}
@@ -34,8 +34,8 @@ loop-i-preserved g c =
     let below_length : c.loop-i.i < length c.loop-i.queue.items = let len_ensured = c.len.ensures in let queue_ok = c.loop-i.queue.ok in let goes_on = c.loop-i-test.true in omega arith in
     (handled_more _ _ _ _ _ _ _ _ _ _ _ _ _ c.requires.exact c.loop-i.invariant (orphan_below c.side-side.result _ _ below_length) (orphan_here c.side-side.result _ _ _ below_length c.index-x.ensures) c.in_ok-handle.ensures.resolution c.in_ok-handle.ensures.done c.in_ok-handle.ensures.touches).0
 
-pub resettle-requires-clause-can : goal.resettle-requires-clause-can
-resettle-requires-clause-can g c =
+pub repair-requires-clause-can : goal.repair-requires-clause-can
+repair-requires-clause-can g c =
     let side_is = c.side-side.ensures.value ∙ ap side (sym c.loop-i.invariant.removing.resolution) in
     let at_end : length (orphans_at c.side-side.result c.loop-i.queue.items) ≤ c.loop-i.i = let len_ensured = c.len.ensures in let queue_ok = c.loop-i.queue.ok in let stopped = c.loop-i-test.false in omega (arith, orphans_length c.side-side.result c.loop-i.queue.items) in
     subst (λ (l : List Coord). CanResettle c.loop-i.cells l) (voxels_same _ _ _ _ side_is c.deref.ensures.value) (can_resettle _ _ _ _ _ _ c.requires.exact c.loop-i.invariant.removing at_end)
@@ -43,4 +43,4 @@ resettle-requires-clause-can g c =
 pub returns : goal.returns
 returns g c =
     let side_is = c.side-side.ensures.value ∙ ap side (sym c.loop-i.invariant.removing.resolution) in
-    have_removed _ _ _ _ _ _ _ _ _ _ _ c.requires.exact c.loop-i.invariant.removing c.loop-i.invariant.below c.loop-i.invariant.cost (subst (λ (l : List Coord). HaveResettled c.loop-i.cells c.resettle.new.cells l c.loop-i.steps c.resettle.new.steps) (sym (voxels_same _ _ _ _ side_is c.deref.ensures.value)) c.in_ok-resettle.ensures)
+    have_removed _ _ _ _ _ _ _ _ _ _ _ c.requires.exact c.loop-i.invariant.removing c.loop-i.invariant.below c.loop-i.invariant.cost (subst (λ (l : List Coord). HaveRepaired c.loop-i.cells c.repair.new.cells l c.loop-i.steps c.repair.new.steps) (sym (voxels_same _ _ _ _ side_is c.deref.ensures.value)) c.in_ok-repair.ensures)

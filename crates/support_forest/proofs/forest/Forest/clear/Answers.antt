@@ -2,7 +2,7 @@ use Rattle.std.proofs.Common.{◌≡◌, ◌+◌, ◌≤◌, sym, subst, ap, ◌
 use Rattle.nano_spec.specs.Grounded.{FirstUngrounded}
 use Rattle.std.specs.Prelude.{None}
 use Rattle.support_forest.specs.Grid.{Grid}
-use Rattle.support_forest.specs.Taking.{HaveTaken}
+use Rattle.support_forest.specs.Taking.{HaveVoidedOne}
 use Rattle.support_forest.specs.Standing.{Standing, MayRemove, AreRemoved, matrix_of}
 use Rattle.support_forest.proofs.Placing.{unless, when}
 use Rattle.support_forest.proofs.Standing.{can_remove, exact_taken, few_taken, taken_alone_removed, shown, still_held}
@@ -18,19 +18,19 @@ invariant_of-self g c = λ _. exact_taken c.take.result c.self.inside.cells c.ta
 
 pub returns-clause-value : goal.returns-clause-value
 returns-clause-value g c = λ e.
-    let done = when c.take.result (HaveTaken c.self.inside.cells c.take.new.cells c.args.c c.args.steps.now c.take.new.steps) ((c.take.new.cells ≡ c.self.inside.cells) × (c.take.new.steps ≤ c.args.steps.now + 6)) e c.take.ensures in
+    let done = when c.take.result (HaveVoidedOne c.self.inside.cells c.take.new.cells c.args.c c.args.steps.now c.take.new.steps) ((c.take.new.cells ≡ c.self.inside.cells) × (c.take.new.steps ≤ c.args.steps.now + 6)) e c.take.ensures in
     subst (λ (q : Standing). AreRemoved q.matrix (matrix_of c.take.new.cells) (c.args.c ∷ [])) c.self.view_is
     (taken_alone_removed c.self.inside.cells c.take.new.cells c.args.c c.args.steps.now c.take.new.steps (subst (λ (q : Standing). MayRemove q.matrix (c.args.c ∷ [])) (sym c.self.view_is) c.requires.cell) done (c.self.invariant (ap (λ (q : Standing). q.spent) c.self.view_is ∙ c.requires.stands)))
 
 pub returns-clause-held : goal.returns-clause-held
 returns-clause-held g c = λ e h.
-    let done = when c.take.result (HaveTaken c.self.inside.cells c.take.new.cells c.args.c c.args.steps.now c.take.new.steps) ((c.take.new.cells ≡ c.self.inside.cells) × (c.take.new.steps ≤ c.args.steps.now + 6)) e c.take.ensures in
+    let done = when c.take.result (HaveVoidedOne c.self.inside.cells c.take.new.cells c.args.c c.args.steps.now c.take.new.steps) ((c.take.new.cells ≡ c.self.inside.cells) × (c.take.new.steps ≤ c.args.steps.now + 6)) e c.take.ensures in
     still_held c.self.inside.cells c.take.new.cells c.args.c (c.self.invariant (ap (λ (q : Standing). q.spent) c.self.view_is ∙ c.requires.stands)) done.exact done.resolution done.kept (λ o. let gone = done.gone in absurd (omega arith))
     (subst (λ (q : Standing). FirstUngrounded q.matrix None) (sym c.self.view_is) h)
 
 pub returns-clause-stays : goal.returns-clause-stays
 returns-clause-stays g c = λ e.
-    let still = unless c.take.result (HaveTaken c.self.inside.cells c.take.new.cells c.args.c c.args.steps.now c.take.new.steps) ((c.take.new.cells ≡ c.self.inside.cells) × (c.take.new.steps ≤ c.args.steps.now + 6)) e c.take.ensures in
+    let still = unless c.take.result (HaveVoidedOne c.self.inside.cells c.take.new.cells c.args.c c.args.steps.now c.take.new.steps) ((c.take.new.cells ≡ c.self.inside.cells) × (c.take.new.steps ≤ c.args.steps.now + 6)) e c.take.ensures in
     ap (λ (x : Grid). shown x c.self.inside.spent) still.0 ∙ c.self.view_is
 
 pub returns-clause-stands : goal.returns-clause-stands

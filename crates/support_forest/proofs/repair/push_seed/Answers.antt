@@ -1,7 +1,7 @@
 use Rattle.support_forest.specs.Offers.{candidates_at}
 use Rattle.support_forest.specs.Spots.{voxel_of}
 use Rattle.support_forest.proofs.Seeds.{seeded_none, seeded_offer}
-use Rattle.support_forest.proofs.resettle.push_seed.Goals as goal
+use Rattle.support_forest.proofs.repair.push_seed.Goals as goal
 
 pub returns-in_ok-push : goal.returns-in_ok-push
 returns-in_ok-push c = λ w side o. seeded_offer w side c.args.spot c.args.around c.args.seeds.now.items _ o c.if-around-ne0.true c.in_ok-push.ensures.items

@@ -1,6 +1,6 @@
 use Rattle.std.proofs.Common.{◌≡◌, ◌+◌, ◌*◌}
 use Rattle.vox_planes.proofs.Heaps.{AreHeld}
-use Rattle.vox_planes.proofs.planes.Planes.is_heap.Given as goal
+use Rattle.vox_planes.proofs.planes.Planes.has_no_overhangs.Given as goal
 
 abbrev pub invariant-loop-i : goal.invariant-loop-i
 invariant-loop-i g l = record {

@@ -1,11 +1,11 @@
 use Rattle.std.proofs.Common.{◌≡◌, ℕ, ◌+◌, ◌-◌, ◌*◌, ◌≤◌, arith, get_or, subst, sym}
 use Rattle.vox_geom.specs.declared.coordinate.Coord.{Coord}
 use Rattle.support_forest.specs.Stretches.{AreCleared, LieInRow, TakesMore}
-use Rattle.support_forest.specs.Taking.{HaveTaken}
+use Rattle.support_forest.specs.Taking.{HaveVoidedOne}
 use Rattle.support_forest.proofs.Clearing.{one_listed, one_taken, row_cleared, row_listed}
 use Rattle.support_forest.proofs.Placing.{unless, when}
 use Rattle.support_forest.proofs.Stretches.{first_of, stretch_in_row}
-use Rattle.support_forest.proofs.stretch.take_stretch.Goals as goal
+use Rattle.support_forest.proofs.stretch.void_segment.Goals as goal
 
 abbrev origin : Coord
 origin = record { x = 0; y = 0; z = 0 }
@@ -15,7 +15,7 @@ returns-in_ok-push-clause-taken g c =
     let count = c.stretch_before-count.result in
     let count_ensured = c.stretch_before-count.ensures in
     let element = get_or c.args.gone.now (c.args.end - c.from.result) origin in
-    let stays = unless c.take.result (HaveTaken c.args.cells.now c.take.new.cells element c.args.steps.now c.take.new.steps) ((c.take.new.cells ≡ c.args.cells.now) × (c.take.new.steps ≤ c.args.steps.now + 6)) c.if-not-take.true c.take.ensures in
+    let stays = unless c.take.result (HaveVoidedOne c.args.cells.now c.take.new.cells element c.args.steps.now c.take.new.steps) ((c.take.new.cells ≡ c.args.cells.now) × (c.take.new.steps ≤ c.args.steps.now + 6)) c.if-not-take.true c.take.ensures in
     subst (λ (k : ℕ). TakesMore c.args.cells.now c.take.new.cells c.args.gone.now c.args.end (c.args.end - k) c.args.rest.now.items c.push.new.self.items c.args.steps.now c.take.new.steps) (sym c.from.ensures)
     (one_listed c.args.cells.now c.take.new.cells c.args.gone.now c.args.end count c.args.rest.now.items c.push.new.self.items c.args.steps.now c.take.new.steps element c.if-count-eq1.true count_ensured.below
     (first_of c.args.gone.now c.args.end c.from.result count origin count_ensured.some count_ensured.below c.requires.within c.from.ensures) stays.0 stays.1 c.in_ok-push.ensures.items)
@@ -28,7 +28,7 @@ returns-else-not-take-clause-taken g c =
     subst (λ (k : ℕ). TakesMore c.args.cells.now c.take.new.cells c.args.gone.now c.args.end (c.args.end - k) c.args.rest.now.items c.args.rest.now.items c.args.steps.now c.take.new.steps) (sym c.from.ensures)
     (one_taken c.args.cells.now c.take.new.cells c.args.gone.now c.args.end count c.args.rest.now.items c.args.steps.now c.take.new.steps element c.if-count-eq1.true count_ensured.below
     (first_of c.args.gone.now c.args.end c.from.result count origin count_ensured.some count_ensured.below c.requires.within c.from.ensures)
-    (when c.take.result (HaveTaken c.args.cells.now c.take.new.cells element c.args.steps.now c.take.new.steps) ((c.take.new.cells ≡ c.args.cells.now) × (c.take.new.steps ≤ c.args.steps.now + 6)) c.if-not-take.false c.take.ensures))
+    (when c.take.result (HaveVoidedOne c.args.cells.now c.take.new.cells element c.args.steps.now c.take.new.steps) ((c.take.new.cells ≡ c.args.cells.now) × (c.take.new.steps ≤ c.args.steps.now + 6)) c.if-not-take.false c.take.ensures))
 
 pub free_slot-requires-clause-row : goal.free_slot-requires-clause-row
 free_slot-requires-clause-row g c =

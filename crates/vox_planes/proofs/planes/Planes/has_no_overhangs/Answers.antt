@@ -3,11 +3,11 @@ use Rattle.std.proofs.Math.Nat.{mul-le-mul}
 use Rattle.std.proofs.lemmas.List.{get_or_read}
 use Rattle.nano_spec.specs.Matrix.{Matrix}
 use Rattle.nano_spec.specs.Model.{volume}
-use Rattle.vox_planes.specs.Heap.{IsHeap}
+use Rattle.vox_planes.specs.Heap.{HasNoOverhangs}
 use Rattle.vox_planes.specs.Layers.{layer_words}
-use Rattle.vox_planes.proofs.Heaps.{AreStacked, held_more, held_none, is_heap-held, none_lost}
+use Rattle.vox_planes.proofs.Heaps.{AreStacked, held_more, held_none, has_no_overhangs-held, none_lost}
 use Rattle.vox_planes.proofs.Totals.{words_most}
-use Rattle.vox_planes.proofs.planes.Planes.is_heap.Goals as goal
+use Rattle.vox_planes.proofs.planes.Planes.has_no_overhangs.Goals as goal
 
 -- the result of the two reads
 stacked : (ws : List ℕ) (layer i w u : ℕ) → layer ≤ i → i < length ws → w ≡ get_or ws i w → u ≡ get_or ws (i - layer) u
@@ -39,7 +39,7 @@ pub returns-then-index-ne0-clause-other : goal.returns-then-index-ne0-clause-oth
 returns-then-index-ne0-clause-other g c = λ _ heap.
     let ws = c.self.inside.words.items in
     let end : c.loop-i.i < length ws = omega (arith, c.loop-i-test.true, c.len-i-end.ensures) in
-    none_lost c.self.inside.resolution ws c.self.invariant.0 (subst IsHeap (sym c.self.view_is) heap)
+    none_lost c.self.inside.resolution ws c.self.invariant.0 (subst HasNoOverhangs (sym c.self.view_is) heap)
     c.self.inside.layer c.loop-i.i c.index.result.now c.index-in-loop-i.result.now c.self.invariant.1 (omega (arith, c.self.invariant.0.whole))
     (stacked ws c.self.inside.layer c.loop-i.i c.index.result.now c.index-in-loop-i.result.now
     c.loop-i.auto.i end c.index.ensures c.index-in-loop-i.ensures (omega arith) (omega arith))
@@ -50,7 +50,7 @@ returns-clause-heap g c = λ _.
     let resolution = c.self.inside.resolution in
     let ws = c.self.inside.words.items in
     let all : resolution * layer_words resolution ≤ c.loop-i.i = omega (arith, c.loop-i-test.false, c.len-i-end.ensures, c.self.invariant.0.whole) in
-    subst IsHeap c.self.view_is (is_heap-held resolution ws c.self.inside.layer c.loop-i.i c.self.invariant.1 all c.loop-i.invariant.held)
+    subst HasNoOverhangs c.self.view_is (has_no_overhangs-held resolution ws c.self.inside.layer c.loop-i.i c.self.invariant.1 all c.loop-i.invariant.held)
 
 pub returns-then-index-ne0-clause-touches : goal.returns-then-index-ne0-clause-touches
 returns-then-index-ne0-clause-touches g c =
