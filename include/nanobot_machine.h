@@ -16,9 +16,9 @@
  * - The thread has 64 KB of stack for the two starts and a copy, and 32 KB of stack for each other call. These figures are measured,
  *   too.
  *
- * A refused call, for whatever reason, leaves the machine unchanged for the next call. That holds after rule 12 (a voxel that
- * floats) and after NANOBOT_MEMORY too: the next step, judgement or level then takes as long as a start. No clause guarantees
- * times; those in this header follow from the implementation.
+ * A refused call, for whatever reason, leaves the machine unchanged for the next call. After NANOBOT_MEMORY the next step, judgement
+ * or level takes as long as a start. So it does after a step that breaks rule 12 (a voxel that floats), if the machine keeps no notes
+ * and has no target. No clause guarantees times; those in this header follow from the implementation.
  *
  * After a call without output (NANOBOT_NO_MACHINE, NANOBOT_NO_TRACE, NANOBOT_MEMORY) the *size of a buffer, and the *count of
  * nanobot_machine_bots, are 0. All other outputs that a status does not mention are unchanged.
@@ -209,8 +209,7 @@ uint32_t nanobot_machine_step(nanobot_machine *machine, const uint8_t *commands,
 uint32_t nanobot_machine_play(nanobot_machine *machine, const uint8_t *trace, size_t trace_size, uint32_t most, nanobot_played *played);
 
 /* Judges a step of these bytes without making it, with the status of nanobot_machine_step and the energy after it. The machine does
- * not change. Nothing is copied: a judgement takes as long as a step and an undo, and, as nanobot_machine_step, as long as a start
- * after one that breaks rule 12.
+ * not change. Nothing is copied: a judgement takes as long as a step and an undo, whatever its status.
  *
  *     nanobot_judged judged;
  *     if (nanobot_machine_judge(&machine, wait, sizeof wait, &judged) == NANOBOT_DONE)

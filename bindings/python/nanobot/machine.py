@@ -317,8 +317,8 @@ class Machine:
     def judge(self, commands: Commands) -> Judged:
         """Returns what `step` would, and whether no bot would be left; makes no step.
 
-        Takes the same commands as `step`, and raises the same errors. The machine stays as it is. It takes as long as a step and an undo;
-        after one that breaks rule 12 the next step, judgement or level takes as long as a start."""
+        Takes the same commands as `step`, and raises the same errors. The machine stays as it is. It takes as long as a step and an undo,
+        whatever the answer."""
         result, data = lib.JudgedReport(), self._spelled(commands)
         status = library.machine_judge(byref(self._handle), data, len(data), byref(result))
         if status:
@@ -400,8 +400,8 @@ class Machine:
     def level(self, at: At) -> Optional[int]:
         """Returns how far the voxel at a coordinate is from the floor along full voxels; None if it is void or not grounded.
 
-        Raises `OutOfSpace`, TypeError, `Closed` or MemoryError. After a step or a judgement that broke rule 12 it takes as long as a
-        start."""
+        Raises `OutOfSpace`, TypeError, `Closed` or MemoryError. After a step that broke rule 12 on a machine without notes and
+        target it takes as long as a start."""
         c, result = coord_of(at), c_uint32()
         status = library.machine_level(byref(self._handle), *c, byref(result))
         if status == lib.OUTSIDE:

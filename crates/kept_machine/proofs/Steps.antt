@@ -6,6 +6,7 @@ use Rattle.nano_spec.specs.declared.commands.Command.{Command}
 use Rattle.nano_spec.specs.declared.system.Profile.{Profile}
 use Rattle.nano_spec.specs.Matrix.{Matrix}
 use Rattle.nano_spec.specs.State.{IsWellFormed, opening}
+use Rattle.step_machine.specs.Restoring.{IsNotMade}
 use Rattle.step_machine.specs.Situation.{Situation}
 use Rattle.step_machine.specs.Stepped.{Stepped}
 use Rattle.step_machine.specs.Undoing.{MayUndo, state_before}
@@ -81,6 +82,14 @@ module _ (v w : Situation) (notes : Buffer Undo) (commands : List Command) where
   refused_so trace (fault.Broken b) began ended can stepped = (looks_the_same v w notes stepped.stays.0 stepped.stays.1 trace, can.each, stepped.breaks.1)
   refused_so trace fault.Memory began ended can stepped = looks_the_same v w notes stepped.stays.0 stepped.stays.1 trace
   refused_so trace fault.Spent began ended can stepped = looks_the_same v w notes stepped.stays.0 stepped.stays.1 trace
+
+  -- a step that was not made by a machine that restores its levels
+  pub restored_so : (trace : Option (List Command)) (f : StepFault) (began ended : ℕ) → CanStep v commands
+      → IsNotMade v w commands f began ended
+      → Tries (kept_of v notes trace) commands (kept_of w notes trace) (Err (no_step_of f))
+  restored_so trace (fault.Broken b) began ended can h = (ap (λ (m : Situation). kept_of m notes trace) h.broken, can.each, h.stepped.breaks.1)
+  restored_so trace fault.Memory began ended can h = ap (λ (m : Situation). kept_of m notes trace) (h.memory refl)
+  restored_so trace fault.Spent began ended can h = ap (λ (m : Situation). kept_of m notes trace) (h.spent refl)
 
   -- the answer to a step that is made and then undone
   pub would_make : (trace : Option (List Command)) (ok : StepOk) (made : StepDone) (began ended : ℕ)

@@ -41,6 +41,30 @@ pub(crate) fn affordable(resolution: u16, energy: i64) -> u64 {
     paid.saturating_add(PAID_BY_VOIDS)
 }
 
+/// Returns the upkeep of a plan's steps in steps under Low, compared with [`affordable`]: a step under High counts as ten.
+pub(crate) fn upkeep_of(commands: &[Command]) -> u64 {
+    let mut upkeep = 0u64;
+    let mut is_high = false;
+    let mut price = 1u64;
+    let mut bots = 1u64;
+    let mut left = 1u64;
+    for command in commands {
+        match *command {
+            Command::Flip => is_high = !is_high,
+            Command::Fission(_, _) => bots = bots.saturating_add(1),
+            Command::FusionP(_) => bots = bots.saturating_sub(1),
+            _ => {}
+        }
+        left = left.saturating_sub(1);
+        if left == 0 {
+            upkeep = upkeep.saturating_add(price);
+            price = if is_high { 10 } else { 1 };
+            left = bots;
+        }
+    }
+    upkeep
+}
+
 /// Returns one bot's commands that build the target from nothing, or void all of the source.
 fn alone(
     alloc: Global,

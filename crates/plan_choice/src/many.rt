@@ -79,7 +79,8 @@ const BY_TWO: [Trial; 4] = [
 /// A crew in pairs.
 const PAIRS: Manner = Manner { pairs: true, ..ALL };
 
-/// Variants of a crew: by fours, in pairs or each alone, with poles or without, with x and z as they are or exchanged.
+/// Variants of a crew: by fours, in pairs or each alone, with poles or without, with x and z as they are or exchanged. In a maze poles
+/// save most, so the variants after them are rarely run.
 const CREWS: [Trial; 9] = [
     Trial::Fours(MOST_R, false),
     Trial::Fours(MOST_R, true),
@@ -97,8 +98,8 @@ const CREWS: [Trial; 9] = [
         poles: true,
         ..PAIRS
     }),
-    Trial::Squads(ALL),
     Trial::Squads(Manner { poles: true, ..ALL }),
+    Trial::Squads(ALL),
     Trial::Squads(Manner { lane: 1, ..ALL }),
 ];
 

@@ -2,7 +2,7 @@
 ghost use Rattle.std.specs.Prelude.{IfOk};
 ghost use Rattle.plan_choice.specs.Better.{CanImprove, CanRun, MayStandFor};
 
-use crate::alone::{affordable, is_void};
+use crate::alone::{affordable, is_void, upkeep_of};
 use crate::bounds::Bounds;
 use crate::choice::cheaper;
 use crate::extent::{extent_of, is_full_at};
@@ -244,6 +244,10 @@ pub(crate) fn cheapest(
             continue;
         };
         work.start();
+        // A run can take half a minute in a maze, so a proposal whose upkeep alone costs too much is not run.
+        if upkeep_of(proposal.as_slice()) > affordable(source.resolution(), best.energy) {
+            continue;
+        }
         best = cheaper(alloc, source, target, profile, best, proposal, most)?;
     }
     Ok(best)

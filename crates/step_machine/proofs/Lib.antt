@@ -10,6 +10,7 @@ pub mod Ordered
 pub mod Reaching
 pub mod Refitting
 pub mod Regions
+pub mod Restoring
 pub mod Sizes
 mod Standing
 pub mod Stepping

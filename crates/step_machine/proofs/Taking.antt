@@ -25,6 +25,7 @@ use Rattle.step_order.proofs.Lists.{In, any_in, in_any, not_both, place_in}
 use Rattle.step_order.proofs.Voxels.{as_it_is, full_where, matrix_same}
 use Rattle.step_order.proofs.Turns.{held}
 use Rattle.step_machine.specs.Edits.{edits_of}
+use Rattle.step_machine.specs.Restoring.{IsTakenBackBy}
 use Rattle.step_machine.specs.Situation.{IsEnergyBounded, IsConsistent, Situation}
 use Rattle.step_machine.specs.Undoing.{HaveChanged, IsNote, IsUndoneBy, IsMachineState, MayUndo, matrix_before, state_before, without_filled}
 use Rattle.step_machine.specs.declared.undo.Undo.{Undo}
@@ -270,3 +271,29 @@ module _ (s : State) (commands : List Command) (step : ℕ) (ready : IsReady s) 
     note_may_undo old changed steps spent v sound e counted formed =
         let same : undo.steps ≡ steps = omega arith in
         may_undo sound.seeds (subst (λ (n : ℕ). n ≤ 1073741824) (sym same) sound.few) (subst (λ (n : ℕ). IsEnergyBounded s.energy n) (sym same) sound.paid) (subst (λ (w : Situation). IsWellFormed w.state) (sym e) formed)
+
+    -- the forest of the state after the step may lose and gain the voxels of the note, which leads back
+    pub lose_noted : (m : Matrix) → m ≡ t.matrix → (filled : List Coord) → filled ≡ undo.filled.items
+        → MayRemove m filled
+    lose_noted m tied filled f = subst (λ (xs : List Coord). MayRemove m xs) (sym f) (may_lose_back m t.matrix undo tied note_holds)
+
+    pub gain_noted : (m : Matrix) → m ≡ t.matrix → (filled voided : List Coord) → filled ≡ undo.filled.items
+        → voided ≡ undo.voided.items → MayAdd (without_filled m filled) voided
+    gain_noted m tied filled voided f u =
+        subst (λ (xs : List Coord). MayAdd (without_filled m xs) voided) (sym f)
+        (subst (λ (ys : List Coord). MayAdd (without_filled m undo.filled.items) ys) (sym u) (may_gain_back m t.matrix undo tied note_holds))
+
+    pub noted_back : (m now : Matrix) → m ≡ t.matrix → (filled voided : List Coord) → filled ≡ undo.filled.items
+        → voided ≡ undo.voided.items → now ≡ matrix_before m filled voided → now ≡ s.matrix
+    noted_back m now tied filled voided f u back =
+        back
+        ∙ ((λ i. matrix_before (tied i) (f i) (u i))
+        ∙ (ap (λ (x : State). matrix_before x.matrix undo.filled.items undo.voided.items) is ∙ matrix_is_back))
+
+    pub noted_touches : (m : Matrix) → m ≡ t.matrix → (filled voided : List Coord) (began ended : ℕ)
+        → filled ≡ undo.filled.items → voided ≡ undo.voided.items → IsUndoneBy m filled voided began ended
+        → IsTakenBackBy s commands began ended
+    noted_touches m tied filled voided began ended f u back =
+        subst (λ (x : Matrix). IsUndoneBy x (edits_of s commands false) (edits_of s commands true) began ended) (tied ∙ ap (λ (x : State). x.matrix) is)
+        (subst (λ (xs : List Coord). IsUndoneBy m xs (edits_of s commands true) began ended) (f ∙ h.filled)
+        (subst (λ (ys : List Coord). IsUndoneBy m filled ys began ended) (u ∙ h.voided) back))

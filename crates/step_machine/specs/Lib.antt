@@ -1,5 +1,6 @@
 pub mod Alone
 pub mod Edits
+pub mod Restoring
 pub mod Settling
 pub mod Situation
 pub mod Stepped

@@ -58,6 +58,15 @@ pub enum StepFault {
     Spent,
 }
 
+impl StepFault {
+    /// Returns whether allocation failed.
+    fn is_memory(&self) -> bool
+        ensures { result ≡ true ↔ self.now ≡ StepFault.Memory }
+    {
+        matches!(self, StepFault::Memory)
+    }
+}
+
 impl From<Memory> for StepFault {
     ghost from_gives = { λ _ f. f ≡ fault.Memory };
 

@@ -122,7 +122,7 @@ fn refit_cells<L: Ledger>(
 }
 
 /// [`refit_cells`] that first lists the voxels: the voided ones, whose number it returns, then the filled ones.
-fn refit<L: Ledger>(
+pub(crate) fn refit<L: Ledger>(
     system: &System,
     commands: &[Command],
     turns: &Turns,
@@ -300,7 +300,7 @@ pub(crate) fn refit_back<L: Ledger>(
 }
 
 /// Returns the outcome of a step whose forest is already updated: under Low no voxel may float in it.
-fn settle_refitted<L: Ledger>(
+pub(crate) fn settle_refitted<L: Ledger>(
     system: &System,
     commands: &[Command],
     step: u32,
@@ -332,30 +332,7 @@ fn settle_refitted<L: Ledger>(
 }
 
 /// Returns the outcome of a step that breaks no rule at its start, before its groups act: the updated forest, in which no voxel may
-/// float under Low. Lists the changed voxels: first the voided ones, whose number it returns, then the filled ones.
-pub(crate) fn settle<L: Ledger>(
-    system: &System,
-    commands: &[Command],
-    step: u32,
-    turns: &Turns,
-    list: &mut ChangeList,
-    forest: &mut Forest,
-    steps: &mut Steps<L>,
-) -> Result<usize, StepFault>
-    requires { CanBeSettled system.now commands.now step turns.now list.old forest.old }
-    ensures settled { IfOk result (λ _. IsSettled system.now commands.now step forest.new steps.old steps.new) }
-    ensures unsettled { IfErr result (λ fault. IsUnsettled system.now commands.now step fault steps.old steps.new) }
-    ensures memory { result ≡ Err StepFault.Memory → 1 ≤ count_by is_edit commands.now }
-    ensures items { list.new.items ≡ edits_of system.now commands.now true ++ edits_of system.now commands.now false }
-    ensures voided { IfOk result (λ voided. voided ≡ length (edits_of system.now commands.now true)) }
-    ensures room { MOST_CHANGED ≤ list.new.spare + length list.new.items }
-{
-    let voided = refit(system, commands, turns, list, forest, steps)?;
-    settle_refitted(system, commands, step, forest, steps)?;
-    Ok(voided)
-}
-
-/// [`settle`] without a list for the caller.
+/// float under Low.
 pub(crate) fn settle_unlisted<L: Ledger>(
     system: &System,
     commands: &[Command],
@@ -376,7 +353,7 @@ pub(crate) fn settle_unlisted<L: Ledger>(
     Ok(())
 }
 
-/// [`settle`] for a step of the only bot that fills the voxel (or voids it). Returns whether it was full. The fast path may already
+/// [`settle_unlisted`] for a step of the only bot that fills the voxel (or voids it). Returns whether it was full. The fast path may already
 /// have spent a few touches.
 #[inline(always)]
 pub(crate) fn settle_one<L: Ledger>(

@@ -1,12 +1,13 @@
 //! The notes of steps, used to undo them.
 ghost use Rattle.std.specs.Prelude.{◌≡◌, ◌+◌, ◌≤◌, length, take, drop, IfOk, IfErr};
-ghost use Rattle.step_machine.specs.Settling.{CanBeSettled, IsSettled, IsUnsettled};
+ghost use Rattle.step_machine.specs.Restoring.{IsRestored};
+ghost use Rattle.step_machine.specs.Settling.{CanBeSettled, IsRefitted, IsSettled, IsUnsettled};
 ghost use Rattle.step_machine.specs.Undoing.{IsNote};
 ghost use Rattle.step_machine.specs.declared.TheConstants.{MOST_CHANGED};
 
 use crate::MOST_CHANGED;
 use crate::machine::StepFault;
-use crate::support::settle;
+use crate::support::{refit, refit_back, settle_refitted};
 use bot_crew::Crew;
 use nano_spec::{Command, Harmonics};
 use std::alloc::Global;
@@ -69,7 +70,30 @@ fn note(
     })
 }
 
-/// [`settle`] with the note of the step. Allocation may fail in every step.
+/// Updates the forest after the groups of a step, and returns the note of the step. Allocation may fail in every step.
+fn refit_noted<L: Ledger>(
+    alloc: Global,
+    system: &System,
+    commands: &[Command],
+    step: u32,
+    turns: &Turns,
+    list: &mut ChangeList,
+    forest: &mut Forest,
+    steps: &mut Steps<L>,
+) -> Result<Undo, Memory>
+    requires step { 1 ≤ step }
+    requires can { CanBeSettled system.now commands.now step turns.now list.old forest.old }
+    ensures refitted { IfOk result (λ _. IsRefitted system.now commands.now forest.new steps.old steps.new) }
+    ensures note { IfOk result (λ undo. IsNote system.now commands.now step undo) }
+    ensures room { MOST_CHANGED ≤ list.new.spare + length list.new.items }
+{
+    system.recall();
+    let voided = refit(system, commands, turns, list, forest, steps)?;
+    note(alloc, system, step - 1, list.as_slice(), voided)
+}
+
+/// Returns the outcome of a step that breaks no rule at its start, before its groups act: the updated forest, in which no voxel may
+/// float under Low, and the note of the step. Allocation may fail in every step.
 pub(crate) fn settle_noted<L: Ledger>(
     alloc: Global,
     system: &System,
@@ -87,8 +111,42 @@ pub(crate) fn settle_noted<L: Ledger>(
     ensures note { IfOk result (λ undo. IsNote system.now commands.now step undo) }
     ensures room { MOST_CHANGED ≤ list.new.spare + length list.new.items }
 {
-    system.recall();
-    let voided = settle(system, commands, step, turns, list, forest, steps)?;
-    let undo = note(alloc, system, step - 1, list.as_slice(), voided)?;
+    let undo = refit_noted(alloc, system, commands, step, turns, list, forest, steps)?;
+    settle_refitted(system, commands, step, forest, steps)?;
     Ok(undo)
+}
+
+/// [`settle_noted`] that restores the forest if a voxel would float.
+pub(crate) fn settle_or_restore<L: Ledger>(
+    alloc: Global,
+    system: &System,
+    commands: &[Command],
+    step: u32,
+    turns: &Turns,
+    list: &mut ChangeList,
+    forest: &mut Forest,
+    steps: &mut Steps<L>,
+) -> Result<Undo, StepFault>
+    requires step { 1 ≤ step }
+    requires can { CanBeSettled system.now commands.now step turns.now list.old forest.old }
+    ensures settled { IfOk result (λ _. IsSettled system.now commands.now step forest.new steps.old steps.new) }
+    ensures restored { IfErr result
+        (λ fault. IsRestored system.now commands.now step fault forest.new steps.old steps.new) }
+    ensures note { IfOk result (λ undo. IsNote system.now commands.now step undo) }
+    ensures room { MOST_CHANGED ≤ list.new.spare + length list.new.items }
+{
+    system.recall();
+    let undo = refit_noted(alloc, system, commands, step, turns, list, forest, steps)?;
+    match settle_refitted(system, commands, step, forest, steps) {
+        Ok(()) => Ok(undo),
+        Err(fault) => {
+            refit_back(
+                forest,
+                undo.filled.as_slice(),
+                undo.voided.as_slice(),
+                steps,
+            )?;
+            Err(fault)
+        }
+    }
 }

@@ -3,6 +3,7 @@ ghost use Rattle.std.specs.Prelude.{◌≡◌, ◌<◌, ◌≤◌, false, true, 
 ghost use Rattle.nano_spec.specs.Act.{acts};
 ghost use Rattle.nano_spec.specs.Serial.{leader_bids, serial};
 ghost use Rattle.nano_spec.specs.State.{IsWellFormed};
+ghost use Rattle.step_machine.specs.Restoring.{IsNotMade};
 ghost use Rattle.step_machine.specs.Stepped.{Stepped};
 ghost use Rattle.support_forest.specs.Standing.{MayAdd, MayRemove};
 ghost use Rattle.step_machine.specs.Undoing.{HaveChanged, IsUndoneBy, MayUndo, matrix_before, state_before, without_filled, without_note};
@@ -10,7 +11,7 @@ ghost use Rattle.step_machine.specs.Undoing.{HaveChanged, IsUndoneBy, MayUndo, m
 use super::{Machine, StepFault, StepOk, recall_step, tell_made};
 use crate::order::take_turns;
 use crate::support::refit_back;
-use crate::undo::{Undo, settle_noted};
+use crate::undo::{Undo, settle_noted, settle_or_restore};
 use nano_spec::Command;
 use std::sync::ledger::Ledger;
 use step_order::every_order;
@@ -95,6 +96,64 @@ impl Machine {
             Ok(undo) => undo,
             Err(fault) => {
                 self.spent = true;
+                return Err(fault);
+            }
+        };
+        take_turns(
+            &mut self.system,
+            commands,
+            &mut self.turns,
+            Some(order),
+            steps,
+        );
+        self.steps = step;
+        Ok((tell_made(&self.system), undo))
+    }
+
+    /// [`Machine::step_noted`] that undoes a step at once if a voxel would float: after every broken rule the machine is as it was. A
+    /// failed allocation poisons it.
+    pub fn step_or_restore<L: Ledger>(
+        &mut self,
+        commands: &[Command],
+        order: &[u8],
+        steps: &mut Steps<L>,
+    ) -> Result<(StepOk, Undo), StepFault>
+        requires some { 1 ≤ length self.old.state.bots }
+        requires commands { length commands.now ≡ length self.old.state.bots }
+        requires order { IsPermutation (leader_bids (acts self.old.state.bots commands.now)) order.now }
+        requires steps { self.old.steps < 1073741824 }
+        ensures made { IfOk result
+            (λ _. Stepped self.old self.new commands.now (without_note result) steps.old steps.new) }
+        ensures refused { IfErr result (λ fault. IsNotMade self.old self.new commands.now fault steps.old steps.new) }
+        ensures serial { IfOk result (λ _. serial self.old.state commands.now order.now ≡ Some self.new.state) }
+        ensures voxels { IfOk result (λ made. HaveChanged self.new.state.matrix made.1) }
+        ensures before { IfOk result (λ made. state_before self.new.state made.1 ≡ self.old.state) }
+        ensures counted { IfOk result (λ made. made.1.steps ≡ self.old.steps) }
+        ensures undo { IfOk result (λ made. IsWellFormed self.old.state → MayUndo self.new.state made.1) }
+    {
+        every_order();
+        if self.spent {
+            return Err(StepFault::Spent);
+        }
+        let step = self.steps + 1;
+        self.system.recall();
+        recall_step(&self.system, commands);
+        if let Some(broken) = self.system.judge(commands, step, &mut self.turns, steps) {
+            return Err(StepFault::Broken(broken));
+        }
+        let undo = match settle_or_restore(
+            self.alloc,
+            &self.system,
+            commands,
+            step,
+            &self.turns,
+            &mut self.changed,
+            &mut self.forest,
+            steps,
+        ) {
+            Ok(undo) => undo,
+            Err(fault) => {
+                self.spent = fault.is_memory();
                 return Err(fault);
             }
         };

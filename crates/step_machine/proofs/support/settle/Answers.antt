@@ -1,4 +1,0 @@
-use Rattle.step_machine.proofs.support.settle.Goals as goal
-
-pub returns-clause-settled : goal.returns-clause-settled
-returns-clause-settled g c = c.in_ok-settle_refitted.ensures.settled c.args.steps.now c.in_ok-voided.ensures.refitted.touches
