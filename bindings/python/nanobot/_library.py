@@ -50,7 +50,7 @@ class JudgedReport(ctypes.Structure):
     ]
 
 
-class StateTold(ctypes.Structure):
+class StateReport(ctypes.Structure):
     _fields_ = [("energy", c_int64)] + [(name, c_uint32) for name in ("steps", "active", "resolution", "high")] + [("noted", c_uint64)]
 
 
@@ -83,7 +83,7 @@ CALLS: Dict[str, List[Any]] = {
     "nanobot_machine_judge": [MACHINE] + BYTES + [POINTER(JudgedReport)],
     "nanobot_machine_undo": [MACHINE],
     "nanobot_machine_copy": [MACHINE, MACHINE],
-    "nanobot_machine_tell": [MACHINE, POINTER(StateTold)],
+    "nanobot_machine_tell": [MACHINE, POINTER(StateReport)],
     "nanobot_machine_bots": [MACHINE, POINTER(BotReport), c_size_t, POINTER(c_size_t)],
     "nanobot_machine_full": [MACHINE, c_uint32, c_uint32, c_uint32, POINTER(c_uint32)],
     "nanobot_machine_level": [MACHINE, c_uint32, c_uint32, c_uint32, POINTER(c_uint32)],

@@ -344,7 +344,7 @@ class Machine:
     @property
     def state(self) -> State:
         """The energy, steps, active bots, resolution, harmonics and noted steps, in one call. Raises `Closed`."""
-        result = lib.StateTold()
+        result = lib.StateReport()
         self._check(library.machine_tell(byref(self._handle), byref(result)))
         return State(result.energy, result.steps, result.active, result.resolution, result.high == 1, result.noted)
 

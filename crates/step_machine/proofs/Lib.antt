@@ -12,6 +12,7 @@ pub mod Refitting
 pub mod Regions
 pub mod Restoring
 pub mod Sizes
+mod OnlyFloating
 mod Standing
 pub mod Stepping
 pub mod Turning

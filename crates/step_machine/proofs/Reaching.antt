@@ -191,10 +191,10 @@ grounded_or_not : (m : Matrix) (c : Coord) (level : Option ℕ) → Level m c le
 grounded_or_not m c None h = inr h
 grounded_or_not m c (Some n) h = inl (h.0.0, h.0.1)
 
-abbrev IsHeldUp : Matrix → Coord → Type 0
+abbrev pub IsHeldUp : Matrix → Coord → Type 0
 IsHeldUp m c = IsTrue (is_full m c) → Grounded m c
 
-held_or_not : (m : Matrix) (c : Coord) → IsHeldUp m c ⊎ (IsHeldUp m c → ⊥)
+pub held_or_not : (m : Matrix) (c : Coord) → IsHeldUp m c ⊎ (IsHeldUp m c → ⊥)
 held_or_not m c = let the_level = level_of m c in by (true_or_false (is_full m c)) (grounded_or_not m c the_level.0 the_level.1)
   where
     by : (is_full m c ≡ true) ⊎ (is_full m c ≡ false) → Grounded m c ⊎ (Grounded m c → ⊥)

@@ -211,8 +211,15 @@ module _ (s : State) (commands : List Command) (step : ℕ) (ready : IsReady s) 
     pub note_holds : HaveChanged t.matrix undo
     note_holds = subst (λ (x : State). HaveChanged x.matrix undo) (sym is) have_changed
 
+    -- a filled voxel is in space, and was void
+    pub filled_within : (c : Coord) → In c undo.filled.items → IsInSpace s.matrix.resolution c
+    filled_within c i = (cell_of s (acts s.bots commands) good false c (filled_cell c i)).0
+
+    pub filled_before : (c : Coord) → In c undo.filled.items → is_full s.matrix c ≡ false
+    filled_before c i = void_state s (acts s.bots commands) good c (cell_of s (acts s.bots commands) good false c (filled_cell c i)).1
+
     -- no other voxel has changed
-    others_stay : (d : Coord) → IsInSpace s.matrix.resolution d → (In d undo.filled.items → ⊥)
+    pub others_stay : (d : Coord) → IsInSpace s.matrix.resolution d → (In d undo.filled.items → ⊥)
         → (In d undo.voided.items → ⊥) → is_full (after s commands).matrix d ≡ is_full s.matrix d
     others_stay d w nf nv = now d w ∙ by (is_full s.matrix d) refl
       where

@@ -1,5 +1,5 @@
 -- The outcome of a step that breaks no rule at its start, before its groups act.
-use Rattle.std.specs.Prelude.{◌≡◌, ◌⊎◌, ℕ, ◌+◌, ◌*◌, ◌≤◌, Bool, List, [], ◌∷◌, None, true, false, length}
+use Rattle.std.specs.Prelude.{◌≡◌, ◌⊎◌, ℕ, ◌+◌, ◌*◌, ◌≤◌, Bool, List, [], ◌∷◌, None, Some, true, false, length}
 use Rattle.vox_geom.specs.declared.coordinate.Coord.{Coord}
 use Rattle.vox_geom.specs.declared.difference.Diff.{Diff}
 use Rattle.vox_geom.specs.Point.{point, plus}
@@ -11,6 +11,7 @@ use Rattle.nano_spec.specs.declared.outcomes.Rule.TheVariants.{Ungrounded}
 use Rattle.nano_spec.specs.declared.system.Bot.{Bot}
 use Rattle.nano_spec.specs.Act.{Act, acts}
 use Rattle.nano_spec.specs.Cutting.{AreCommands}
+use Rattle.nano_spec.specs.Grounded.{FirstUngrounded}
 use Rattle.nano_spec.specs.Group.{leaders}
 use Rattle.nano_spec.specs.Matrix.{Matrix}
 use Rattle.nano_spec.specs.Model.{volume}
@@ -94,6 +95,10 @@ pub record IsRefitted (s : State) (commands : List Command) (forest : Standing) 
   pub matrix : forest.matrix ≡ (after s commands).matrix
   pub stands : forest.spent ≡ false
   pub touches : IsPaidBy s commands began ended
+
+-- no voxel floats, or this one is the least that does
+abbrev pub FloatsAtMost : Matrix → Coord → Type 0
+FloatsAtMost m c = FirstUngrounded m None ⊎ FirstUngrounded m (Some c)
 
 -- the step goes to its state, and the forest is that of this state
 pub record IsSettled (s : State) (commands : List Command) (step : ℕ) (forest : Standing) (began ended : ℕ)

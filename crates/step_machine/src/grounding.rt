@@ -1,10 +1,11 @@
 //! The search for ungrounded voxels after a step under Low.
-ghost use Rattle.std.specs.Prelude.{◌≡◌, ◌+◌, ◌≤◌, ◌%◌, ◌==◌, false, count_by, cond, IfNone, MatchBool, None};
+ghost use Rattle.std.specs.Prelude.{◌≡◌, ◌+◌, ◌≤◌, ◌%◌, ◌==◌, false, count_by, cond, IfNone, IfSome, MatchBool, None};
 ghost use Rattle.nano_spec.specs.Act.{is_flip};
 ghost use Rattle.nano_spec.specs.Grounded.{FirstUngrounded};
 ghost use Rattle.nano_spec.specs.Model.{volume};
 ghost use Rattle.nano_spec.specs.State.{is_high};
 ghost use Rattle.nano_spec.specs.Step.{flipped};
+ghost use Rattle.step_machine.specs.Settling.{FloatsAtMost};
 
 use nano_spec::{Command, Harmonics};
 use std::sync::ledger::Ledger;
@@ -30,13 +31,16 @@ fn is_flip(command: &Command) -> bool
     matches!(command, Command::Flip)
 }
 
-/// Returns the least full voxel that is not grounded, if Low requires all to be. Reads voxels only if there is one.
+/// Returns the least full voxel that is not grounded, if Low requires all to be. Reads voxels only if there is one, and none if `least`
+/// is known to be it.
 pub(crate) fn find_ungrounded<L: Ledger>(
     forest: &Forest,
     harmonics: Harmonics,
+    least: Option<Coord>,
     steps: &mut Steps<L>,
 ) -> Option<Coord>
-    requires { forest.now.spent ≡ false }
+    requires stands { forest.now.spent ≡ false }
+    requires least { IfSome least (FloatsAtMost forest.now.matrix) }
     ensures value { MatchBool (is_high harmonics) (result ≡ None) (FirstUngrounded forest.now.matrix result) }
     ensures grounded { IfNone result (steps.new ≡ steps.old) }
     ensures touches { steps.new ≤ steps.old + volume forest.now.matrix.resolution }
@@ -46,6 +50,9 @@ pub(crate) fn find_ungrounded<L: Ledger>(
         Harmonics::Low => {
             if forest.floating() == 0 {
                 return None;
+            }
+            if let Some(at) = least {
+                return Some(at);
             }
             forest.first_floating(steps)
         }

@@ -11,7 +11,7 @@ ghost use Rattle.nano_spec.specs.Work.{volatile_total};
 ghost use Rattle.vox_planes.specs.Layers.{bit_index};
 ghost use Rattle.support_forest.specs.Standing.{AreAdded, AreRemoved, IsCheap, MayAdd, MayRemove};
 ghost use Rattle.step_machine.specs.Edits.{edits_of, is_edit};
-ghost use Rattle.step_machine.specs.Settling.{CanBeSettled, CanEditOne, CanRefit, CanTakeTurns, IsPaidBy, IsPrepared, IsRefitted, IsSettled, IsUnsettled};
+ghost use Rattle.step_machine.specs.Settling.{CanBeSettled, CanEditOne, CanRefit, CanTakeTurns, FloatsAtMost, IsPaidBy, IsPrepared, IsRefitted, IsSettled, IsUnsettled};
 ghost use Rattle.step_machine.specs.Undoing.{IsUndoneBy, matrix_before, without_filled};
 ghost use Rattle.step_machine.specs.declared.TheConstants.{MOST_CHANGED};
 
@@ -299,11 +299,13 @@ pub(crate) fn refit_back<L: Ledger>(
     Ok(())
 }
 
-/// Returns the outcome of a step whose forest is already updated: under Low no voxel may float in it.
+/// Returns the outcome of a step whose forest is already updated: under Low no voxel may float in it. `least` is the least that can, if
+/// it is known.
 pub(crate) fn settle_refitted<L: Ledger>(
     system: &System,
     commands: &[Command],
     step: u32,
+    least: Option<Coord>,
     forest: &Forest,
     steps: &mut Steps<L>,
 ) -> Result<(), StepFault>
@@ -311,6 +313,7 @@ pub(crate) fn settle_refitted<L: Ledger>(
     requires few { length commands.now ≤ length system.now.bots }
     requires stands { forest.now.spent ≡ false }
     requires matrix { forest.now.matrix ≡ (after system.now commands.now).matrix }
+    requires least { IfSome least (FloatsAtMost forest.now.matrix) }
     ensures settled { IfOk result
         (λ _. (before : ℕ) → IsPaidBy system.now commands.now before steps.old → IsSettled system.now commands.now
         step forest.now before steps.new) }
@@ -320,7 +323,7 @@ pub(crate) fn settle_refitted<L: Ledger>(
     ensures memory { result ≡ Err StepFault.Memory → ⊥ }
 {
     let harmonics = harmonics_after(system.harmonics(), commands);
-    match find_ungrounded(forest, harmonics, steps) {
+    match find_ungrounded(forest, harmonics, least, steps) {
         None => Ok(()),
         Some(at) => Err(StepFault::Broken(Broken {
             step,
@@ -349,7 +352,7 @@ pub(crate) fn settle_unlisted<L: Ledger>(
     ensures room { MOST_CHANGED ≤ list.new.spare + length list.new.items }
 {
     refit_unlisted(system, commands, turns, list, forest, steps)?;
-    settle_refitted(system, commands, step, forest, steps)?;
+    settle_refitted(system, commands, step, None, forest, steps)?;
     Ok(())
 }
 
@@ -377,7 +380,7 @@ pub(crate) fn settle_one<L: Ledger>(
     ensures was { IfOk result (λ was. was ≡ is_full system.now.matrix at) }
 {
     let was = refit_one(system, commands, d, at, full, forest, steps)?;
-    match find_ungrounded(forest, system.harmonics(), steps) {
+    match find_ungrounded(forest, system.harmonics(), None, steps) {
         None => Ok(was),
         Some(at) => Err(StepFault::Broken(Broken {
             step,

@@ -1,5 +1,5 @@
 //! The notes of steps, used to undo them.
-ghost use Rattle.std.specs.Prelude.{◌≡◌, ◌+◌, ◌≤◌, length, take, drop, IfOk, IfErr};
+ghost use Rattle.std.specs.Prelude.{◌≡◌, ◌+◌, ◌≤◌, [], ◌∷◌, length, take, drop, IfOk, IfErr, IfSome};
 ghost use Rattle.step_machine.specs.Restoring.{IsRestored};
 ghost use Rattle.step_machine.specs.Settling.{CanBeSettled, IsRefitted, IsSettled, IsUnsettled};
 ghost use Rattle.step_machine.specs.Undoing.{IsNote};
@@ -26,6 +26,22 @@ pub struct Undo {
     pub steps: u32,
     pub filled: ChangeList,
     pub voided: ChangeList,
+}
+
+impl Undo {
+    /// Returns the only voxel that can float after the step, if `floating` voxels floated before it and that is enough to know one: the
+    /// voxel that it filled, if it changed no other and none floated.
+    fn only_float(&self, floating: u32) -> Option<Coord>
+        ensures floating { IfSome result (λ _. floating ≡ 0) }
+        ensures filled { IfSome result (λ c. self.now.filled.items ≡ c ∷ []) }
+        ensures voided { IfSome result (λ _. self.now.voided.items ≡ []) }
+    {
+        let filled = self.filled.as_slice();
+        if floating == 0 && self.voided.as_slice().is_empty() && filled.len() == 1 {
+            return Some(filled[0]);
+        }
+        None
+    }
 }
 
 /// Returns a list of the same coordinates.
@@ -112,7 +128,7 @@ pub(crate) fn settle_noted<L: Ledger>(
     ensures room { MOST_CHANGED ≤ list.new.spare + length list.new.items }
 {
     let undo = refit_noted(alloc, system, commands, step, turns, list, forest, steps)?;
-    settle_refitted(system, commands, step, forest, steps)?;
+    settle_refitted(system, commands, step, None, forest, steps)?;
     Ok(undo)
 }
 
@@ -136,8 +152,10 @@ pub(crate) fn settle_or_restore<L: Ledger>(
     ensures room { MOST_CHANGED ≤ list.new.spare + length list.new.items }
 {
     system.recall();
+    let floating = forest.floating();
     let undo = refit_noted(alloc, system, commands, step, turns, list, forest, steps)?;
-    match settle_refitted(system, commands, step, forest, steps) {
+    let least = undo.only_float(floating);
+    match settle_refitted(system, commands, step, least, forest, steps) {
         Ok(()) => Ok(undo),
         Err(fault) => {
             refit_back(

@@ -27,5 +27,5 @@ returns-in-Some-clause-unsettled g c = λ before few.
           omega (arith, touches_here, same_volume, c.in-Some.ensures.touches);
     }
 
-pub find_ungrounded-requires : goal.find_ungrounded-requires
-find_ungrounded-requires g c = let refitted = c.in_ok-was.ensures.refitted c.args.steps.now (omega arith) in refitted.stands
+pub find_ungrounded-requires-clause-stands : goal.find_ungrounded-requires-clause-stands
+find_ungrounded-requires-clause-stands g c = let refitted = c.in_ok-was.ensures.refitted c.args.steps.now (omega arith) in refitted.stands
