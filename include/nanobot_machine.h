@@ -209,7 +209,8 @@ uint32_t nanobot_machine_step(nanobot_machine *machine, const uint8_t *commands,
 uint32_t nanobot_machine_play(nanobot_machine *machine, const uint8_t *trace, size_t trace_size, uint32_t most, nanobot_played *played);
 
 /* Judges a step of these bytes without making it, with the status of nanobot_machine_step and the energy after it. The machine does
- * not change. Nothing is copied: a judgement takes as long as a step and an undo, whatever its status.
+ * not change. Nothing is copied: a judgement takes as long as a step and an undo. If it breaks rule 12 by other changes than one filled
+ * voxel, it also searches for the least voxel that floats, in up to 15 ns for each voxel of the space.
  *
  *     nanobot_judged judged;
  *     if (nanobot_machine_judge(&machine, wait, sizeof wait, &judged) == NANOBOT_DONE)
