@@ -145,7 +145,7 @@ fn assert_trace(rt: &impl Abort, alloc: Global, handle: &mut Handle, bytes: &[u8
     assert_eq!(rt; trace.get(..size), Some(bytes));
 }
 
-/// Asserts that the matrix differs from the model at `want` coordinates.
+/// Asserts the number of coordinates at which the matrix differs from the model.
 fn assert_differs(rt: &impl Abort, alloc: Global, handle: &mut Handle, target: &[u8], want: u32) {
     let mut count = 7;
     let mut refusal = ModelReport::none();
