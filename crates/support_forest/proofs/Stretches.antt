@@ -79,12 +79,12 @@ pub row_in_chunk : (g : Grid) (chunk : List ℕ) (slot slot_place from n : ℕ) 
 unfolding place_in_slot
 row_in_chunk g chunk slot slot_place from n c h e r f = let full = h.full in omega arith
 
--- a fact about the words of the chunk is one about those of the row, which may lie beyond space
-pub row_in_slot : (g : Grid) (chunk : List ℕ) (slot slot_place from n : ℕ) (c : Coord) (P : ℕ → Type 0) → IsStore g
+-- the words of the row are those of the chunk; the row may lie beyond space
+pub row_word : (g : Grid) (chunk : List ℕ) (slot slot_place from n : ℕ) (c : Coord) → IsStore g
     → IsInSpace (side g.resolution) (brick c) → c.z % 8 + n ≤ 8 → slot_of g c ≡ Some slot → HasSlot g.bricks slot chunk
-    → slot_place ≡ place_in_slot c → from ≡ start_in_chunk slot + slot_place
-    → ((k : ℕ) → k < n → P (get_or chunk (from + k) 0)) → (k : ℕ) → k < n → P (word_at g (further c k))
-row_in_slot g chunk slot slot_place from n c P s b r e h i f w k l =
+    → slot_place ≡ place_in_slot c → from ≡ start_in_chunk slot + slot_place → (k : ℕ) → k < n
+    → word_at g (further c k) ≡ get_or chunk (from + k) 0
+row_word g chunk slot slot_place from n c s b r e h i f k l =
     let same : brick (further c k) ≡ brick c = row_brick c n k r l in
     let at : place_in_slot (further c k) ≡ slot_place + k = row_place c n k slot_place r l i in
     let below : slot_place + k < 512 = let below_512 = slot_place_below (further c k) in omega arith in
@@ -95,8 +95,15 @@ row_in_slot g chunk slot slot_place from n c P s b r e h i f w k l =
     } in
     let place : from + k ≡ start_in_chunk slot + (slot_place + k) = omega arith in
     let read : word_at g (further c k) ≡ get_or (words_of g.bricks slot) (swapped (slot_place + k)) 0 = reads_place g (further c k) slot (slot_place + k) (get_or (words_of g.bricks slot) (swapped (slot_place + k)) 0) s stands refl in
-    let here : get_or chunk (from + k) 0 ≡ get_or (words_of g.bricks slot) (swapped (slot_place + k)) 0 = ap (λ (j : ℕ). get_or chunk j 0) place ∙ h.each (slot_place + k) below in
-    subst P (here ∙ sym read) (w k l)
+    read ∙ sym (ap (λ (j : ℕ). get_or chunk j 0) place ∙ h.each (slot_place + k) below)
+
+-- a fact about the words of the chunk is one about those of the row
+pub row_in_slot : (g : Grid) (chunk : List ℕ) (slot slot_place from n : ℕ) (c : Coord) (P : ℕ → Type 0) → IsStore g
+    → IsInSpace (side g.resolution) (brick c) → c.z % 8 + n ≤ 8 → slot_of g c ≡ Some slot → HasSlot g.bricks slot chunk
+    → slot_place ≡ place_in_slot c → from ≡ start_in_chunk slot + slot_place
+    → ((k : ℕ) → k < n → P (get_or chunk (from + k) 0)) → (k : ℕ) → k < n → P (word_at g (further c k))
+row_in_slot g chunk slot slot_place from n c P s b r e h i f w k l =
+    subst P (sym (row_word g chunk slot slot_place from n c s b r e h i f k l)) (w k l)
 
 -- the offset of a row in its line of a brick, by that in its slot
 pub row_part : (q : Coord) (slot_place n : ℕ) → place_in_slot q ≡ slot_place → slot_place % 8 + n ≤ 8 → q.z % 8 + n ≤ 8
