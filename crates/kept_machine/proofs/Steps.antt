@@ -83,7 +83,7 @@ module _ (v w : Situation) (notes : Buffer Undo) (commands : List Command) where
   refused_so trace fault.Memory began ended can stepped = looks_the_same v w notes stepped.stays.0 stepped.stays.1 trace
   refused_so trace fault.Spent began ended can stepped = looks_the_same v w notes stepped.stays.0 stepped.stays.1 trace
 
-  -- a step that was not made by a machine that restores its levels
+  -- a step with a note that was not made
   pub restored_so : (trace : Option (List Command)) (f : StepFault) (began ended : ℕ) → CanStep v commands
       → IsNotMade v w commands f began ended
       → Tries (kept_of v notes trace) commands (kept_of w notes trace) (Err (no_step_of f))

@@ -184,7 +184,7 @@ fn step_and_note<L: Ledger>(
 {
     machine.recall();
     let order = machine.leaders(commands);
-    match machine.step_or_restore(commands, order.as_slice(), steps) {
+    match machine.step_noted(commands, order.as_slice(), steps) {
         Ok((_, undo)) => {
             let changed = count_changed(machine.matrix(), &undo);
             count_step(aim, machine.matrix(), &undo, steps);
@@ -296,7 +296,7 @@ fn step_and_restore<L: Ledger>(
 {
     machine.recall();
     let order = machine.leaders(commands);
-    match machine.step_or_restore(commands, order.as_slice(), steps) {
+    match machine.step_noted(commands, order.as_slice(), steps) {
         Ok((_, undo)) => {
             let changed = count_changed(machine.matrix(), &undo);
             let made = done(machine, changed);

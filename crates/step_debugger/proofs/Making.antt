@@ -1,16 +1,16 @@
 -- An attempt at the next step.
-use Rattle.std.proofs.Common.{◌≡◌, ℕ, ◌+◌, ◌-◌, ◌*◌, ◌≤◌, refl, sym, ◌∙◌, ap, subst, arith, List, [], ◌∷◌, ◌++◌, Bool, true, false, length, take, drop, length-drop, length-take}
-use Rattle.std.specs.Prelude.{◌↔◌, All, Ok, Err}
+use Rattle.std.proofs.Common.{◌≡◌, ℕ, ◌+◌, ◌-◌, ◌≤◌, refl, sym, ◌∙◌, ap, subst, arith, List, [], ◌∷◌, ◌++◌, Bool, true, false, length, take, drop, length-drop, length-take}
+use Rattle.std.specs.Prelude.{◌↔◌, All, Ok}
 use Rattle.circular_buffer.specs.Buffer.{Buffer, keep_last}
 use Rattle.nano_spec.specs.declared.commands.Command.{Command}
 use Rattle.nano_spec.specs.declared.outcomes.Broken.{Broken}
 use Rattle.nano_spec.specs.declared.outcomes.Rule.{Rule}
 use Rattle.nano_spec.specs.declared.outcomes.Rule.TheVariants.{Ungrounded}
 use Rattle.nano_spec.specs.declared.system.Bot.{Bot}
-use Rattle.nano_spec.specs.Model.{volume}
 use Rattle.nano_spec.specs.Next.{Breaks, Goes, Next}
 use Rattle.nano_spec.specs.State.{IsReady, IsWellFormed, State}
 use Rattle.vox_geom.specs.Space.{IsInSpace}
+use Rattle.step_machine.specs.Restoring.{IsNotMade, IsTakenBackAfter}
 use Rattle.step_machine.specs.Situation.{Situation, searched_for}
 use Rattle.step_machine.specs.Stepped.{IsWithinWork, Stepped}
 use Rattle.step_machine.specs.Undoing.{MayUndo, state_before}
@@ -143,81 +143,61 @@ module _ (v : Situation) (notes : Buffer Undo) (commands : List Command) (taken 
         )
 
       -- the step was refused
-      module _ (w : Situation) (b : Broken) (began ended : ℕ) (stepped : Stepped v w next (Err (fault.Broken b)) began ended) where
+      module _ (w : Situation) (b : Broken) (began ended : ℕ) (refusal : IsNotMade v w next (fault.Broken b) began ended) where
         point_stays : point_of w taken ≡ point_of v taken
-        point_stays = λ i. record { state = stepped.stays.0 i; steps = stepped.stays.1 i; taken = taken }
+        point_stays = ap (λ (x : Situation). point_of x taken) refusal.broken
 
         breaks : Next v.state (next_commands commands (point_of v taken)) (v.steps + 1) (Breaks b)
-        breaks = subst (λ (xs : List Command). Next v.state xs (v.steps + 1) (Breaks b)) next_here stepped.breaks.1
+        breaks = subst (λ (xs : List Command). Next v.state xs (v.steps + 1) (Breaks b)) next_here refusal.stepped.breaks.1
 
-        -- the touches of a refused step
-        touched : IsWithinWorkOf 100 commands (point_of v taken) (began + searched_for b.rule v.state.matrix) ended
-        touched = subst (λ (xs : List Command). IsWithinWork v.state xs (v.steps + 1) (began + searched_for b.rule v.state.matrix) ended) next_here stepped.touches_broken
-
+        -- the touches of its judgement, and of its undo
         pub refused_within : IsRefusedWithin 100 d.commands d.session.point b began ended
-        refused_within = let paid = touched.2 in subst (λ (x : Debugging). IsRefusedWithin 100 x.commands x.session.point b began ended) e (touched.0, touched.1, omega (arith, paid))
+        refused_within = subst (λ (x : Debugging). IsRefusedWithin 100 x.commands x.session.point b began ended) e (record {
+          judged = refusal.judged;
+          within = subst (λ (xs : List Command). IsWithinWork v.state xs (v.steps + 1) (began + searched_for b.rule v.state.matrix) refusal.judged) next_here refusal.stepped.touches_broken;
+          back = subst (λ (xs : List Command). IsTakenBackAfter b.rule v.state xs refusal.judged ended) next_here refusal.back;
+        })
 
-        -- and of the new machine after it
-        pub anew_within : w.spent ≡ true → (last : ℕ) → last ≤ ended + 91 * volume w.state.matrix.resolution
-            → IsRefusedWithin 100 d.commands d.session.point b began last
-        anew_within spent last anew =
-            let paid = touched.2 in
-            let searched : searched_for b.rule v.state.matrix ≡ volume v.state.matrix.resolution = ap (λ (r : Rule). searched_for r v.state.matrix) (stepped.ungrounded.0 spent) in
-            let size : volume w.state.matrix.resolution ≡ volume v.state.matrix.resolution = ap (λ (s : State). volume s.matrix.resolution) stepped.stays.0 in
-            subst (λ (x : Debugging). IsRefusedWithin 100 x.commands x.session.point b began last) e (touched.0, touched.1, omega (arith, paid, anew, searched, size))
+        -- the session, with these groups begun
+        session_with : (now : List ℕ) → (debugging_of w notes.items commands taken now).session
+            ≡ record (debugging_of v notes.items commands taken begun).session { begun = now }
+        session_with now = λ i. record { point = point_stays i; past = points_of (point_stays i) notes.items; begun = now }
 
         -- by a rule that is judged at its start
-        session_stays : (debugging_of w notes.items commands taken begun).session
-            ≡ (debugging_of v notes.items commands taken begun).session
-        session_stays = λ i. record { point = point_stays i; past = points_of (point_stays i) notes.items; begun = begun }
-
-        pub session_refused : w.spent ≡ false
+        pub session_refused : (b.rule ≡ Ungrounded → ⊥)
             → TriesStep d.commands d.session (debugging_of w notes.items commands taken begun).session (Refused b)
-        session_refused free = subst (λ (x : Debugging). TriesStep x.commands x.session (debugging_of w notes.items commands taken begun).session (Refused b)) e (
+        session_refused other = subst (λ (x : Debugging). TriesStep x.commands x.session (debugging_of w notes.items commands taken begun).session (Refused b)) e (
           Breaks b,
           breaks,
-          (session_stays ∙ sym (refused_other b.rule (debugging_of v notes.items commands taken begun).session (λ f. let ungrounded = stepped.ungrounded.1 f in not_spent free ungrounded)), refl),
+          (session_with begun ∙ sym (refused_other b.rule (debugging_of v notes.items commands taken begun).session other), refl),
         )
-          where
-            not_spent : w.spent ≡ false → w.spent ≡ true → ⊥
-            not_spent f g = absurd_of (sym f ∙ g)
-              where
-                absurd_of : false ≡ true → ⊥
-                absurd_of h = cc
 
-        -- by the rule of grounding, after which a new machine is made
-        module _ (spent : w.spent ≡ true) (u : Situation) (anew : u ≡ record { state = w.state; steps = w.steps; spent = false }) (now : List ℕ) (none : now ≡ []) where
-          point_anew : point_of u taken ≡ point_of v taken
-          point_anew = ap (λ (x : Situation). point_of x taken) anew ∙ point_stays
+        -- by the rule of grounding, which drops the begun groups
+        module _ (now : List ℕ) (none : now ≡ []) where
+          begins_dropped : (xs : List ℕ) → xs ≡ [] → (standing : List Bot) → standing ≡ w.state.bots
+              → Begin commands (point_of w taken) xs left standing
+          begins_dropped [] f standing g = g
+          begins_dropped (x ∷ xs) f standing g = cc
 
-          begins_anew : (xs : List ℕ) → xs ≡ [] → (standing : List Bot) → standing ≡ u.state.bots
-              → Begin commands (point_of u taken) xs left standing
-          begins_anew [] f standing g = g
-          begins_anew (x ∷ xs) f standing g = cc
-
-          pub kept_anew : (standing : List Bot) → standing ≡ u.state.bots → IsReady u.state
-              → IsKept u notes commands taken now left standing
-          kept_anew standing g ready = record {
+          pub kept_dropped : (standing : List Bot) → standing ≡ w.state.bots → IsReady w.state
+              → IsKept w notes commands taken now left standing
+          kept_dropped standing g ready = record {
             few = kept.few;
             capacity = kept.capacity;
             fit = λ _. record {
-              well_formed = subst (λ (q : SessionPoint). IsWellFormed q.state) (sym point_anew) here.well_formed;
-              counted = subst (λ (q : SessionPoint). q.steps ≤ q.taken) (sym point_anew) here.counted;
+              well_formed = subst (λ (q : SessionPoint). IsWellFormed q.state) (sym point_stays) here.well_formed;
+              counted = subst (λ (q : SessionPoint). q.steps ≤ q.taken) (sym point_stays) here.counted;
               taken = here.taken;
-              notes_lead = subst (λ (q : SessionPoint). LeadTo q notes.items) (sym point_anew) here.notes_lead;
-              begin = begins_anew now none standing g;
-              within = subst (λ (bs : List Bot). All (λ b. IsInSpace u.state.matrix.resolution b.pos) bs) (sym g) ready.within;
+              notes_lead = subst (λ (q : SessionPoint). LeadTo q notes.items) (sym point_stays) here.notes_lead;
+              begin = begins_dropped now none standing g;
+              within = subst (λ (bs : List Bot). All (λ b. IsInSpace w.state.matrix.resolution b.pos) bs) (sym g) ready.within;
             };
           }
 
-          session_anew : (debugging_of u notes.items commands taken now).session
-              ≡ dropped (debugging_of v notes.items commands taken begun).session
-          session_anew = λ i. record { point = point_anew i; past = points_of (point_anew i) notes.items; begun = none i }
-
-          pub session_ungrounded :
-              TriesStep d.commands d.session (debugging_of u notes.items commands taken now).session (Refused b)
-          session_ungrounded = subst (λ (x : Debugging). TriesStep x.commands x.session (debugging_of u notes.items commands taken now).session (Refused b)) e (
+          pub session_ungrounded : b.rule ≡ Ungrounded
+              → TriesStep d.commands d.session (debugging_of w notes.items commands taken now).session (Refused b)
+          session_ungrounded rule = subst (λ (x : Debugging). TriesStep x.commands x.session (debugging_of w notes.items commands taken now).session (Refused b)) e (
             Breaks b,
             breaks,
-            (session_anew ∙ sym (refused_last b.rule (debugging_of v notes.items commands taken begun).session (stepped.ungrounded.0 spent)), refl),
+            (session_with now ∙ ((λ i. record (debugging_of v notes.items commands taken begun).session { begun = none i }) ∙ sym (refused_last b.rule (debugging_of v notes.items commands taken begun).session rule)), refl),
           )

@@ -7,7 +7,7 @@ use Rattle.nano_spec.specs.Act.{acts}
 use Rattle.nano_spec.specs.Rules.{broken}
 use Rattle.nano_spec.specs.State.{State}
 use Rattle.nano_spec.specs.Work.{WorkOfStep, volatile_total}
-use Rattle.step_machine.proofs.Weighing.{step_work}
+use Rattle.step_machine.proofs.Weighing.{nothing_taken_back, step_work}
 use Rattle.step_machine.proofs.Working.{acts_work, judged_touches}
 use Rattle.step_debugger.specs.declared.fault.DebugFault.{DebugFault}
 use Rattle.step_debugger.specs.declared.fault.DebugFault.TheVariants as fault
@@ -22,7 +22,9 @@ volatile_most s commands step n keeps work = let acts_work_here = (acts_work s c
 -- if the next step cannot be judged, nothing is touched
 pub untouched_at : (T : Type 0) (most : ℕ) (commands : List Command) (p : SessionPoint) (r : DebugFault) (began : ℕ)
     → IfRefused {T = T} (Err r) (λ b. IsRefusedWithin most commands p b began began)
-untouched_at T most commands p (fault.Broken b) began = let work = step_work p.state (next_commands commands p) (p.steps + 1) in (work.0, work.1, omega arith)
+untouched_at T most commands p (fault.Broken b) began =
+    let work = step_work p.state (next_commands commands p) (p.steps + 1) in
+    record { judged = began; within = (work.0, work.1, omega arith); back = nothing_taken_back b.rule p.state (next_commands commands p) began }
 untouched_at T most commands p fault.Ended began = tt
 untouched_at T most commands p fault.NoHistory began = tt
 untouched_at T most commands p (fault.NotLeader leader) began = tt
@@ -37,7 +39,7 @@ pub judged_within : (commands : List Command) (p : SessionPoint) (b : Broken) (b
 judged_within commands p b began ended breaks all judged =
     let work = step_work p.state (next_commands commands p) (p.steps + 1) in
     let few = judged_touches p.state (next_commands commands p) (p.steps + 1) b began ended work.0 breaks (omega (arith, judged)) (λ l. absurd (omega (arith, all, l))) work.1 in
-    (work.0, work.1, omega (arith, few))
+    record { judged = ended; within = (work.0, work.1, omega (arith, few)); back = nothing_taken_back b.rule p.state (next_commands commands p) ended }
 
 module _ (commands : List Command) (p : SessionPoint) (keeps : broken p.state (next_commands commands p) (p.steps + 1) ≡ None) (began middle : ℕ) (judged : middle ≤ began + 2 * volatile_total p.state.matrix (acts p.state.bots (next_commands commands p))) where
   -- a group begins: its step is judged
@@ -59,9 +61,10 @@ module _ (commands : List Command) (p : SessionPoint) (keeps : broken p.state (n
       → IfRefused {T = T} (Err r) (λ b. IsRefusedWithin 100 commands p b middle ended)
       → IfRefused {T = Option T} (Err r) (λ b. IsRefusedWithin 102 commands p b began ended)
   refused_within T (fault.Broken b) ended refused =
-      let most = volatile_most p.state (next_commands commands p) (p.steps + 1) refused.0 keeps refused.1 in
-      let paid = refused.2 in
-      (refused.0, refused.1, omega (arith, judged, most, paid))
+      let work = refused.within in
+      let most = volatile_most p.state (next_commands commands p) (p.steps + 1) work.0 keeps work.1 in
+      let paid = work.2 in
+      record { judged = refused.judged; within = (work.0, work.1, omega (arith, judged, most, paid)); back = refused.back }
   refused_within T fault.Ended ended refused = tt
   refused_within T fault.NoHistory ended refused = tt
   refused_within T (fault.NotLeader leader) ended refused = tt

@@ -4,6 +4,7 @@ use Rattle.nano_spec.specs.declared.commands.Command.{Command}
 use Rattle.nano_spec.specs.declared.outcomes.Broken.{Broken}
 use Rattle.nano_spec.specs.Matrix.{Matrix, is_full, matrix_where}
 use Rattle.nano_spec.specs.Work.{WorkOfStep, changed_count}
+use Rattle.step_machine.specs.Restoring.{IsTakenBackAfter}
 use Rattle.step_machine.specs.Situation.{searched_for}
 use Rattle.step_machine.specs.Undoing.{LevelsThrough, levels_moved}
 use Rattle.step_debugger.specs.declared.fault.DebugFault.{DebugFault}
@@ -15,11 +16,14 @@ abbrev pub IsWithinWorkOf : ℕ → List Command → SessionPoint → ℕ → �
 IsWithinWorkOf most commands p began ended =
     (n : ℕ) × WorkOfStep p.state (next_commands commands p) (p.steps + 1) n × (ended ≤ began + most * n)
 
--- the same for a refused step, but with 92 more for each voxel if it breaks the rule of grounding: those of a search, and of a
--- new machine
-abbrev pub IsRefusedWithin : ℕ → List Command → SessionPoint → Broken → ℕ → ℕ → Type 0
-IsRefusedWithin most commands p b began ended =
-    IsWithinWorkOf most commands p (began + 92 * searched_for b.rule p.state.matrix) ended
+-- the touches of a refused next step: it is judged, and then its changes are undone
+pub record IsRefusedWithin (most : ℕ) (commands : List Command) (p : SessionPoint) (b : Broken) (began ended : ℕ)
+    : Type 0 where
+  pub judged : ℕ
+  -- those of the judgement: each voxel once more if the step breaks the rule of grounding
+  pub within : IsWithinWorkOf most commands p (began + searched_for b.rule p.state.matrix) judged
+  -- those of the undo, after that rule alone
+  pub back : IsTakenBackAfter b.rule p.state (next_commands commands p) judged ended
 
 -- P holds of the rule that a refused next step breaks
 abbrev pub IfRefused : {T : Type 0} → Result T DebugFault → (Broken → Type 0) → Type 0

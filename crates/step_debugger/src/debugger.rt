@@ -17,7 +17,7 @@ ghost use Rattle.step_debugger.specs.Touches.{IfRefused, IsRefusedWithin, IsTouc
 
 use crate::fault::DebugFault;
 use crate::middle::full_after;
-use crate::steps::{append, next_commands, place_of, renew, take_back, trace_ends};
+use crate::steps::{append, drops_groups, next_commands, place_of, take_back, trace_ends};
 use arrayvec::ArrayVec;
 use bot_crew::{Crew, MOST_BOTS};
 use circular_buffer::HeapCircularBuffer;
@@ -37,7 +37,6 @@ const MOST_HISTORY: usize = 4096;
 /// The step debugger over the commands of a trace. Contracts see a session, the commands, and whether it is poisoned (`spent`).
 #[derive(Drop)]
 pub struct Debugger {
-    alloc: Global,
     machine: Machine,
     history: HeapCircularBuffer<Undo>,
     commands: CommandList,
@@ -78,7 +77,6 @@ impl Debugger {
         let history = HeapCircularBuffer::with_capacity(alloc, MOST_HISTORY)?;
         let middle = machine.crew().copy();
         Ok(Debugger {
-            alloc,
             machine,
             history,
             commands,
@@ -229,12 +227,8 @@ impl Debugger {
                 Ok(ok)
             }
             Err(StepFault::Broken(broken)) => {
-                if !self.machine.spent() {
+                if !drops_groups(&broken) {
                     return Err(DebugFault::Broken(broken));
-                }
-                match renew(self.alloc, &mut self.machine, steps) {
-                    Ok(()) => {}
-                    Err(Memory) => return Err(DebugFault::Memory),
                 }
                 self.begun.clear();
                 self.middle = self.machine.crew().copy();

@@ -1,15 +1,12 @@
 //! Parts of a step: its commands, and the order of its groups.
-ghost use Rattle.std.specs.Prelude.{◌≡◌, ◌+◌, ◌*◌, ◌<◌, ◌≤◌, false, true, ◌==◌, ◌++◌, length, take, drop, slice_index, IfOk, IfErr, IfNone, IfSome, Some};
+ghost use Rattle.std.specs.Prelude.{◌≡◌, ◌+◌, ◌<◌, ◌≤◌, ◌↔◌, false, true, ◌==◌, ◌++◌, length, take, drop, slice_index, IfOk, IfErr, IfNone, IfSome, Some};
 ghost use Rattle.std.specs.List.{list_any};
-ghost use Rattle.nano_spec.specs.Model.{volume};
 ghost use Rattle.nano_spec.specs.Rules.{broken};
-ghost use Rattle.nano_spec.specs.State.{IsWellFormed};
 ghost use Rattle.step_machine.specs.Undoing.{IsUndoneBy, MayUndo, state_before};
 
 use arrayvec::ArrayVec;
 use bot_crew::MOST_BOTS;
 use nano_spec::{Broken, Command, Rule};
-use std::alloc::Global;
 use std::sync::ledger::Ledger;
 use step_machine::{Machine, Undo};
 use vox_geom::{Memory, Steps};
@@ -62,20 +59,11 @@ pub(crate) fn place_of(bids: &[u8], bid: u8) -> Option<usize>
     None
 }
 
-/// Replaces the machine by a new one in its state. Out of memory, it stays. Out of line: drops the machine in one place.
-pub(crate) fn renew<L: Ledger>(
-    alloc: Global,
-    machine: &mut Machine,
-    steps: &mut Steps<L>,
-) -> Result<(), Memory>
-    requires { IsWellFormed machine.old.state }
-    ensures value { IfOk result (λ _. machine.new ≡ record machine.old { spent = false }) }
-    ensures stays { IfErr result (λ _. machine.new ≡ machine.old) }
-    ensures touches { IfOk result (λ _. steps.new ≤ steps.old + 91 * volume machine.old.state.matrix.resolution) }
+/// Returns whether the broken rule drops the begun groups: that of grounding, judged after they act.
+pub(crate) fn drops_groups(broken: &Broken) -> bool
+    ensures { result ≡ true ↔ broken.now.rule ≡ Rule.Ungrounded }
 {
-    let made = machine.anew(alloc, steps)?;
-    *machine = made;
-    Ok(())
+    matches!(broken.rule, Rule::Ungrounded)
 }
 
 /// Undoes the step of a note. Returns the number of bots before it.

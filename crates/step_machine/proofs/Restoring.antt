@@ -1,29 +1,25 @@
--- A step that is undone at once if a voxel would float.
-use Rattle.std.proofs.Common.{◌≡◌, ℕ, ◌+◌, ◌*◌, ◌≤◌, ◌<◌, refl, sym, ◌∙◌, ap, subst, arith, List, Bool, true, false, length}
-use Rattle.std.specs.Prelude.{◌↔◌, Some, None, Err}
-use Rattle.vox_geom.specs.declared.coordinate.Coord.{Coord}
+-- A step with a note that is not made: it is undone at once if a voxel would float.
+use Rattle.std.proofs.Common.{◌≡◌, ℕ, ◌+◌, ◌*◌, ◌≤◌, ◌<◌, refl, sym, ◌∙◌, ap, subst, List, Bool, true, false, length}
+use Rattle.std.specs.Prelude.{◌↔◌, Some, None}
 use Rattle.vox_geom.proofs.Truths.{false_by}
 use Rattle.nano_spec.specs.declared.commands.Command.{Command}
 use Rattle.nano_spec.specs.declared.outcomes.Broken.{Broken}
+use Rattle.nano_spec.specs.declared.outcomes.Rule.{Rule}
 use Rattle.nano_spec.specs.Act.{acts}
-use Rattle.nano_spec.specs.Matrix.{Matrix}
 use Rattle.nano_spec.specs.Rules.{broken}
 use Rattle.nano_spec.specs.State.{State}
-use Rattle.nano_spec.specs.Step.{after}
 use Rattle.nano_spec.specs.Work.{volatile_total}
 use Rattle.support_forest.specs.Standing.{Standing}
 use Rattle.vox_planes.specs.Changes.{Changes}
 use Rattle.step_machine.specs.declared.TheConstants.{MOST_CHANGED}
 use Rattle.step_machine.specs.declared.machine.StepFault.{StepFault}
 use Rattle.step_machine.specs.declared.machine.StepFault.TheVariants as fault
-use Rattle.step_machine.specs.Edits.{edits_of}
-use Rattle.step_machine.specs.Restoring.{IsNotMade, IsRestored, IsTakenBackBy}
+use Rattle.step_machine.specs.Restoring.{IsNotMade, IsRestored, IsTakenBackAfter, IsTakenBackBy}
 use Rattle.step_machine.specs.Settling.{IsUnsettled}
 use Rattle.step_machine.specs.Situation.{IsConsistent, Situation}
-use Rattle.step_machine.specs.Undoing.{IsUndoneBy, matrix_before, without_filled}
 use Rattle.step_machine.proofs.Answering.{already_spent, broken_at_start, not_settled}
 use Rattle.step_machine.proofs.Stepping.{seen}
-use Rattle.step_machine.proofs.Weighing.{levels_of_all}
+use Rattle.step_machine.proofs.Weighing.{nothing_taken_back}
 
 -- the forest after a step that was not made, whose changes were undone
 pub restored_by : (s : State) (commands : List Command) (step : ℕ) (f : StepFault) (forest : Standing)
@@ -55,13 +51,6 @@ sound_put_back s commands step f old new changed list steps spent spends began e
   few = sound.few;
 }
 
-nothing_undone : (m : Matrix) (filled voided : List Coord) (n : ℕ) → IsUndoneBy m filled voided n n
-nothing_undone m filled voided n =
-    let first = levels_of_all m in
-    let middle = levels_of_all (without_filled m filled) in
-    let last = levels_of_all (matrix_before m filled voided) in
-    (record { first = first.0; middle = middle.0; last = last.0; first_are = first.1; middle_are = middle.1; last_are = last.1 }, omega arith)
-
 -- a machine's parts, which are not poisoned, and its situation
 module _ (s : State) (commands : List Command) (steps : ℕ) (spent : Bool) (v : Situation) (e : seen s steps spent ≡ v) (stands : spent ≡ false) (began : ℕ) where
   -- a rule is broken that is judged at the start
@@ -76,7 +65,7 @@ module _ (s : State) (commands : List Command) (steps : ℕ) (spent : Bool) (v :
     broken = e;
     memory = λ x. cc;
     spent = λ x. cc;
-    back = nothing_undone (after v.state commands).matrix (edits_of v.state commands false) (edits_of v.state commands true) ended;
+    back = nothing_taken_back b.rule v.state commands ended;
   }
 
   -- a voxel would float, and the step is undone; or allocation fails
@@ -104,7 +93,7 @@ module _ (s : State) (commands : List Command) (steps : ℕ) (spent : Bool) (v :
         broken = (λ i. seen s steps ((standing ∙ sym stands) i)) ∙ e;
         memory = λ x. cc;
         spent = λ x. cc;
-        back = subst (λ (w : Situation). IsTakenBackBy w.state commands h.judged ended) e h.back;
+        back = subst (λ (w : Situation). IsTakenBackAfter b.rule w.state commands h.judged ended) e (subst (λ (r : Rule). IsTakenBackAfter r s commands h.judged ended) (sym h.floats.rule) h.back);
       }
 
 -- a machine that was poisoned before the step

@@ -1,9 +1,11 @@
 -- Every matrix has its levels, and so every step its work and its outcome.
-use Rattle.std.proofs.Common.{◌≡◌, ℕ, ◌+◌, ◌*◌, ◌≤◌, refl, List}
+use Rattle.std.proofs.Common.{◌≡◌, ℕ, ◌+◌, ◌*◌, ◌≤◌, refl, arith, List, true, false}
 use Rattle.std.specs.Prelude.{Option, Some, None}
 use Rattle.vox_geom.specs.declared.coordinate.Coord.{Coord}
 use Rattle.nano_spec.specs.declared.commands.Command.{Command}
 use Rattle.nano_spec.specs.declared.outcomes.Broken.{Broken}
+use Rattle.nano_spec.specs.declared.outcomes.Rule.{Rule}
+use Rattle.nano_spec.specs.declared.outcomes.Rule.TheVariants.{Ungrounded}
 use Rattle.nano_spec.specs.Act.{Act, acts}
 use Rattle.nano_spec.specs.Grounded.{FirstUngrounded}
 use Rattle.nano_spec.specs.Matrix.{Matrix, all_of}
@@ -14,7 +16,10 @@ use Rattle.nano_spec.specs.Step.{after, matrix_after}
 use Rattle.nano_spec.specs.Work.{Levels, WorkOfActs, WorkOfJudged, WorkOfStep, changed_count, differing, volatile_total, without_voided, work_by_rule}
 use Rattle.nano_spec.specs.declared.system.Harmonics.{Harmonics}
 use Rattle.nano_spec.specs.declared.system.Harmonics.TheVariants.{Low, High}
+use Rattle.step_machine.specs.Edits.{edits_of}
+use Rattle.step_machine.specs.Restoring.{IsTakenBackAfter}
 use Rattle.step_machine.specs.Stepped.{IsWithinWork}
+use Rattle.step_machine.specs.Undoing.{matrix_before, without_filled}
 use Rattle.step_machine.proofs.Reaching.{first_ungrounded, levels_of}
 
 -- ---- the work of a step
@@ -59,3 +64,14 @@ next_of s commands step = next_at s commands step (broken s commands step) refl
 pub within_one : (s : State) (commands : List Command) (step began ended : ℕ)
     → ((n : ℕ) → WorkOfStep s commands step n → ended ≤ began + 100 * n) → IsWithinWork s commands step began ended
 within_one s commands step began ended h = let work = step_work s commands step in (work.0, work.1, h work.0 work.1)
+
+-- if nothing is undone, the undo takes no touch, whatever the rule
+pub nothing_taken_back : (rule : Rule) (s : State) (commands : List Command) (n : ℕ)
+    → IsTakenBackAfter rule s commands n n
+nothing_taken_back Ungrounded s commands n =
+    let without = without_filled (after s commands).matrix (edits_of s commands false) in
+    let first = levels_of_all (after s commands).matrix in
+    let middle = levels_of_all without in
+    let last = levels_of_all (matrix_before (after s commands).matrix (edits_of s commands false) (edits_of s commands true)) in
+    (record { first = first.0; middle = middle.0; last = last.0; first_are = first.1; middle_are = middle.1; last_are = last.1 }, omega arith)
+nothing_taken_back rule s commands n = refl

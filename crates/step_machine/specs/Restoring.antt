@@ -1,7 +1,9 @@
--- A step that is undone at once if a voxel would float.
-use Rattle.std.specs.Prelude.{◌≡◌, ℕ, ◌≤◌, List, true, false, Err}
+-- A step with a note, which is undone at once if a voxel would float.
+use Rattle.std.specs.Prelude.{◌≡◌, ℕ, List, true, false, Err}
 use Rattle.nano_spec.specs.declared.commands.Command.{Command}
 use Rattle.nano_spec.specs.declared.outcomes.Broken.{Broken}
+use Rattle.nano_spec.specs.declared.outcomes.Rule.{Rule}
+use Rattle.nano_spec.specs.declared.outcomes.Rule.TheVariants.{Ungrounded}
 use Rattle.nano_spec.specs.State.{State}
 use Rattle.nano_spec.specs.Step.{after}
 use Rattle.support_forest.specs.Standing.{Standing}
@@ -18,6 +20,11 @@ use Rattle.step_machine.specs.Undoing.{IsUndoneBy}
 abbrev pub IsTakenBackBy : State → List Command → ℕ → ℕ → Type 0
 IsTakenBackBy s commands began ended =
     IsUndoneBy (after s commands).matrix (edits_of s commands false) (edits_of s commands true) began ended
+
+-- the touches of the undo after a broken rule: only a step that breaks the rule of grounding has changes to undo
+abbrev pub IsTakenBackAfter : Rule → State → List Command → ℕ → ℕ → Type 0
+IsTakenBackAfter Ungrounded s commands began ended = IsTakenBackBy s commands began ended
+IsTakenBackAfter rule s commands began ended = ended ≡ began
 
 -- the step breaks the rule of grounding, and the forest is again that of the state
 pub record IsFloatRestored (s : State) (commands : List Command) (step : ℕ) (b : Broken) (forest : Standing) (began ended : ℕ)
@@ -44,4 +51,4 @@ pub record IsNotMade (old new : Situation) (commands : List Command) (f : StepFa
   -- exactly a failed allocation poisons it, in the state that it had
   pub memory : f ≡ fault.Memory → new ≡ record old { spent = true }
   pub spent : f ≡ fault.Spent → new ≡ old
-  pub back : IfBroken {T = StepOk} (Err f) (λ b. IsTakenBackBy old.state commands judged ended)
+  pub back : IfBroken {T = StepOk} (Err f) (λ b. IsTakenBackAfter b.rule old.state commands judged ended)

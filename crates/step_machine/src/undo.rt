@@ -1,7 +1,7 @@
 //! The notes of steps, used to undo them.
 ghost use Rattle.std.specs.Prelude.{◌≡◌, ◌+◌, ◌≤◌, [], ◌∷◌, length, take, drop, IfOk, IfErr, IfSome};
 ghost use Rattle.step_machine.specs.Restoring.{IsRestored};
-ghost use Rattle.step_machine.specs.Settling.{CanBeSettled, IsRefitted, IsSettled, IsUnsettled};
+ghost use Rattle.step_machine.specs.Settling.{CanBeSettled, IsRefitted, IsSettled};
 ghost use Rattle.step_machine.specs.Undoing.{IsNote};
 ghost use Rattle.step_machine.specs.declared.TheConstants.{MOST_CHANGED};
 
@@ -108,32 +108,9 @@ fn refit_noted<L: Ledger>(
     note(alloc, system, step - 1, list.as_slice(), voided)
 }
 
-/// Returns the outcome of a step that breaks no rule at its start, before its groups act: the updated forest, in which no voxel may
-/// float under Low, and the note of the step. Allocation may fail in every step.
+/// Returns the outcome of a step that breaks no rule at its start, before its groups act: the updated forest and the note of the
+/// step. If a voxel would float under Low, the forest is restored. Allocation may fail in every step.
 pub(crate) fn settle_noted<L: Ledger>(
-    alloc: Global,
-    system: &System,
-    commands: &[Command],
-    step: u32,
-    turns: &Turns,
-    list: &mut ChangeList,
-    forest: &mut Forest,
-    steps: &mut Steps<L>,
-) -> Result<Undo, StepFault>
-    requires step { 1 ≤ step }
-    requires can { CanBeSettled system.now commands.now step turns.now list.old forest.old }
-    ensures settled { IfOk result (λ _. IsSettled system.now commands.now step forest.new steps.old steps.new) }
-    ensures unsettled { IfErr result (λ fault. IsUnsettled system.now commands.now step fault steps.old steps.new) }
-    ensures note { IfOk result (λ undo. IsNote system.now commands.now step undo) }
-    ensures room { MOST_CHANGED ≤ list.new.spare + length list.new.items }
-{
-    let undo = refit_noted(alloc, system, commands, step, turns, list, forest, steps)?;
-    settle_refitted(system, commands, step, None, forest, steps)?;
-    Ok(undo)
-}
-
-/// [`settle_noted`] that restores the forest if a voxel would float.
-pub(crate) fn settle_or_restore<L: Ledger>(
     alloc: Global,
     system: &System,
     commands: &[Command],

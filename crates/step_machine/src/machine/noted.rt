@@ -11,7 +11,7 @@ ghost use Rattle.step_machine.specs.Undoing.{HaveChanged, IsUndoneBy, MayUndo, m
 use super::{Machine, StepFault, StepOk, recall_step, tell_made};
 use crate::order::take_turns;
 use crate::support::refit_back;
-use crate::undo::{Undo, settle_noted, settle_or_restore};
+use crate::undo::{Undo, settle_noted};
 use nano_spec::Command;
 use std::sync::ledger::Ledger;
 use step_order::every_order;
@@ -55,64 +55,9 @@ fn forest_back<L: Ledger>(
 }
 
 impl Machine {
-    /// [`Machine::step_in_order`] with a note that can undo the step. Allocation may fail in every step.
+    /// [`Machine::step_in_order`] with a note that can undo the step. After every broken rule the machine is as it was; allocation may
+    /// fail in every step, and poisons it.
     pub fn step_noted<L: Ledger>(
-        &mut self,
-        commands: &[Command],
-        order: &[u8],
-        steps: &mut Steps<L>,
-    ) -> Result<(StepOk, Undo), StepFault>
-        requires some { 1 ≤ length self.old.state.bots }
-        requires commands { length commands.now ≡ length self.old.state.bots }
-        requires order { IsPermutation (leader_bids (acts self.old.state.bots commands.now)) order.now }
-        requires steps { self.old.steps < 1073741824 }
-        ensures stepped { Stepped self.old self.new commands.now (without_note result) steps.old steps.new }
-        ensures serial { IfOk result (λ _. serial self.old.state commands.now order.now ≡ Some self.new.state) }
-        ensures voxels { IfOk result (λ made. HaveChanged self.new.state.matrix made.1) }
-        ensures before { IfOk result (λ made. state_before self.new.state made.1 ≡ self.old.state) }
-        ensures counted { IfOk result (λ made. made.1.steps ≡ self.old.steps) }
-        ensures undo { IfOk result (λ made. IsWellFormed self.old.state → MayUndo self.new.state made.1) }
-    {
-        every_order();
-        if self.spent {
-            return Err(StepFault::Spent);
-        }
-        let step = self.steps + 1;
-        self.system.recall();
-        recall_step(&self.system, commands);
-        if let Some(broken) = self.system.judge(commands, step, &mut self.turns, steps) {
-            return Err(StepFault::Broken(broken));
-        }
-        let undo = match settle_noted(
-            self.alloc,
-            &self.system,
-            commands,
-            step,
-            &self.turns,
-            &mut self.changed,
-            &mut self.forest,
-            steps,
-        ) {
-            Ok(undo) => undo,
-            Err(fault) => {
-                self.spent = true;
-                return Err(fault);
-            }
-        };
-        take_turns(
-            &mut self.system,
-            commands,
-            &mut self.turns,
-            Some(order),
-            steps,
-        );
-        self.steps = step;
-        Ok((tell_made(&self.system), undo))
-    }
-
-    /// [`Machine::step_noted`] that undoes a step at once if a voxel would float: after every broken rule the machine is as it was. A
-    /// failed allocation poisons it.
-    pub fn step_or_restore<L: Ledger>(
         &mut self,
         commands: &[Command],
         order: &[u8],
@@ -141,7 +86,7 @@ impl Machine {
         if let Some(broken) = self.system.judge(commands, step, &mut self.turns, steps) {
             return Err(StepFault::Broken(broken));
         }
-        let undo = match settle_or_restore(
+        let undo = match settle_noted(
             self.alloc,
             &self.system,
             commands,

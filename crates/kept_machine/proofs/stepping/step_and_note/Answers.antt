@@ -19,15 +19,15 @@ count_step-requires-clause-before g c =
 
 pub returns-in-Ok-clause-kept : goal.returns-in-Ok-clause-kept
 returns-in-Ok-clause-kept g c =
-    kept_noted c.args.machine.now c.step_or_restore.new.self c.args.notes.now c.push_back.new.self c.args.commands.now c.in-Ok.undo _ c.done.result c.args.steps.now c.step_or_restore.new.steps
-    c.requires.kept (told_noted c.args.machine.now.state c.step_or_restore.new.self.state c.in-Ok.undo c.matrix.result.now c.count_changed-changed.result c.done.result c.done.ensures.energy c.done.ensures.harmonics c.done.ensures.active c.done.ensures.changed c.count_changed-changed.ensures c.matrix.ensures.value c.in-Ok.ensures.before) c.in-Ok.ensures.made c.in-Ok.ensures.before c.in-Ok.ensures.counted c.in-Ok.ensures.undo c.push_back.ensures.items
+    kept_noted c.args.machine.now c.step_noted.new.self c.args.notes.now c.push_back.new.self c.args.commands.now c.in-Ok.undo _ c.done.result c.args.steps.now c.step_noted.new.steps
+    c.requires.kept (told_noted c.args.machine.now.state c.step_noted.new.self.state c.in-Ok.undo c.matrix.result.now c.count_changed-changed.result c.done.result c.done.ensures.energy c.done.ensures.harmonics c.done.ensures.active c.done.ensures.changed c.count_changed-changed.ensures c.matrix.ensures.value c.in-Ok.ensures.before) c.in-Ok.ensures.made c.in-Ok.ensures.before c.in-Ok.ensures.counted c.in-Ok.ensures.undo c.push_back.ensures.items
 
 pub returns-in-Ok-clause-tries : goal.returns-in-Ok-clause-tries
 returns-in-Ok-clause-tries g c = λ trace.
-    made_noted c.args.machine.now c.step_or_restore.new.self c.args.notes.now c.push_back.new.self c.args.commands.now c.in-Ok.undo _ c.done.result c.args.steps.now c.step_or_restore.new.steps
-    c.requires.kept (told_noted c.args.machine.now.state c.step_or_restore.new.self.state c.in-Ok.undo c.matrix.result.now c.count_changed-changed.result c.done.result c.done.ensures.energy c.done.ensures.harmonics c.done.ensures.active c.done.ensures.changed c.count_changed-changed.ensures c.matrix.ensures.value c.in-Ok.ensures.before) c.in-Ok.ensures.made c.in-Ok.ensures.before c.in-Ok.ensures.counted c.in-Ok.ensures.undo c.push_back.ensures.items c.requires.can trace
+    made_noted c.args.machine.now c.step_noted.new.self c.args.notes.now c.push_back.new.self c.args.commands.now c.in-Ok.undo _ c.done.result c.args.steps.now c.step_noted.new.steps
+    c.requires.kept (told_noted c.args.machine.now.state c.step_noted.new.self.state c.in-Ok.undo c.matrix.result.now c.count_changed-changed.result c.done.result c.done.ensures.energy c.done.ensures.harmonics c.done.ensures.active c.done.ensures.changed c.count_changed-changed.ensures c.matrix.ensures.value c.in-Ok.ensures.before) c.in-Ok.ensures.made c.in-Ok.ensures.before c.in-Ok.ensures.counted c.in-Ok.ensures.undo c.push_back.ensures.items c.requires.can trace
 
 pub returns-in-Err-clause-tries : goal.returns-in-Err-clause-tries
 returns-in-Err-clause-tries g c = λ trace.
-    subst (λ (r : NoStep). Tries (kept_of c.args.machine.now c.args.notes.now trace) c.args.commands.now (kept_of c.step_or_restore.new.self c.args.notes.now trace) (Err r)) (sym c.of.ensures)
-    (restored_so c.args.machine.now c.step_or_restore.new.self c.args.notes.now c.args.commands.now trace c.in-Err.fault c.args.steps.now c.step_or_restore.new.steps c.requires.can c.in-Err.ensures.refused)
+    subst (λ (r : NoStep). Tries (kept_of c.args.machine.now c.args.notes.now trace) c.args.commands.now (kept_of c.step_noted.new.self c.args.notes.now trace) (Err r)) (sym c.of.ensures)
+    (restored_so c.args.machine.now c.step_noted.new.self c.args.notes.now c.args.commands.now trace c.in-Err.fault c.args.steps.now c.step_noted.new.steps c.requires.can c.in-Err.ensures.refused)
