@@ -241,9 +241,9 @@ fn change_at_once<L: Ledger>(
     ensures touches { steps.new ≤ steps.old + 8 }
 {
     if full {
-        return forest.stand(cell, steps);
+        return forest.try_fill(cell, steps);
     }
-    forest.clear(cell, steps)
+    forest.try_void(cell, steps)
 }
 
 /// [`settle_one`] if no other level changes and each voxel stays grounded; otherwise returns `None` and changes nothing. `bit` is

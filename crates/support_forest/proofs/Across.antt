@@ -9,10 +9,10 @@ use Rattle.vox_geom.specs.Space.{IsInSpace, place}
 use Rattle.vox_geom.proofs.Firsts.{place_below}
 use Rattle.support_forest.specs.Directions.{lies_left, lies_right, lies_under, lies_over, lies_near, lies_far}
 use Rattle.support_forest.specs.Grid.{Grid, IsStore, StandsIn, brick, brick_number, place_in_slot, side, slot_at, word_at, word_in, word_index}
-use Rattle.support_forest.specs.Placing.{EndsBrick, IsOwnSpot, IsSpotAcross, IsSpotToward, IsWordToward, NoneToward, StandsBeyond}
-use Rattle.support_forest.specs.Spots.{voxel_of}
+use Rattle.support_forest.specs.FillingOne.{EndsBrick, IsOwnIndex, IsIndexAcross, IsIndexToward, IsWordToward, NoneToward, StandsBeyond}
+use Rattle.support_forest.specs.Indices.{voxel_of}
 use Rattle.support_forest.proofs.Sides.{goes, one_toward}
-use Rattle.support_forest.proofs.Voxels.{digit_x, digit_y, digit_z, own_spot}
+use Rattle.support_forest.proofs.Voxels.{digit_x, digit_y, digit_z, own_index}
 use Rattle.support_forest.proofs.Store.{brick_inside, cube_of_bricks, index_there}
 
 -- ---- the number of the next brick
@@ -70,7 +70,7 @@ stands_below r number slot_place c s = let below = place_below (side r) (brick c
 -- ---- the index of the neighbor
 
 -- as many bricks are before it, unless it is in the first of them
-pub own_below : (r : ℕ) (c : Coord) (number slot_place : ℕ) → IsOwnSpot r c number slot_place → side r ≤ 51
+pub own_below : (r : ℕ) (c : Coord) (number slot_place : ℕ) → IsOwnIndex r c number slot_place → side r ≤ 51
     → number < 132651
 unfolding brick_number
 own_below r c number slot_place own few =
@@ -79,115 +79,116 @@ own_below r c number slot_place own few =
     let in_brick = own.in_brick in
     omega arith
 
-pub wall_before_own : (r : ℕ) (c : Coord) (number slot_place : ℕ) → IsOwnSpot r c number slot_place → c.x % 8 ≡ 0
+pub wall_before_own : (r : ℕ) (c : Coord) (number slot_place : ℕ) → IsOwnIndex r c number slot_place → c.x % 8 ≡ 0
     → 0 < c.x → side r * side r ≤ number
 unfolding brick_number
 wall_before_own r c number slot_place own last some = wall_fits (side r) (c.x / 8) (c.y / 8) (c.z / 8) number (omega arith) own.in_brick
 
-pub row_before_own : (r : ℕ) (c : Coord) (number slot_place : ℕ) → IsOwnSpot r c number slot_place → c.y % 8 ≡ 0
+pub row_before_own : (r : ℕ) (c : Coord) (number slot_place : ℕ) → IsOwnIndex r c number slot_place → c.y % 8 ≡ 0
     → 0 < c.y → side r ≤ number
 unfolding brick_number
 row_before_own r c number slot_place own last some = row_fits (side r) (c.x / 8) (c.y / 8) (c.z / 8) number (omega arith) own.in_brick
 
-pub one_before_own : (r : ℕ) (c : Coord) (number slot_place : ℕ) → IsOwnSpot r c number slot_place → c.z % 8 ≡ 0
+pub one_before_own : (r : ℕ) (c : Coord) (number slot_place : ℕ) → IsOwnIndex r c number slot_place → c.z % 8 ≡ 0
     → 0 < c.z → 1 ≤ number
 unfolding brick_number
 one_before_own r c number slot_place own last some = let in_brick = own.in_brick in omega arith
 
-pub spot_left : (r : ℕ) (c : Coord) (d own place number slot_place : ℕ) → IsOwnSpot r c own place → d ≡ 1 → c.x % 8 ≡ 0
-    → 0 < c.x → number + side r * side r ≡ own → slot_place ≡ place + 56 → IsSpotToward r c d number slot_place
+pub index_left : (r : ℕ) (c : Coord) (d own place number slot_place : ℕ) → IsOwnIndex r c own place → d ≡ 1
+    → c.x % 8 ≡ 0 → 0 < c.x → number + side r * side r ≡ own → slot_place ≡ place + 56
+    → IsIndexToward r c d number slot_place
 unfolding brick_number place_in_slot
-spot_left r c d own place number slot_place own_spot e last some n i =
-    let bricks = brick_inside r c own_spot.within in
+index_left r c d own place number slot_place own_index e last some n i =
+    let bricks = brick_inside r c own_index.within in
     let in_x = bricks.x in
-    let at = own_spot.at_place in
+    let at = own_index.at_place in
     let before : (c.x - 1) / 8 ≡ c.x / 8 - 1 = omega arith in
     record {
       there = record { x = c.x - 1; y = c.y; z = c.z };
       toward = lies_left (e, omega arith, refl, refl);
       stands = record {
         within = record { x = omega arith; y = bricks.y; z = bricks.z };
-        in_brick = ap (λ (k : ℕ). k * side r * side r + c.y / 8 * side r + c.z / 8) before ∙ wall_before (side r) (c.x / 8) (c.y / 8) (c.z / 8) number own (omega arith) n own_spot.in_brick;
+        in_brick = ap (λ (k : ℕ). k * side r * side r + c.y / 8 * side r + c.z / 8) before ∙ wall_before (side r) (c.x / 8) (c.y / 8) (c.z / 8) number own (omega arith) n own_index.in_brick;
         at_place = omega arith;
       };
     }
 
-pub spot_right : (r : ℕ) (c : Coord) (d own place number slot_place : ℕ) → IsOwnSpot r c own place → d ≡ 2 → c.x % 8 ≡ 7
-    → number ≡ own + side r * side r → slot_place + 56 ≡ place → IsSpotToward r c d number slot_place
+pub index_right : (r : ℕ) (c : Coord) (d own place number slot_place : ℕ) → IsOwnIndex r c own place → d ≡ 2
+    → c.x % 8 ≡ 7 → number ≡ own + side r * side r → slot_place + 56 ≡ place → IsIndexToward r c d number slot_place
 unfolding brick_number place_in_slot side
-spot_right r c d own place number slot_place own_spot e last n i =
-    let bricks = brick_inside r c own_spot.within in
-    let along = own_spot.within.x in
-    let at = own_spot.at_place in
+index_right r c d own place number slot_place own_index e last n i =
+    let bricks = brick_inside r c own_index.within in
+    let along = own_index.within.x in
+    let at = own_index.at_place in
     let behind : (c.x + 1) / 8 ≡ c.x / 8 + 1 = omega arith in
     record {
       there = record { x = c.x + 1; y = c.y; z = c.z };
       toward = lies_right (e, omega arith, refl, refl);
       stands = record {
         within = record { x = omega arith; y = bricks.y; z = bricks.z };
-        in_brick = ap (λ (k : ℕ). k * side r * side r + c.y / 8 * side r + c.z / 8) behind ∙ wall_behind (side r) (c.x / 8) (c.y / 8) (c.z / 8) number own n own_spot.in_brick;
+        in_brick = ap (λ (k : ℕ). k * side r * side r + c.y / 8 * side r + c.z / 8) behind ∙ wall_behind (side r) (c.x / 8) (c.y / 8) (c.z / 8) number own n own_index.in_brick;
         at_place = omega arith;
       };
     }
 
-pub spot_under : (r : ℕ) (c : Coord) (d own place number slot_place : ℕ) → IsOwnSpot r c own place → d ≡ 3 → c.y % 8 ≡ 0
-    → 0 < c.y → number + side r ≡ own → slot_place ≡ place + 448 → IsSpotToward r c d number slot_place
+pub index_under : (r : ℕ) (c : Coord) (d own place number slot_place : ℕ) → IsOwnIndex r c own place → d ≡ 3
+    → c.y % 8 ≡ 0 → 0 < c.y → number + side r ≡ own → slot_place ≡ place + 448 → IsIndexToward r c d number slot_place
 unfolding brick_number place_in_slot
-spot_under r c d own place number slot_place own_spot e last some n i =
-    let bricks = brick_inside r c own_spot.within in
+index_under r c d own place number slot_place own_index e last some n i =
+    let bricks = brick_inside r c own_index.within in
     let in_y = bricks.y in
-    let at = own_spot.at_place in
+    let at = own_index.at_place in
     let before : (c.y - 1) / 8 ≡ c.y / 8 - 1 = omega arith in
     record {
       there = record { x = c.x; y = c.y - 1; z = c.z };
       toward = lies_under (e, refl, omega arith, refl);
       stands = record {
         within = record { x = bricks.x; y = omega arith; z = bricks.z };
-        in_brick = ap (λ (k : ℕ). c.x / 8 * side r * side r + k * side r + c.z / 8) before ∙ row_before (side r) (c.x / 8) (c.y / 8) (c.z / 8) number own (omega arith) n own_spot.in_brick;
+        in_brick = ap (λ (k : ℕ). c.x / 8 * side r * side r + k * side r + c.z / 8) before ∙ row_before (side r) (c.x / 8) (c.y / 8) (c.z / 8) number own (omega arith) n own_index.in_brick;
         at_place = omega arith;
       };
     }
 
-pub spot_over : (r : ℕ) (c : Coord) (d own place number slot_place : ℕ) → IsOwnSpot r c own place → d ≡ 4 → c.y % 8 ≡ 7
-    → number ≡ own + side r → slot_place + 448 ≡ place → IsSpotToward r c d number slot_place
+pub index_over : (r : ℕ) (c : Coord) (d own place number slot_place : ℕ) → IsOwnIndex r c own place → d ≡ 4
+    → c.y % 8 ≡ 7 → number ≡ own + side r → slot_place + 448 ≡ place → IsIndexToward r c d number slot_place
 unfolding brick_number place_in_slot side
-spot_over r c d own place number slot_place own_spot e last n i =
-    let bricks = brick_inside r c own_spot.within in
-    let along = own_spot.within.y in
-    let at = own_spot.at_place in
+index_over r c d own place number slot_place own_index e last n i =
+    let bricks = brick_inside r c own_index.within in
+    let along = own_index.within.y in
+    let at = own_index.at_place in
     let behind : (c.y + 1) / 8 ≡ c.y / 8 + 1 = omega arith in
     record {
       there = record { x = c.x; y = c.y + 1; z = c.z };
       toward = lies_over (e, refl, omega arith, refl);
       stands = record {
         within = record { x = bricks.x; y = omega arith; z = bricks.z };
-        in_brick = ap (λ (k : ℕ). c.x / 8 * side r * side r + k * side r + c.z / 8) behind ∙ row_behind (side r) (c.x / 8) (c.y / 8) (c.z / 8) number own n own_spot.in_brick;
+        in_brick = ap (λ (k : ℕ). c.x / 8 * side r * side r + k * side r + c.z / 8) behind ∙ row_behind (side r) (c.x / 8) (c.y / 8) (c.z / 8) number own n own_index.in_brick;
         at_place = omega arith;
       };
     }
 
-pub spot_near : (r : ℕ) (c : Coord) (d own place number slot_place : ℕ) → IsOwnSpot r c own place → d ≡ 5 → c.z % 8 ≡ 0
-    → 0 < c.z → number + 1 ≡ own → slot_place ≡ place + 7 → IsSpotToward r c d number slot_place
+pub index_near : (r : ℕ) (c : Coord) (d own place number slot_place : ℕ) → IsOwnIndex r c own place → d ≡ 5
+    → c.z % 8 ≡ 0 → 0 < c.z → number + 1 ≡ own → slot_place ≡ place + 7 → IsIndexToward r c d number slot_place
 unfolding brick_number place_in_slot
-spot_near r c d own place number slot_place own_spot e last some n i =
-    let bricks = brick_inside r c own_spot.within in
+index_near r c d own place number slot_place own_index e last some n i =
+    let bricks = brick_inside r c own_index.within in
     let in_z = bricks.z in
-    let at = own_spot.at_place in
-    let in_brick = own_spot.in_brick in
+    let at = own_index.at_place in
+    let in_brick = own_index.in_brick in
     record {
       there = record { x = c.x; y = c.y; z = c.z - 1 };
       toward = lies_near (e, refl, refl, omega arith);
       stands = record { within = record { x = bricks.x; y = bricks.y; z = omega arith }; in_brick = omega arith; at_place = omega arith };
     }
 
-pub spot_far : (r : ℕ) (c : Coord) (d own place number slot_place : ℕ) → IsOwnSpot r c own place → d ≡ 6 → c.z % 8 ≡ 7
-    → number ≡ own + 1 → slot_place + 7 ≡ place → IsSpotToward r c d number slot_place
+pub index_far : (r : ℕ) (c : Coord) (d own place number slot_place : ℕ) → IsOwnIndex r c own place → d ≡ 6 → c.z % 8 ≡ 7
+    → number ≡ own + 1 → slot_place + 7 ≡ place → IsIndexToward r c d number slot_place
 unfolding brick_number place_in_slot side
-spot_far r c d own place number slot_place own_spot e last n i =
-    let bricks = brick_inside r c own_spot.within in
-    let along = own_spot.within.z in
-    let at = own_spot.at_place in
-    let in_brick = own_spot.in_brick in
+index_far r c d own place number slot_place own_index e last n i =
+    let bricks = brick_inside r c own_index.within in
+    let along = own_index.within.z in
+    let at = own_index.at_place in
+    let in_brick = own_index.in_brick in
     record {
       there = record { x = c.x; y = c.y; z = c.z + 1 };
       toward = lies_far (e, refl, refl, omega arith);
@@ -294,7 +295,7 @@ no_word g c d word space none e = record {
   some = λ f. absurd (omega arith);
 }
 
-pub that_word : (g : Grid) (c : Coord) (d number slot_place word : ℕ) → IsSpotToward g.resolution c d number slot_place
+pub that_word : (g : Grid) (c : Coord) (d number slot_place word : ℕ) → IsIndexToward g.resolution c d number slot_place
     → ((q : Coord) → StandsIn g.resolution number slot_place q → word_at g q ≡ word) → IsWordToward (word_at g) c d word
 that_word g c d number slot_place word s value = record {
   each = λ q k. ap (word_at g) (one_toward d c q s.there k s.toward) ∙ value s.there s.stands;
@@ -309,14 +310,14 @@ void_word g q word space out e = elim (cases_lt 0 (word_at g q)) [ inl f ↦ abs
 -- ---- the voxel over the border
 
 -- the number of its brick is in the table
-pub across_below : (r : ℕ) (c : Coord) (d next : ℕ) → IsSpotAcross r c d next
+pub across_below : (r : ℕ) (c : Coord) (d next : ℕ) → IsIndexAcross r c d next
     → next / 512 < side r * side r * side r
 across_below r c d next (inl s) = stands_below r (next / 512) (next % 512) s.there s.stands
 across_below r c d next (inr s) = stands_below r (next / 512) (next % 512) s.1.there s.1.stands
 
 -- the word there is that of the neighbor, and 0 if none lies in space
 pub word_there : (g : Grid) (c : Coord) (d next word : ℕ) → ((q : Coord) → 0 < word_at g q → IsInSpace g.resolution q)
-    → IsSpotAcross g.resolution c d next
+    → IsIndexAcross g.resolution c d next
     → ((q : Coord) → StandsIn g.resolution (next / 512) (next % 512) q → word_at g q ≡ word)
     → IsWordToward (word_at g) c d word
 word_there g c d next word space (inl s) value = that_word g c d (next / 512) (next % 512) word s value
@@ -324,15 +325,15 @@ word_there g c d next word space (inr s) value =
     no_word g c d word space s.0 (void_word g s.1.there word space s.1.out (value s.1.there s.1.stands))
 
 pub across_left : (r p t next : ℕ) → t ≡ side r * side r → IsInSpace r (voxel_of (side r) p)
-    → (voxel_of (side r) p).x % 8 ≡ 0 → next + 512 * t ≡ p + 56 → IsSpotAcross r (voxel_of (side r) p) 1 next
+    → (voxel_of (side r) p).x % 8 ≡ 0 → next + 512 * t ≡ p + 56 → IsIndexAcross r (voxel_of (side r) p) 1 next
 unfolding brick_number
 across_left r p t next e within last is =
     let c = voxel_of (side r) p in
-    let own = own_spot r p within in
+    let own = own_index r p within in
     let digit : p % 512 / 8 % 8 ≡ 0 = sym (digit_x (side r) p) ∙ last in
     let bricks = brick_inside r c within in
     elim (cases_lt 0 c.x) [
-      | inl some ↦ inl (spot_left r c 1 (p / 512) (p % 512) (next / 512) (next % 512) own refl last some (omega arith) (omega arith))
+      | inl some ↦ inl (index_left r c 1 (p / 512) (p % 512) (next / 512) (next % 512) own refl last some (omega arith) (omega arith))
       | inr none ↦ let below = first_wall (side r) (c.x / 8) (c.y / 8) (c.z / 8) (p / 512) (omega arith) bricks.y bricks.z own.in_brick in absurd (omega arith)
     ]
 
@@ -340,7 +341,7 @@ pub no_left : (r p t : ℕ) → t ≡ side r * side r → IsInSpace r (voxel_of 
     → (voxel_of (side r) p).x % 8 ≡ 0 → (p + 56) / 512 < t → NoneToward r (voxel_of (side r) p) 1
 no_left r p t e within last few =
     let c = voxel_of (side r) p in
-    let own = own_spot r p within in
+    let own = own_index r p within in
     let digit : p % 512 / 8 % 8 ≡ 0 = sym (digit_x (side r) p) ∙ last in
     elim (cases_lt 0 c.x) [
       | inl some ↦ let before = wall_before_own r c (p / 512) (p % 512) own last some in absurd (omega arith)
@@ -348,25 +349,25 @@ no_left r p t e within last few =
     ]
 
 pub across_right : (r p t next : ℕ) → t ≡ side r * side r → IsInSpace r (voxel_of (side r) p)
-    → (voxel_of (side r) p).x % 8 ≡ 7 → next + 56 ≡ p + 512 * t → IsSpotAcross r (voxel_of (side r) p) 2 next
+    → (voxel_of (side r) p).x % 8 ≡ 7 → next + 56 ≡ p + 512 * t → IsIndexAcross r (voxel_of (side r) p) 2 next
 across_right r p t next e within last is =
-    let own = own_spot r p within in
+    let own = own_index r p within in
     let digit : p % 512 / 8 % 8 ≡ 7 = sym (digit_x (side r) p) ∙ last in
-    inl (spot_right r (voxel_of (side r) p) 2 (p / 512) (p % 512) (next / 512) (next % 512) own refl last (omega arith) (omega arith))
+    inl (index_right r (voxel_of (side r) p) 2 (p / 512) (p % 512) (next / 512) (next % 512) own refl last (omega arith) (omega arith))
 
 pub across_over : (r p t next : ℕ) → t ≡ side r → IsInSpace r (voxel_of (side r) p)
-    → (voxel_of (side r) p).y % 8 ≡ 7 → next + 448 ≡ p + 512 * t → IsSpotAcross r (voxel_of (side r) p) 4 next
+    → (voxel_of (side r) p).y % 8 ≡ 7 → next + 448 ≡ p + 512 * t → IsIndexAcross r (voxel_of (side r) p) 4 next
 across_over r p t next e within last is =
-    let own = own_spot r p within in
+    let own = own_index r p within in
     let digit : p % 512 / 64 ≡ 7 = sym (digit_y (side r) p) ∙ last in
-    inl (spot_over r (voxel_of (side r) p) 4 (p / 512) (p % 512) (next / 512) (next % 512) own refl last (omega arith) (omega arith))
+    inl (index_over r (voxel_of (side r) p) 4 (p / 512) (p % 512) (next / 512) (next % 512) own refl last (omega arith) (omega arith))
 
 pub across_far : (r p next : ℕ) → IsInSpace r (voxel_of (side r) p) → (voxel_of (side r) p).z % 8 ≡ 7
-    → next + 7 ≡ p + 512 → IsSpotAcross r (voxel_of (side r) p) 6 next
+    → next + 7 ≡ p + 512 → IsIndexAcross r (voxel_of (side r) p) 6 next
 across_far r p next within last is =
-    let own = own_spot r p within in
+    let own = own_index r p within in
     let digit : p % 512 % 8 ≡ 7 = sym (digit_z (side r) p) ∙ last in
-    inl (spot_far r (voxel_of (side r) p) 6 (p / 512) (p % 512) (next / 512) (next % 512) own refl last (omega arith) (omega arith))
+    inl (index_far r (voxel_of (side r) p) 6 (p / 512) (p % 512) (next / 512) (next % 512) own refl last (omega arith) (omega arith))
 
 -- the brick before the first of its row lies beyond space
 beyond_row : (r p next : ℕ) → IsInSpace r (voxel_of (side r) p) → (voxel_of (side r) p).y ≡ 0
@@ -374,7 +375,7 @@ beyond_row : (r p next : ℕ) → IsInSpace r (voxel_of (side r) p) → (voxel_o
 unfolding brick_number place_in_slot side
 beyond_row r p next within floor is =
     let c = voxel_of (side r) p in
-    let own = own_spot r p within in
+    let own = own_index r p within in
     let bricks = brick_inside r c within in
     let digit : p % 512 / 64 ≡ 0 = sym (digit_y (side r) p) ∙ omega arith in
     let there : Coord = record { x = c.x - 8; y = 8 * (side r - 1) + 7; z = c.z } in
@@ -400,13 +401,13 @@ beyond_row r p next within floor is =
     }
 
 pub across_under : (r p t next : ℕ) → t ≡ side r → IsInSpace r (voxel_of (side r) p)
-    → (voxel_of (side r) p).y % 8 ≡ 0 → next + 512 * t ≡ p + 448 → IsSpotAcross r (voxel_of (side r) p) 3 next
+    → (voxel_of (side r) p).y % 8 ≡ 0 → next + 512 * t ≡ p + 448 → IsIndexAcross r (voxel_of (side r) p) 3 next
 across_under r p t next e within last is =
     let c = voxel_of (side r) p in
-    let own = own_spot r p within in
+    let own = own_index r p within in
     let digit : p % 512 / 64 ≡ 0 = sym (digit_y (side r) p) ∙ last in
     elim (cases_lt 0 c.y) [
-      | inl some ↦ inl (spot_under r c 3 (p / 512) (p % 512) (next / 512) (next % 512) own refl last some (omega arith) (omega arith))
+      | inl some ↦ inl (index_under r c 3 (p / 512) (p % 512) (next / 512) (next % 512) own refl last some (omega arith) (omega arith))
       | inr none ↦ inr (none_under r c 3 refl (omega arith), beyond_row r p next within (omega arith) (omega arith))
     ]
 
@@ -414,7 +415,7 @@ pub no_under : (r p t : ℕ) → t ≡ side r → IsInSpace r (voxel_of (side r)
     → (p + 448) / 512 < t → NoneToward r (voxel_of (side r) p) 3
 no_under r p t e within last few =
     let c = voxel_of (side r) p in
-    let own = own_spot r p within in
+    let own = own_index r p within in
     let digit : p % 512 / 64 ≡ 0 = sym (digit_y (side r) p) ∙ last in
     elim (cases_lt 0 c.y) [
       | inl some ↦ let before = row_before_own r c (p / 512) (p % 512) own last some in absurd (omega arith)
@@ -427,7 +428,7 @@ beyond_line : (r p next : ℕ) → IsInSpace r (voxel_of (side r) p) → (voxel_
 unfolding brick_number place_in_slot side
 beyond_line r p next within first is =
     let c = voxel_of (side r) p in
-    let own = own_spot r p within in
+    let own = own_index r p within in
     let bricks = brick_inside r c within in
     let in_x = bricks.x in
     let in_y = bricks.y in
@@ -469,13 +470,13 @@ beyond_line r p next within first is =
     ]
 
 pub across_near : (r p next : ℕ) → IsInSpace r (voxel_of (side r) p) → (voxel_of (side r) p).z % 8 ≡ 0
-    → next + 512 ≡ p + 7 → IsSpotAcross r (voxel_of (side r) p) 5 next
+    → next + 512 ≡ p + 7 → IsIndexAcross r (voxel_of (side r) p) 5 next
 across_near r p next within last is =
     let c = voxel_of (side r) p in
-    let own = own_spot r p within in
+    let own = own_index r p within in
     let digit : p % 512 % 8 ≡ 0 = sym (digit_z (side r) p) ∙ last in
     elim (cases_lt 0 c.z) [
-      | inl some ↦ inl (spot_near r c 5 (p / 512) (p % 512) (next / 512) (next % 512) own refl last some (omega arith) (omega arith))
+      | inl some ↦ inl (index_near r c 5 (p / 512) (p % 512) (next / 512) (next % 512) own refl last some (omega arith) (omega arith))
       | inr none ↦ inr (none_near r c 5 refl (omega arith), beyond_line r p next within (omega arith) (omega arith))
     ]
 
@@ -483,7 +484,7 @@ pub no_near : (r p : ℕ) → IsInSpace r (voxel_of (side r) p) → (voxel_of (s
     → (p + 7) / 512 < 1 → NoneToward r (voxel_of (side r) p) 5
 no_near r p within last few =
     let c = voxel_of (side r) p in
-    let own = own_spot r p within in
+    let own = own_index r p within in
     let digit : p % 512 % 8 ≡ 0 = sym (digit_z (side r) p) ∙ last in
     elim (cases_lt 0 c.z) [
       | inl some ↦ let before = one_before_own r c (p / 512) (p % 512) own last some in absurd (omega arith)

@@ -6,11 +6,11 @@ use Rattle.vox_geom.specs.declared.coordinate.Coord.{Coord}
 use Rattle.vox_geom.proofs.Points.{same_or_not}
 use Rattle.support_forest.specs.Directions.{Toward, lies_left, lies_right, lies_under, lies_over, lies_near, lies_far}
 use Rattle.support_forest.specs.Grid.{Grid, word_at}
-use Rattle.support_forest.specs.Stretches.{AreCleared, IsPast, IsStretch, IsTaking, RowIsFree, TakesMore, further}
-use Rattle.support_forest.specs.Taking.{HaveVoidedOne, IsNoParent}
+use Rattle.support_forest.specs.Segments.{AreCleared, IsPast, IsSegment, IsTaking, RowIsFree, TakesMore, further}
+use Rattle.support_forest.specs.VoidingOne.{HaveVoidedOne, IsNoParent}
 use Rattle.support_forest.specs.Words.{AreExact, IsWritten}
 use Rattle.support_forest.proofs.Each.{before_last, taking_listed, taking_taken}
-use Rattle.support_forest.proofs.Taking.{exact_without}
+use Rattle.support_forest.proofs.VoidingOne.{exact_without}
 
 -- ---- voxels of a row become void
 
@@ -131,7 +131,7 @@ row_listed now gone end count rest more steps after b l s h old before a p =
     }
 
 pub row_cleared : (now new : Grid) (gone : List Coord) (end count : ℕ) (rest : List Coord) (steps mid after : ℕ)
-    (c : Coord) → 2 ≤ count → count ≤ end → IsStretch gone (end - count) count c → mid ≤ steps + 5 * count + 2
+    (c : Coord) → 2 ≤ count → count ≤ end → IsSegment gone (end - count) count c → mid ≤ steps + 5 * count + 2
     → AreCleared now new c 0 count mid after → TakesMore now new gone end (end - count) rest rest steps after
 row_cleared now new gone end count rest steps mid after c b l s m h old before a p = record {
   resolution = h.resolution ∙ p.resolution;

@@ -11,9 +11,9 @@ use Rattle.vox_geom.specs.Space.{IsInSpace, coordinates}
 use Rattle.vox_geom.proofs.Points.{same_or_not}
 use Rattle.support_forest.specs.Grid.{Grid, word_at}
 use Rattle.support_forest.specs.Losing.{CanRemove, HaveRemoved}
-use Rattle.support_forest.specs.Placing.{ArePlaced, HavePlaced}
-use Rattle.support_forest.specs.Stretches.{IsPast, IsTaking}
-use Rattle.support_forest.specs.Taking.{AreTaken, HaveVoidedOne}
+use Rattle.support_forest.specs.FillingOne.{ArePlaced, HaveFilledOne}
+use Rattle.support_forest.specs.Segments.{IsPast, IsTaking}
+use Rattle.support_forest.specs.VoidingOne.{AreTaken, HaveVoidedOne}
 use Rattle.support_forest.specs.Waiting.{CanAdd, HaveAdded}
 use Rattle.support_forest.specs.Words.{height, AreExact, has_changed, changed}
 use Rattle.support_forest.proofs.Counts.{count_le, differ, do_differ}
@@ -87,7 +87,7 @@ placing_space old now cells i rest before steps x a p l e = subst (λ (r : ℕ).
 
 pub placing_placed : (old now new : Grid) (cells : List Coord) (i : ℕ) (rest : List Coord) (before steps after : ℕ)
     (x : Coord) → CanAdd old cells → IsPlacing old now cells i rest before steps → i < length cells
-    → x ≡ slice_index_or cells i x → HavePlaced now new x steps after
+    → x ≡ slice_index_or cells i x → HaveFilledOne now new x steps after
     → IsPlacing old new cells (i + 1) rest before after
 placing_placed old now new cells i rest before steps after x a p l e h = record {
   resolution = h.resolution ∙ p.resolution;

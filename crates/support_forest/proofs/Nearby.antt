@@ -5,7 +5,7 @@ use Rattle.vox_geom.specs.Space.{IsInSpace}
 use Rattle.support_forest.specs.declared.beside.Beside.{Beside}
 use Rattle.support_forest.specs.Directions.{Toward, AreBeside, lies_left, lies_right, lies_under, lies_over, lies_near, lies_far}
 use Rattle.support_forest.specs.Grid.{Grid, StandsAt, brick, brick_number, place_in_slot, side, slot_at, slot_of}
-use Rattle.support_forest.specs.Placing.{AreBesideWords, StandsToward, StayAfter}
+use Rattle.support_forest.specs.FillingOne.{AreBesideWords, StandsToward, StayAfter}
 use Rattle.support_forest.specs.Words.{IsWritten}
 use Rattle.support_forest.proofs.Sides.{one_direction}
 use Rattle.support_forest.proofs.Store.{brick_inside, same_brick}

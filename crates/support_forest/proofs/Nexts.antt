@@ -6,8 +6,8 @@ use Rattle.vox_geom.specs.Space.{IsInSpace}
 use Rattle.vox_geom.proofs.Tests.{less_by_test, not_less_by_test}
 use Rattle.support_forest.specs.Directions.{Toward}
 use Rattle.support_forest.specs.Grid.{brick, place_in_slot}
-use Rattle.support_forest.specs.Placing.{EndsBrick}
-use Rattle.support_forest.specs.Spots.{IsBrickBeside, StaysInBrick, voxel_of}
+use Rattle.support_forest.specs.FillingOne.{EndsBrick}
+use Rattle.support_forest.specs.Indices.{IsBrickBeside, StaysInBrick, voxel_of}
 use Rattle.support_forest.proofs.Across.{ends_far, ends_left, ends_near, ends_over, ends_right, ends_under, row_before, row_behind, row_fits, wall_before, wall_behind, wall_fits}
 use Rattle.support_forest.proofs.Sides.{sums}
 use Rattle.support_forest.proofs.Voxels.{digit_x, digit_y, digit_z, slot_place_at, place_at, voxel_is}

@@ -30,7 +30,7 @@ use Rattle.support_forest.specs.Directions.{Toward, lies_left, lies_right, lies_
 use Rattle.support_forest.specs.Grid.{Grid, brick, brick_number, slot_at, slot_of, word_at}
 use Rattle.support_forest.specs.Columns.{AreRowBits, AreSupportedBits, CanScan, IsScanned, column_word, is_deferred, is_raised, is_column_full, scan_index}
 use Rattle.support_forest.specs.Standing.{matrix_of}
-use Rattle.support_forest.specs.Stretches.{AreWritten, further}
+use Rattle.support_forest.specs.Segments.{AreWritten, further}
 use Rattle.support_forest.specs.Waiting.{CanAdd, HaveAdded}
 use Rattle.support_forest.specs.Words.{height, AreExact, IsWritten}
 use Rattle.support_forest.proofs.Counts.{changed_most}

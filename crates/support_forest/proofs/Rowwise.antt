@@ -7,11 +7,11 @@ use Rattle.vox_geom.specs.Space.{IsInSpace}
 use Rattle.brick_arena.specs.Slots.{Slots, with_row, words_of}
 use Rattle.support_forest.specs.Directions.{Toward, lies_left, lies_right, lies_under, lies_over, lies_near, lies_far}
 use Rattle.support_forest.specs.Grid.{Grid, IsStore, count_words, floating_count, slot_of, word_at, word_index}
-use Rattle.support_forest.specs.Stretches.{AreCleared, AreWritten, LieInRow, RowIsFree, further}
+use Rattle.support_forest.specs.Segments.{AreCleared, AreWritten, LieInRow, RowIsFree, further}
 use Rattle.support_forest.specs.Words.{AreExact, IsWritten, is_overhang}
 use Rattle.support_forest.proofs.Clearing.{in_row}
-use Rattle.support_forest.proofs.Stretches.{row_index, row_slot, row_space}
-use Rattle.support_forest.proofs.Writes.{keeps, sets, still_counted, straight_not_one}
+use Rattle.support_forest.proofs.Segments.{row_index, row_slot, row_space}
+use Rattle.support_forest.proofs.Writes.{keeps, sets, still_counted, without_overhang_not_one}
 
 -- ---- the store
 
@@ -49,7 +49,7 @@ can_row g q c slot index word same h r o a l ls w = record {
 record IsRowed (g : Grid) (c : Coord) (slot index word k : ℕ) : Type 0 where
   store : IsStore (rowed g slot index word k)
   floating : floating_count (rowed g slot index word k) ≡ floating_count g
-  leaning : count_words is_overhang (rowed g slot index word k) ≡ count_words is_overhang g
+  overhangs : count_words is_overhang (rowed g slot index word k) ≡ count_words is_overhang g
   later : (j : ℕ) → k ≤ j → word_at (rowed g slot index word k) (further c j) ≡ word_at g (further c j)
 
 one_more : (g : Grid) (c : Coord) (slot index word k : ℕ) → CanRow g c slot index word
@@ -71,7 +71,7 @@ one_more g c slot index word k h s l =
 is_rowed : (g : Grid) (c : Coord) (slot index word k : ℕ) → CanRow g c slot index word → k ≤ 8
     → IsRowed g c slot index word k
 unfolding with_row
-is_rowed g c slot index word zero h l = record { store = h.store; floating = refl; leaning = refl; later = λ j m. refl }
+is_rowed g c slot index word zero h l = record { store = h.store; floating = refl; overhangs = refl; later = λ j m. refl }
 is_rowed g c slot index word (suc k) h l =
     let rowed_here = is_rowed g c slot index word k h (omega arith) in
     let k_below_8 : k < 8 = omega arith in
@@ -82,8 +82,8 @@ is_rowed g c slot index word (suc k) h l =
     let within = row_space g c 8 k h.row k_below_8 in
     record {
       store = one_more_here.1;
-      floating = still_counted (λ n. n == 1) now next (further c k) word refl within one_more_here.0 (straight_not_one (word_at now (further c k)) stood) (straight_not_one word h.level) ∙ rowed_here.floating;
-      leaning = still_counted is_overhang now next (further c k) word refl within one_more_here.0 stood h.level ∙ rowed_here.leaning;
+      floating = still_counted (λ n. n == 1) now next (further c k) word refl within one_more_here.0 (without_overhang_not_one (word_at now (further c k)) stood) (without_overhang_not_one word h.level) ∙ rowed_here.floating;
+      overhangs = still_counted is_overhang now next (further c k) word refl within one_more_here.0 stood h.level ∙ rowed_here.overhangs;
       later = λ j m. one_more_here.0.kept (further c j) (λ e. let sum_is : c.z + j ≡ c.z + k = ap (λ (x : Coord). x.z) e in omega arith) ∙ rowed_here.later j (omega arith);
     }
 
@@ -91,7 +91,7 @@ is_rowed g c slot index word (suc k) h l =
 pub record WroteRow (g : Grid) (v : Slots) (c : Coord) (word : ℕ) : Type 0 where
   pub store : IsStore (record { resolution = g.resolution; table = g.table; bricks = v })
   pub floating : floating_count (record { resolution = g.resolution; table = g.table; bricks = v }) ≡ floating_count g
-  pub leaning :
+  pub overhangs :
       count_words is_overhang (record { resolution = g.resolution; table = g.table; bricks = v }) ≡ count_words is_overhang g
   pub written : AreWritten g (record { resolution = g.resolution; table = g.table; bricks = v }) c word
 
@@ -103,7 +103,7 @@ wrote_row g v c slot index word h e =
     subst (λ (u : Slots). WroteRow g u c word) (sym e) (record {
       store = rowed_here.store;
       floating = rowed_here.floating;
-      leaning = rowed_here.leaning;
+      overhangs = rowed_here.overhangs;
       written = record {
         after = λ k. rowed g slot index word k;
         first = refl;

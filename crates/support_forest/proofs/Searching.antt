@@ -11,9 +11,9 @@ use Rattle.vox_geom.proofs.Firsts.{place_below}
 use Rattle.vox_geom.proofs.Places.{coordinate_at-place}
 use Rattle.support_forest.specs.Floating.{FirstOne, IsFirstOne, NoneIsOne, words_along, words_from}
 use Rattle.support_forest.specs.Grid.{FloatsFirst, Grid, IsStore, NoneFloatsBelow, place_in_slot, slot_of, word_at}
-use Rattle.support_forest.specs.Stretches.{LieInRow, further}
+use Rattle.support_forest.specs.Segments.{LieInRow, further}
 use Rattle.support_forest.proofs.Store.{brick_inside}
-use Rattle.support_forest.proofs.Stretches.{row_slot, row_space, row_word}
+use Rattle.support_forest.proofs.Segments.{row_slot, row_space, row_word}
 use Rattle.support_forest.proofs.Writes.{reads_none}
 
 -- ---- a part of a row, which lies in one brick

@@ -11,10 +11,10 @@ use Rattle.vox_planes.proofs.Walks.{is_of, of_is}
 use Rattle.support_forest.specs.Grid.{Grid, slot_of, word_at}
 use Rattle.support_forest.specs.Losing.{CanRemove, HaveRemoved}
 use Rattle.support_forest.specs.Regions.{AreVoided, HaveVoided, IsInRegion, IsInRow, IsInWall, IsInWalls}
-use Rattle.support_forest.specs.Stretches.{AreCleared, LieInRow, further, whole_row_start}
+use Rattle.support_forest.specs.Segments.{AreCleared, LieInRow, further, whole_row_start}
 use Rattle.support_forest.specs.Words.{AreExact}
 use Rattle.support_forest.proofs.Each.{changed_since, differ_more, no_member, none_differ}
-use Rattle.support_forest.proofs.Stretches.{row_has, row_slot, row_space}
+use Rattle.support_forest.proofs.Segments.{row_has, row_slot, row_space}
 use Rattle.support_forest.proofs.Writes.{reads_none}
 
 -- the voxels are void as they are

@@ -9,9 +9,9 @@ use Rattle.vox_geom.proofs.Firsts.{place_below}
 use Rattle.vox_geom.proofs.Places.{coordinate_at-place, place-coordinate_at}
 use Rattle.vox_geom.proofs.Tests.{test_equal, test_unequal}
 use Rattle.support_forest.specs.Grid.{Grid, IsStore, brick, brick_number, place_in_slot, side, slot_at, slot_of}
-use Rattle.support_forest.specs.Placing.{IsOwnSpot}
-use Rattle.support_forest.specs.Spots.{spot_of, voxel_of, voxel_in, voxel_of_brick}
-use Rattle.support_forest.specs.Stretches.{further, whole_row_start}
+use Rattle.support_forest.specs.FillingOne.{IsOwnIndex}
+use Rattle.support_forest.specs.Indices.{store_index, voxel_of, voxel_in, voxel_of_brick}
+use Rattle.support_forest.specs.Segments.{further, whole_row_start}
 use Rattle.support_forest.proofs.Store.{brick_inside, cube_of_bricks, few_bricks, slot_place_below}
 
 high : (b i : ℕ) → i < 8 → (8 * b + i) / 8 ≡ b
@@ -80,14 +80,14 @@ pub voxel_there : (r p : ℕ) (c : Coord) → IsInSpace (side r) (brick c) → b
 unfolding brick_number
 voxel_there r p c h n i = voxel_is (side r) p c h n i
 
-pub voxel_at_spot : (r : ℕ) (c : Coord) → IsInSpace (side r) (brick c) → voxel_of (side r) (spot_of r c) ≡ c
-unfolding spot_of
-voxel_at_spot r c h =
+pub voxel_at_index : (r : ℕ) (c : Coord) → IsInSpace (side r) (brick c) → voxel_of (side r) (store_index r c) ≡ c
+unfolding store_index
+voxel_at_index r c h =
     let below = slot_place_below c in
     voxel_there r (512 * brick_number r c + place_in_slot c) c h (omega arith) (omega arith)
 
-pub own_spot : (r p : ℕ) → IsInSpace r (voxel_of (side r) p) → IsOwnSpot r (voxel_of (side r) p) (p / 512) (p % 512)
-own_spot r p h = record { within = h; in_brick = sym (number_at r p); at_place = sym (slot_place_at (side r) p) }
+pub own_index : (r p : ℕ) → IsInSpace r (voxel_of (side r) p) → IsOwnIndex r (voxel_of (side r) p) (p / 512) (p % 512)
+own_index r p h = record { within = h; in_brick = sym (number_at r p); at_place = sym (slot_place_at (side r) p) }
 
 -- the number of a brick in the table
 pub number_below : (r p : ℕ) → IsInSpace r (voxel_of (side r) p) → p / 512 < side r * side r * side r
@@ -105,8 +105,8 @@ few_numbers r c few h =
     let cube = cube_of_bricks (side r) (few_bricks r few) in
     omega arith
 
-pub spot_small : (r p : ℕ) → r ≤ 400 → IsInSpace r (voxel_of (side r) p) → p < 67917312
-spot_small r p few h =
+pub index_small : (r p : ℕ) → r ≤ 400 → IsInSpace r (voxel_of (side r) p) → p < 67917312
+index_small r p few h =
     let below = number_below r p h in
     let cube = cube_of_bricks (side r) (few_bricks r few) in
     omega arith
@@ -148,9 +148,9 @@ whole_row_there s p =
 
 -- ---- along a line through space
 
-pub voxel_along : (r line : ℕ) (c : Coord) → line ≡ spot_of r (record { x = c.x; y = c.y; z = 0 }) → IsInSpace r c
+pub voxel_along : (r line : ℕ) (c : Coord) → line ≡ store_index r (record { x = c.x; y = c.y; z = 0 }) → IsInSpace r c
     → voxel_of (side r) (line + 512 * (c.z / 8) + c.z % 8) ≡ c
-unfolding spot_of brick_number place_in_slot
+unfolding store_index brick_number place_in_slot
 voxel_along r line c e h =
     let bricks = brick_inside r c h in
     voxel_there r (line + 512 * (c.z / 8) + c.z % 8) c bricks (omega arith) (omega arith)

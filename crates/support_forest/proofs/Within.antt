@@ -4,8 +4,8 @@ use Rattle.vox_geom.specs.declared.coordinate.Coord.{Coord}
 use Rattle.vox_geom.specs.Space.{IsInSpace}
 use Rattle.brick_arena.specs.Slots.{start_in_chunk}
 use Rattle.support_forest.specs.Grid.{Grid, IsStore, StandsIn, side, word_at}
-use Rattle.support_forest.specs.Placing.{EndsBrick, IsPlaceToward, IsWordToward}
-use Rattle.support_forest.specs.Spots.{IsReadAt, voxel_of, voxel_in}
+use Rattle.support_forest.specs.FillingOne.{EndsBrick, IsPlaceToward, IsWordToward}
+use Rattle.support_forest.specs.Indices.{IsReadAt, voxel_of, voxel_in}
 use Rattle.support_forest.proofs.Across.{ends_far, ends_left, ends_near, ends_over, ends_right, ends_under}
 use Rattle.support_forest.proofs.Nearby.{stands_far, stands_left, stands_near, stands_over, stands_right, stands_under, stands_beside}
 use Rattle.support_forest.proofs.Sides.{one_toward}

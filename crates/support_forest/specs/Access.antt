@@ -4,8 +4,8 @@ use Rattle.brick_arena.specs.Slots.{IsLive}
 use Rattle.vox_geom.specs.declared.coordinate.Coord.{Coord}
 use Rattle.vox_geom.specs.Space.{IsInSpace}
 use Rattle.support_forest.specs.Grid.{Grid, place_in_slot, slot_at, slot_of, word_at}
-use Rattle.support_forest.specs.Placing.{IsWordToward}
-use Rattle.support_forest.specs.Spots.{voxel_in}
+use Rattle.support_forest.specs.FillingOne.{IsWordToward}
+use Rattle.support_forest.specs.Indices.{voxel_in}
 use Rattle.support_forest.specs.Words.{IsWritten}
 
 -- the voxel lies in space, and so do all full voxels
@@ -41,6 +41,6 @@ pub record HasWritten (old new : Grid) (c : Coord) (word before after : ℕ) : T
 
 -- the call read, with one touch at most, the word of the neighbor in the direction of the voxel at the index; 0 if there
 -- is no neighbor
-pub record ReadsToward (g : Grid) (spot d read before after : ℕ) : Type 0 where
-  pub word : IsWordToward (word_at g) (voxel_in g spot) d read
+pub record ReadsToward (g : Grid) (index d read before after : ℕ) : Type 0 where
+  pub word : IsWordToward (word_at g) (voxel_in g index) d read
   pub touch : after ≤ before + 1

@@ -6,7 +6,7 @@ use Rattle.vox_geom.specs.Space.{IsInSpace}
 use Rattle.nano_spec.specs.Matrix.{Matrix, is_full}
 use Rattle.nano_spec.specs.Model.{bit}
 use Rattle.support_forest.specs.Grid.{Grid, word_at}
-use Rattle.support_forest.specs.Stretches.{further}
+use Rattle.support_forest.specs.Segments.{further}
 
 -- the word of a voxel whose level is its y: its parent is the floor or the voxel below
 abbrev pub column_word : ℕ → ℕ

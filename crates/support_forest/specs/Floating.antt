@@ -2,7 +2,7 @@
 use Rattle.std.specs.Prelude.{◌≡◌, ◌≢◌, ℕ, ◌+◌, ◌<◌, List, Option, MatchOption, slice_index}
 use Rattle.vox_geom.specs.declared.coordinate.Coord.{Coord}
 use Rattle.support_forest.specs.Grid.{Grid, word_at}
-use Rattle.support_forest.specs.Stretches.{further}
+use Rattle.support_forest.specs.Segments.{further}
 
 -- none of the first n numbers is 1
 abbrev pub NoneIsOne : (ℕ → ℕ) → ℕ → Type 0

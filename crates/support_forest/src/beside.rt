@@ -5,8 +5,8 @@ ghost use Rattle.vox_geom.specs.Space.{IsInSpace};
 ghost use Rattle.vox_geom.specs.declared.coordinate.Coord.{Coord};
 ghost use Rattle.support_forest.specs.Access.{LieInSpace};
 ghost use Rattle.support_forest.specs.Grid.{word_at};
-ghost use Rattle.support_forest.specs.Placing.{AreBesideWords};
-ghost use Rattle.support_forest.specs.Spots.{IsReadAt, voxel_in};
+ghost use Rattle.support_forest.specs.FillingOne.{AreBesideWords};
+ghost use Rattle.support_forest.specs.Indices.{IsReadAt, voxel_in};
 
 use crate::cells::{BRICK_WORDS, Cells};
 use crate::toward::{word_beyond, word_toward};
@@ -27,10 +27,10 @@ pub struct Beside {
 
 /// Returns the offset of an index's word in the chunk that contains the slot of its brick.
 #[inline(always)]
-pub fn place_in_chunk(slot: u32, spot: u32) -> usize
-    ensures { result ≡ start_in_chunk_of slot + spot % 512 }
+pub fn place_in_chunk(slot: u32, index: u32) -> usize
+    ensures { result ≡ start_in_chunk_of slot + index % 512 }
 {
-    start_in_chunk(slot) + (spot % BRICK_WORDS) as usize
+    start_in_chunk(slot) + (index % BRICK_WORDS) as usize
 }
 
 /// Returns the word of the voxel at an index.
@@ -40,14 +40,14 @@ pub fn place_in_chunk(slot: u32, spot: u32) -> usize
 #[inline(always)]
 pub fn word_here<L: Ledger>(
     cells: &Cells,
-    spot: u32,
+    index: u32,
     slot: u32,
     chunk: &Chunk,
     at: usize,
     steps: &mut Steps<L>,
 ) -> u32
-    requires { IsReadAt cells.now spot slot chunk.now at }
-    ensures value { result ≡ word_at cells.now (voxel_in cells.now spot) }
+    requires { IsReadAt cells.now index slot chunk.now at }
+    ensures value { result ≡ word_at cells.now (voxel_in cells.now index) }
     ensures touch { steps.new ≤ steps.old + 1 }
 {
     cells.recall();
@@ -56,18 +56,18 @@ pub fn word_here<L: Ledger>(
 
 /// Reads the neighbors of the voxel at an index whose brick has no slot.
 #[inline(never)]
-pub fn words_beyond<L: Ledger>(cells: &Cells, spot: u32, steps: &mut Steps<L>) -> Beside
-    requires { LieInSpace cells.now (voxel_in cells.now spot) }
-    ensures words { AreBesideWords (word_at cells.now) (voxel_in cells.now spot) result }
+pub fn words_beyond<L: Ledger>(cells: &Cells, index: u32, steps: &mut Steps<L>) -> Beside
+    requires { LieInSpace cells.now (voxel_in cells.now index) }
+    ensures words { AreBesideWords (word_at cells.now) (voxel_in cells.now index) result }
     ensures touches { steps.new ≤ steps.old + 6 }
 {
     Beside {
-        left: word_beyond::<1, L>(cells, spot, steps),
-        right: word_beyond::<2, L>(cells, spot, steps),
-        under: word_beyond::<3, L>(cells, spot, steps),
-        over: word_beyond::<4, L>(cells, spot, steps),
-        near: word_beyond::<5, L>(cells, spot, steps),
-        far: word_beyond::<6, L>(cells, spot, steps),
+        left: word_beyond::<1, L>(cells, index, steps),
+        right: word_beyond::<2, L>(cells, index, steps),
+        under: word_beyond::<3, L>(cells, index, steps),
+        over: word_beyond::<4, L>(cells, index, steps),
+        near: word_beyond::<5, L>(cells, index, steps),
+        far: word_beyond::<6, L>(cells, index, steps),
     }
 }
 
@@ -77,44 +77,44 @@ pub fn words_beyond<L: Ledger>(cells: &Cells, spot: u32, steps: &mut Steps<L>) -
 #[inline(always)]
 pub fn words_in<L: Ledger>(
     cells: &Cells,
-    spot: u32,
+    index: u32,
     slot: u32,
     chunk: &Chunk,
     at: usize,
     steps: &mut Steps<L>,
 ) -> Beside
-    requires { IsReadAt cells.now spot slot chunk.now at }
-    ensures words { AreBesideWords (word_at cells.now) (voxel_in cells.now spot) result }
+    requires { IsReadAt cells.now index slot chunk.now at }
+    ensures words { AreBesideWords (word_at cells.now) (voxel_in cells.now index) result }
     ensures touches { steps.new ≤ steps.old + 6 }
 {
     Beside {
-        left: word_toward::<1, L>(cells, spot, slot, chunk, at, steps),
-        right: word_toward::<2, L>(cells, spot, slot, chunk, at, steps),
-        under: word_toward::<3, L>(cells, spot, slot, chunk, at, steps),
-        over: word_toward::<4, L>(cells, spot, slot, chunk, at, steps),
-        near: word_toward::<5, L>(cells, spot, slot, chunk, at, steps),
-        far: word_toward::<6, L>(cells, spot, slot, chunk, at, steps),
+        left: word_toward::<1, L>(cells, index, slot, chunk, at, steps),
+        right: word_toward::<2, L>(cells, index, slot, chunk, at, steps),
+        under: word_toward::<3, L>(cells, index, slot, chunk, at, steps),
+        over: word_toward::<4, L>(cells, index, slot, chunk, at, steps),
+        near: word_toward::<5, L>(cells, index, slot, chunk, at, steps),
+        far: word_toward::<6, L>(cells, index, slot, chunk, at, steps),
     }
 }
 
 /// Reads the neighbors of the voxel at an index.
 #[inline(always)]
-pub fn words_beside<L: Ledger>(cells: &Cells, spot: u32, steps: &mut Steps<L>) -> Beside
-    requires { LieInSpace cells.now (voxel_in cells.now spot) }
-    ensures words { AreBesideWords (word_at cells.now) (voxel_in cells.now spot) result }
+pub fn words_beside<L: Ledger>(cells: &Cells, index: u32, steps: &mut Steps<L>) -> Beside
+    requires { LieInSpace cells.now (voxel_in cells.now index) }
+    ensures words { AreBesideWords (word_at cells.now) (voxel_in cells.now index) result }
     ensures few { cells.now.resolution ≤ 400 }
     ensures touches { steps.new ≤ steps.old + 6 }
 {
     cells.recall();
-    match cells.slot_at(spot) {
+    match cells.slot_at(index) {
         Some(slot) => words_in(
             cells,
-            spot,
+            index,
             slot,
             cells.chunk(slot),
-            place_in_chunk(slot, spot),
+            place_in_chunk(slot, index),
             steps,
         ),
-        None => words_beyond(cells, spot, steps),
+        None => words_beyond(cells, index, steps),
     }
 }

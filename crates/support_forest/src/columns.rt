@@ -5,7 +5,7 @@ ghost use Rattle.nano_spec.specs.Model.{volume};
 ghost use Rattle.vox_geom.specs.declared.coordinate.Coord.{Coord as Coordinate};
 ghost use Rattle.support_forest.specs.Grid.{slot_of, word_at};
 ghost use Rattle.support_forest.specs.Columns.{CanScan, IsScanned, column_word, scan_index};
-ghost use Rattle.support_forest.specs.Spots.{voxel_in};
+ghost use Rattle.support_forest.specs.Indices.{voxel_in};
 ghost use Rattle.support_forest.specs.Standing.{matrix_of};
 ghost use Rattle.support_forest.specs.Words.{AreExact};
 
@@ -88,10 +88,10 @@ fn raise_part<L: Ledger>(
     if bits % 256 == 0 {
         return Ok(());
     }
-    let spot = cells.spot(first);
-    let own = cells.take_slot_at(spot)?;
+    let index = cells.index_of(first);
+    let own = cells.take_slot_at(index)?;
     if supported % 256 == 255 && count == BRICK_SIDE {
-        cells.write_row(own, spot, word_in_column(first.y), steps);
+        cells.write_row(own, index, word_in_column(first.y), steps);
         return Ok(());
     }
     raise_each(

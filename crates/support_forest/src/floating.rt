@@ -4,7 +4,7 @@ ghost use Rattle.nano_spec.specs.Model.{volume};
 ghost use Rattle.vox_geom.specs.Space.{IsInSpace};
 ghost use Rattle.support_forest.specs.Floating.{FirstOne, words_along, words_from};
 ghost use Rattle.support_forest.specs.Grid.{FloatsFirst, NoneFloatsBelow};
-ghost use Rattle.support_forest.specs.Stretches.{LieInRow};
+ghost use Rattle.support_forest.specs.Segments.{LieInRow};
 
 use crate::cells::{BRICK_SIDE, Cells, place_in_slot};
 use brick_arena::{Chunk, start_in_chunk};

@@ -1,6 +1,6 @@
 //! The lists that calls fill and empty.
-use crate::offer::SpotOffer;
-use crate::orphan::OrphanSpot;
+use crate::offer::IndexOffer;
+use crate::orphan::OrphanIndex;
 use crate::queues::Queue;
 use std::alloc::Global;
 use std::mem;
@@ -9,10 +9,10 @@ use vox_geom::Coord;
 /// The lists that calls fill and empty. They are kept between calls so that their memory is used again.
 #[derive(Drop)]
 pub struct Lists {
-    pub orphans: Vec<OrphanSpot>,
+    pub orphans: Vec<OrphanIndex>,
     pub fresh: Vec<u32>,
     pub rest: Vec<Coord>,
-    pub seeds: Vec<SpotOffer>,
+    pub seeds: Vec<IndexOffer>,
     pub found: Queue,
 }
 
@@ -31,7 +31,7 @@ impl Lists {
     }
 
     /// Takes the list of orphans out, emptied.
-    pub fn take_orphans(&mut self, alloc: Global) -> Vec<OrphanSpot>
+    pub fn take_orphans(&mut self, alloc: Global) -> Vec<OrphanIndex>
         ensures { result.items ≡ [] }
     {
         let mut orphans = mem::replace(&mut self.orphans, Vec::new(alloc));
@@ -58,7 +58,7 @@ impl Lists {
     }
 
     /// Takes the list of sources out, emptied.
-    pub fn take_seeds(&mut self, alloc: Global) -> Vec<SpotOffer>
+    pub fn take_seeds(&mut self, alloc: Global) -> Vec<IndexOffer>
         ensures { result.items ≡ [] }
     {
         let mut seeds = mem::replace(&mut self.seeds, Vec::new(alloc));

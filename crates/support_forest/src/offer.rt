@@ -2,8 +2,8 @@
 
 /// A candidate: a height for the voxel at an index, and the direction of its parent.
 #[derive(Clone, Copy)]
-pub struct SpotOffer {
-    pub spot: u32,
+pub struct IndexOffer {
+    pub index: u32,
     pub height: u32,
     pub toward: u8,
 }
@@ -12,7 +12,7 @@ pub struct SpotOffer {
 #[derive(Clone, Copy)]
 pub enum NextOffer {
     /// A source.
-    Seed(SpotOffer),
+    Seed(IndexOffer),
     /// A candidate of the frontier: its voxel was written, and its neighbors are still to be relaxed.
-    Found(SpotOffer),
+    Found(IndexOffer),
 }

@@ -1,7 +1,7 @@
 //! First-in, first-out queues of candidates.
 ghost use Rattle.std.specs.Prelude.{◌≡◌, ◌<◌, [], length};
 
-use crate::offer::SpotOffer;
+use crate::offer::IndexOffer;
 use std::alloc::{AllocError, Global};
 use std::marker::Model;
 use std::mem;
@@ -9,15 +9,15 @@ use std::mem;
 /// A list that is read from the front. What was read stays in memory until the list is filled again.
 #[derive(Drop)]
 pub struct Line {
-    items: Vec<SpotOffer>,
+    items: Vec<IndexOffer>,
     at: usize,
 }
 
 impl Model for Line {
     ghost use Rattle.std.specs.Prelude.{List, ◌≤◌, drop, length};
-    ghost use Rattle.support_forest.specs.declared.offer.SpotOffer.{SpotOffer};
+    ghost use Rattle.support_forest.specs.declared.offer.IndexOffer.{IndexOffer};
 
-    ghost Value = { List SpotOffer };
+    ghost Value = { List IndexOffer };
 
     ghost view = { λ l. drop l.at l.items.items };
 
@@ -28,14 +28,14 @@ impl Line {
     ghost use Rattle.std.specs.Prelude.{◌≡◌, ◌==◌, ◌<◌, ◌∷◌, [], MatchOption, length, slice_index_or};
 
     /// Returns a queue of the candidates of a list.
-    pub fn new(items: Vec<SpotOffer>) -> Line
+    pub fn new(items: Vec<IndexOffer>) -> Line
         ensures { result ≡ items.items }
     {
         Line { items, at: 0 }
     }
 
     /// Returns the list, to be used again.
-    pub fn into_list(self) -> Vec<SpotOffer> {
+    pub fn into_list(self) -> Vec<IndexOffer> {
         self.items
     }
 
@@ -49,7 +49,7 @@ impl Line {
 
     /// Returns the first candidate.
     #[inline(always)]
-    pub fn first(&self) -> &SpotOffer
+    pub fn first(&self) -> &IndexOffer
         requires { 0 < length self.now }
         ensures { result.now ≡ slice_index_or self.now 0 result.now }
     {
@@ -58,7 +58,7 @@ impl Line {
 
     /// Removes and returns the first candidate.
     #[inline(always)]
-    pub fn pop_front(&mut self) -> Option<SpotOffer>
+    pub fn pop_front(&mut self) -> Option<IndexOffer>
         ensures { MatchOption result ((length self.old ≡ 0) × (length self.new ≡ 0)) (λ c. self.old ≡ c ∷ self.new) }
     {
         if self.at == self.items.len() {
@@ -70,7 +70,7 @@ impl Line {
     }
 
     /// Fills it with the candidates of another list, and returns its own list, emptied.
-    pub fn refill(&mut self, items: Vec<SpotOffer>) -> Vec<SpotOffer>
+    pub fn refill(&mut self, items: Vec<IndexOffer>) -> Vec<IndexOffer>
         ensures filled { self.new ≡ items.items }
         ensures emptied { result.items ≡ [] }
     {
@@ -96,21 +96,21 @@ impl Line {
 pub struct Queue {
     alloc: Global,
     front: Line,
-    back: Vec<SpotOffer>,
+    back: Vec<IndexOffer>,
 }
 
 impl Model for Queue {
     ghost use Rattle.std.specs.Prelude.{List, ◌++◌};
-    ghost use Rattle.support_forest.specs.declared.offer.SpotOffer.{SpotOffer};
+    ghost use Rattle.support_forest.specs.declared.offer.IndexOffer.{IndexOffer};
 
-    ghost Value = { List SpotOffer };
+    ghost Value = { List IndexOffer };
 
     ghost view = { λ q. q.front ++ q.back.items };
 }
 
 /// Moves the candidates of `back` to `front`, which is empty.
 #[inline(never)]
-fn turn(alloc: Global, front: &mut Line, back: &mut Vec<SpotOffer>)
+fn turn(alloc: Global, front: &mut Line, back: &mut Vec<IndexOffer>)
     ensures front { front.new ≡ back.old.items }
     ensures back { back.new.items ≡ [] }
 {
@@ -142,7 +142,7 @@ impl Queue {
 
     /// Returns the first candidate.
     #[inline(always)]
-    pub fn first(&self) -> &SpotOffer
+    pub fn first(&self) -> &IndexOffer
         requires { 0 < length self.now }
         ensures { result.now ≡ slice_index_or self.now 0 result.now }
     {
@@ -154,7 +154,7 @@ impl Queue {
 
     /// Appends a candidate.
     #[inline(always)]
-    pub fn push_back(&mut self, c: SpotOffer) -> Result<(), AllocError>
+    pub fn push_back(&mut self, c: IndexOffer) -> Result<(), AllocError>
         ensures items { IfOk result (λ _. self.new ≡ self.old ++ c ∷ []) }
         ensures err { OnErr result (self.new ≡ self.old) }
     {
@@ -164,7 +164,7 @@ impl Queue {
 
     /// Removes and returns the first candidate.
     #[inline(always)]
-    pub fn pop_front(&mut self) -> Option<SpotOffer>
+    pub fn pop_front(&mut self) -> Option<IndexOffer>
         ensures { MatchOption result ((length self.old ≡ 0) × (length self.new ≡ 0)) (λ c. self.old ≡ c ∷ self.new) }
     {
         if self.front.is_empty() {

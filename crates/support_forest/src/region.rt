@@ -4,15 +4,15 @@ ghost use Rattle.vox_geom.specs.Region.{size, span};
 ghost use Rattle.vox_geom.specs.Space.{IsInSpace};
 ghost use Rattle.vox_planes.specs.Walk.{wall_size};
 ghost use Rattle.support_forest.specs.Grid.{slot_of, word_at};
-ghost use Rattle.support_forest.specs.Spots.{voxel_in};
+ghost use Rattle.support_forest.specs.Indices.{voxel_in};
 ghost use Rattle.support_forest.specs.Regions.{AreVoided, IsInRegion, IsInRow, IsInWall};
-ghost use Rattle.support_forest.specs.Stretches.{IsBrickRow, LieInRow, further, whole_row_start};
+ghost use Rattle.support_forest.specs.Segments.{IsBrickRow, LieInRow, further, whole_row_start};
 ghost use Rattle.support_forest.specs.Words.{AreExact};
 
 use crate::beside::place_in_chunk;
 use crate::cells::{BRICK_SIDE, Cells};
-use crate::spots::spot_along;
-use crate::stretch::{clear_row, part_is_free, start_of_row};
+use crate::indices::index_along;
+use crate::segment::{clear_row, part_is_free, start_of_row};
 use brick_arena::Chunk;
 use std::alloc::AllocError;
 use std::sync::ledger::Ledger;
@@ -40,19 +40,19 @@ fn words_are_void<L: Ledger>(chunk: &Chunk, from: usize, count: u16, steps: &mut
 ///
 /// Without overhangs it does not read the row: the row above shows its children, and writing it is cheaper than reading it first.
 #[inline(always)]
-fn row_is_void<L: Ledger>(cells: &Cells, own: u32, spot: u32, steps: &mut Steps<L>) -> bool
-    requires within { IsInSpace cells.now.resolution (voxel_in cells.now spot) }
-    requires own { slot_of cells.now (voxel_in cells.now spot) ≡ Some own }
+fn row_is_void<L: Ledger>(cells: &Cells, own: u32, index: u32, steps: &mut Steps<L>) -> bool
+    requires within { IsInSpace cells.now.resolution (voxel_in cells.now index) }
+    requires own { slot_of cells.now (voxel_in cells.now index) ≡ Some own }
     ensures void { result ≡ true → (k : ℕ) → k < 8
-        → word_at cells.now (further (whole_row_start (voxel_in cells.now spot)) k) ≡ 0 }
+        → word_at cells.now (further (whole_row_start (voxel_in cells.now index)) k) ≡ 0 }
     ensures touches { steps.new ≤ steps.old + 8 }
 {
-    if cells.is_straight() {
+    if cells.has_no_overhangs() {
         return false;
     }
     cells.recall();
     let chunk = cells.chunk(own);
-    let from = place_in_chunk(own, start_of_row(spot));
+    let from = place_in_chunk(own, start_of_row(index));
     words_are_void(chunk, from, BRICK_SIDE, steps)
 }
 
@@ -91,27 +91,27 @@ fn list_part<L: Ledger>(
 fn take_part<L: Ledger>(
     cells: &mut Cells,
     first: Coord,
-    spot: u32,
+    index: u32,
     count: u16,
     rest: &mut Vec<Coord>,
     steps: &mut Steps<L>,
 ) -> Result<(), AllocError>
     requires some { 0 < count }
-    requires spot { voxel_in cells.old spot ≡ first }
+    requires index { voxel_in cells.old index ≡ first }
     requires row { LieInRow cells.old first count }
     requires exact { AreExact cells.old.resolution (word_at cells.old) }
     ensures voided { IfOk result
         (λ _. AreVoided cells.old cells.new (IsInRow first count) count rest.old.items rest.new.items) }
     ensures touches { IfOk result (λ _. steps.new ≤ steps.old + 40 * count) }
 {
-    let Some(own) = cells.slot_at(spot) else {
+    let Some(own) = cells.slot_at(index) else {
         return Ok(());
     };
-    if row_is_void(cells, own, spot, steps) {
+    if row_is_void(cells, own, index, steps) {
         return Ok(());
     }
-    if part_is_free(cells, own, spot, count, steps) {
-        clear_row(cells, own, spot, count, steps);
+    if part_is_free(cells, own, index, count, steps) {
+        clear_row(cells, own, index, count, steps);
         return Ok(());
     }
     list_part(cells, own, first, count, rest, steps)
@@ -135,13 +135,13 @@ fn take_row<L: Ledger>(
     ensures touches { IfOk result (λ _. steps.new ≤ steps.old + 40 * (end - first.z)) }
 {
     cells.recall();
-    let line = cells.spot(Coord { z: 0, ..first });
+    let line = cells.index_of(Coord { z: 0, ..first });
     let mut left = end;
     while left > first.z {
         let part = ((left - 1) % BRICK_SIDE + 1).min(left - first.z);
         left -= part;
         let at = Coord { z: left, ..first };
-        take_part(cells, at, spot_along(line, left), part, rest, steps)?;
+        take_part(cells, at, index_along(line, left), part, rest, steps)?;
     }
     Ok(())
 }

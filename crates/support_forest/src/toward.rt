@@ -4,8 +4,8 @@ ghost use Rattle.vox_geom.specs.Space.{IsInSpace};
 ghost use Rattle.vox_geom.specs.declared.coordinate.Coord.{Coord};
 ghost use Rattle.support_forest.specs.Access.{LieInSpace, ReadsToward};
 ghost use Rattle.support_forest.specs.Grid.{slot_of, word_at};
-ghost use Rattle.support_forest.specs.Placing.{EndsBrick, IsPlaceToward, IsSpotAcross, IsWordToward, NoneToward};
-ghost use Rattle.support_forest.specs.Spots.{IsReadAt, voxel_of, voxel_in};
+ghost use Rattle.support_forest.specs.FillingOne.{EndsBrick, IsPlaceToward, IsIndexAcross, IsWordToward, NoneToward};
+ghost use Rattle.support_forest.specs.Indices.{IsReadAt, voxel_of, voxel_in};
 
 use crate::cells::{BRICK_LAYER, BRICK_WORDS, Cells, place_in_slot};
 use brick_arena::Chunk;
@@ -39,98 +39,98 @@ fn place_above(part: usize, at: usize, step: usize) -> Option<usize>
 /// Returns the offset of the word of the neighbor in a direction, if it lies in the same brick. `at` is the offset of the voxel's
 /// own word.
 #[inline(always)]
-pub fn place_toward<const D: u8>(spot: u32, at: usize) -> Option<usize>
+pub fn place_toward<const D: u8>(index: u32, at: usize) -> Option<usize>
     requires direction { (0 < D) × (D ≤ 6) }
-    requires own { spot % 512 ≤ at }
+    requires own { index % 512 ≤ at }
     requires fits { at < 2 ^ 31 }
-    ensures { (side : ℕ) → MatchOption result (EndsBrick (voxel_of side spot) D)
-        (IsPlaceToward (voxel_of side spot) D (spot % 512) at) }
+    ensures { (side : ℕ) → MatchOption result (EndsBrick (voxel_of side index) D)
+        (IsPlaceToward (voxel_of side index) D (index % 512) at) }
 {
     match D {
-        1 => place_below((spot % 64) as usize, at, 8),
-        2 => place_above((spot % 64) as usize, at, 8),
-        3 => place_below((spot % 512) as usize, at, 64),
-        4 => place_above((spot % 512) as usize, at, 64),
-        5 => place_below((spot % 8) as usize, at, 1),
-        _ => place_above((spot % 8) as usize, at, 1),
+        1 => place_below((index % 64) as usize, at, 8),
+        2 => place_above((index % 64) as usize, at, 8),
+        3 => place_below((index % 512) as usize, at, 64),
+        4 => place_above((index % 512) as usize, at, 64),
+        5 => place_below((index % 8) as usize, at, 1),
+        _ => place_above((index % 8) as usize, at, 1),
     }
 }
 
 /// Returns the index that lies this many bricks before one, if there are as many.
 #[inline(always)]
-fn spot_less(spot: u32, bricks: u32) -> Option<u32>
+fn index_less(index: u32, bricks: u32) -> Option<u32>
     requires { bricks < 4096 }
-    ensures { MatchOption result (spot / 512 < bricks) (λ less. less + 512 * bricks ≡ spot) }
+    ensures { MatchOption result (index / 512 < bricks) (λ less. less + 512 * bricks ≡ index) }
 {
-    if spot < BRICK_WORDS * bricks {
+    if index < BRICK_WORDS * bricks {
         return None;
     }
-    Some(spot - BRICK_WORDS * bricks)
+    Some(index - BRICK_WORDS * bricks)
 }
 
 /// Returns the index of the neighbor in a direction, which lies in another brick.
 ///
 /// Checks no bound of space: if no neighbor lies in space, the index is that of a voxel beyond space, or `None`.
 #[inline(always)]
-pub fn spot_across<const D: u8>(cells: &Cells, spot: u32) -> Option<u32>
+pub fn index_across<const D: u8>(cells: &Cells, index: u32) -> Option<u32>
     requires direction { (0 < D) × (D ≤ 6) }
-    requires within { IsInSpace cells.now.resolution (voxel_in cells.now spot) }
-    requires last { EndsBrick (voxel_in cells.now spot) D }
-    ensures across { MatchOption result (NoneToward cells.now.resolution (voxel_in cells.now spot) D)
-        (IsSpotAcross cells.now.resolution (voxel_in cells.now spot) D) }
-    ensures line { IfSome result (λ next. D ≤ 4 → next % 8 ≡ spot % 8) }
+    requires within { IsInSpace cells.now.resolution (voxel_in cells.now index) }
+    requires last { EndsBrick (voxel_in cells.now index) D }
+    ensures across { MatchOption result (NoneToward cells.now.resolution (voxel_in cells.now index) D)
+        (IsIndexAcross cells.now.resolution (voxel_in cells.now index) D) }
+    ensures line { IfSome result (λ next. D ≤ 4 → next % 8 ≡ index % 8) }
 {
     cells.recall();
     let row = u32::from(cells.side());
     let wall = row * row;
     match D {
-        1 => spot_less(spot + 56, wall),
-        2 => Some(spot - 56 + BRICK_WORDS * wall),
-        3 => spot_less(spot + 448, row),
-        4 => Some(spot - 448 + BRICK_WORDS * row),
-        5 => spot_less(spot + 7, 1),
-        _ => Some(spot - 7 + BRICK_WORDS),
+        1 => index_less(index + 56, wall),
+        2 => Some(index - 56 + BRICK_WORDS * wall),
+        3 => index_less(index + 448, row),
+        4 => Some(index - 448 + BRICK_WORDS * row),
+        5 => index_less(index + 7, 1),
+        _ => Some(index - 7 + BRICK_WORDS),
     }
 }
 
 /// Returns the word of the neighbor in a direction, which lies in another brick; 0 if there is none.
 #[inline(always)]
-fn word_across<const D: u8, L: Ledger>(cells: &Cells, spot: u32, steps: &mut Steps<L>) -> u32
+fn word_across<const D: u8, L: Ledger>(cells: &Cells, index: u32, steps: &mut Steps<L>) -> u32
     requires direction { (0 < D) × (D ≤ 6) }
-    requires inside { LieInSpace cells.now (voxel_in cells.now spot) }
-    requires last { EndsBrick (voxel_in cells.now spot) D }
-    ensures { ReadsToward cells.now spot D result steps.old steps.new }
+    requires inside { LieInSpace cells.now (voxel_in cells.now index) }
+    requires last { EndsBrick (voxel_in cells.now index) D }
+    ensures { ReadsToward cells.now index D result steps.old steps.new }
 {
     cells.recall();
-    match spot_across::<D>(cells, spot) {
-        Some(next) => cells.word_at_spot(next, steps),
+    match index_across::<D>(cells, index) {
+        Some(next) => cells.word_at_index(next, steps),
         None => 0,
     }
 }
 
 /// Like [`word_across`], but out of line for each direction, so that the path within a brick stays small.
 #[inline(never)]
-fn word_apart<const D: u8, L: Ledger>(cells: &Cells, spot: u32, steps: &mut Steps<L>) -> u32
+fn word_apart<const D: u8, L: Ledger>(cells: &Cells, index: u32, steps: &mut Steps<L>) -> u32
     requires direction { (0 < D) × (D ≤ 6) }
-    requires inside { LieInSpace cells.now (voxel_in cells.now spot) }
-    requires last { EndsBrick (voxel_in cells.now spot) D }
-    ensures { ReadsToward cells.now spot D result steps.old steps.new }
+    requires inside { LieInSpace cells.now (voxel_in cells.now index) }
+    requires last { EndsBrick (voxel_in cells.now index) D }
+    ensures { ReadsToward cells.now index D result steps.old steps.new }
 {
-    word_across::<D, L>(cells, spot, steps)
+    word_across::<D, L>(cells, index, steps)
 }
 
 /// Returns the word of the neighbor in a direction, 0 if there is none, of a voxel whose brick may have no slot.
 #[inline(always)]
-pub fn word_beyond<const D: u8, L: Ledger>(cells: &Cells, spot: u32, steps: &mut Steps<L>) -> u32
+pub fn word_beyond<const D: u8, L: Ledger>(cells: &Cells, index: u32, steps: &mut Steps<L>) -> u32
     requires direction { (0 < D) × (D ≤ 6) }
-    requires inside { LieInSpace cells.now (voxel_in cells.now spot) }
-    ensures { ReadsToward cells.now spot D result steps.old steps.new }
+    requires inside { LieInSpace cells.now (voxel_in cells.now index) }
+    ensures { ReadsToward cells.now index D result steps.old steps.new }
 {
     cells.recall();
-    if let Some(next) = place_toward::<D>(spot, spot as usize) {
-        return cells.word_at_spot(next as u32, steps);
+    if let Some(next) = place_toward::<D>(index, index as usize) {
+        return cells.word_at_index(next as u32, steps);
     }
-    word_across::<D, L>(cells, spot, steps)
+    word_across::<D, L>(cells, index, steps)
 }
 
 /// Returns the word of the neighbor in a direction; 0 if there is none.
@@ -140,21 +140,21 @@ pub fn word_beyond<const D: u8, L: Ledger>(cells: &Cells, spot: u32, steps: &mut
 #[inline(always)]
 pub fn word_toward<const D: u8, L: Ledger>(
     cells: &Cells,
-    spot: u32,
+    index: u32,
     slot: u32,
     chunk: &Chunk,
     at: usize,
     steps: &mut Steps<L>,
 ) -> u32
     requires direction { (0 < D) × (D ≤ 6) }
-    requires read { IsReadAt cells.now spot slot chunk.now at }
-    ensures { ReadsToward cells.now spot D result steps.old steps.new }
+    requires read { IsReadAt cells.now index slot chunk.now at }
+    ensures { ReadsToward cells.now index D result steps.old steps.new }
 {
     cells.recall();
-    if let Some(i) = place_toward::<D>(spot, at) {
+    if let Some(i) = place_toward::<D>(index, at) {
         return chunk.word(i, steps);
     }
-    word_across::<D, L>(cells, spot, steps)
+    word_across::<D, L>(cells, index, steps)
 }
 
 /// Like [`word_toward`], but calls the path to another brick, so that the path within a brick stays small.
@@ -163,21 +163,21 @@ pub fn word_toward<const D: u8, L: Ledger>(
 #[inline(always)]
 pub fn word_beside<const D: u8, L: Ledger>(
     cells: &Cells,
-    spot: u32,
+    index: u32,
     slot: u32,
     chunk: &Chunk,
     at: usize,
     steps: &mut Steps<L>,
 ) -> u32
     requires direction { (0 < D) × (D ≤ 6) }
-    requires read { IsReadAt cells.now spot slot chunk.now at }
-    ensures { ReadsToward cells.now spot D result steps.old steps.new }
+    requires read { IsReadAt cells.now index slot chunk.now at }
+    ensures { ReadsToward cells.now index D result steps.old steps.new }
 {
     cells.recall();
-    if let Some(i) = place_toward::<D>(spot, at) {
+    if let Some(i) = place_toward::<D>(index, at) {
         return chunk.word(i, steps);
     }
-    word_apart::<D, L>(cells, spot, steps)
+    word_apart::<D, L>(cells, index, steps)
 }
 
 /// Returns the word of the voxel above one of the floor, whose brick has this slot: it lies in the same brick, or beyond space,

@@ -136,7 +136,7 @@ pub(crate) fn stand_void<L: Ledger>(
 {
     let word = word_of(forest, c, steps);
     assert!(rt; word == 0);
-    if forest.stand(c, steps) {
+    if forest.try_fill(c, steps) {
         return true;
     }
     false
@@ -157,7 +157,7 @@ pub(crate) fn clear_full<L: Ledger>(
 {
     let word = word_of(forest, c, steps);
     assert!(rt; word != 0);
-    if forest.clear(c, steps) {
+    if forest.try_void(c, steps) {
         return true;
     }
     false

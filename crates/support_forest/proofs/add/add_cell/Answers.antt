@@ -1,6 +1,6 @@
 use Rattle.std.proofs.Common.{◌≡◌, ◌+◌, ◌≤◌, arith, refl, [], ◌∷◌}
-use Rattle.support_forest.specs.Placing.{HavePlaced}
-use Rattle.support_forest.proofs.Placing.{placed_added, when}
+use Rattle.support_forest.specs.FillingOne.{HaveFilledOne}
+use Rattle.support_forest.proofs.FillingOne.{placed_added, when}
 use Rattle.support_forest.proofs.add.add_cell.Goals as goal
 
 pub place-requires : goal.place-requires
@@ -9,4 +9,4 @@ place-requires g c = record { exact = c.requires.exact; within = c.requires.spac
 pub returns-then-branch : goal.returns-then-branch
 returns-then-branch g c =
     placed_added c.args.cells.now c.place.new.cells (c.args.c ∷ []) c.args.c c.args.steps.now c.place.new.steps refl refl c.requires
-    (when c.in_ok-place.field-0 (HavePlaced c.args.cells.now c.place.new.cells c.args.c c.args.steps.now c.place.new.steps) ((c.place.new.cells ≡ c.args.cells.now) × (c.place.new.steps ≤ c.args.steps.now + 6)) c.if-branch.true c.in_ok-place.ensures)
+    (when c.in_ok-place.field-0 (HaveFilledOne c.args.cells.now c.place.new.cells c.args.c c.args.steps.now c.place.new.steps) ((c.place.new.cells ≡ c.args.cells.now) × (c.place.new.steps ≤ c.args.steps.now + 6)) c.if-branch.true c.in_ok-place.ensures)

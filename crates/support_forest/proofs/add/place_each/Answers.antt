@@ -1,9 +1,9 @@
 use Rattle.std.proofs.Common.{◌≡◌, ◌+◌, ◌≤◌, get_or, arith, rules}
 use Rattle.std.proofs.lemmas.List.{get_or_default}
 use Rattle.vox_geom.specs.declared.coordinate.Coord.{Coord}
-use Rattle.support_forest.specs.Placing.{HavePlaced}
+use Rattle.support_forest.specs.FillingOne.{HaveFilledOne}
 use Rattle.support_forest.proofs.Each.{are_placed, placing_listed, placing_placed, placing_space}
-use Rattle.support_forest.proofs.Placing.{unless, when}
+use Rattle.support_forest.proofs.FillingOne.{unless, when}
 use Rattle.support_forest.proofs.add.place_each.Goals as goal
 
 abbrev origin : Coord
@@ -21,12 +21,12 @@ loop-c-preserved-then-branch g c =
     let next = get_or c.args.new.now c.loop-c.c-index origin in
     placing_placed c.args.cells.now c.loop-c.cells c.place.new.cells c.args.new.now c.loop-c.c-index c.loop-c.rest.items c.args.steps.now c.loop-c.steps c.place.new.steps next c.requires.can c.loop-c.invariant c.loop-c-test.true
     (get_or_default c.args.new.now c.loop-c.c-index origin next c.loop-c-test.true)
-    (when c.in_ok-place.field-0 (HavePlaced c.loop-c.cells c.place.new.cells next c.loop-c.steps c.place.new.steps) ((c.place.new.cells ≡ c.loop-c.cells) × (c.place.new.steps ≤ c.loop-c.steps + 6)) c.if-branch.true c.in_ok-place.ensures)
+    (when c.in_ok-place.field-0 (HaveFilledOne c.loop-c.cells c.place.new.cells next c.loop-c.steps c.place.new.steps) ((c.place.new.cells ≡ c.loop-c.cells) × (c.place.new.steps ≤ c.loop-c.steps + 6)) c.if-branch.true c.in_ok-place.ensures)
 
 pub loop-c-preserved : goal.loop-c-preserved
 loop-c-preserved g c =
     let next = get_or c.args.new.now c.loop-c.c-index origin in
-    let stays = unless c.in_ok-place.field-0 (HavePlaced c.loop-c.cells c.place.new.cells next c.loop-c.steps c.place.new.steps) ((c.place.new.cells ≡ c.loop-c.cells) × (c.place.new.steps ≤ c.loop-c.steps + 6)) c.if-branch.false c.in_ok-place.ensures in
+    let stays = unless c.in_ok-place.field-0 (HaveFilledOne c.loop-c.cells c.place.new.cells next c.loop-c.steps c.place.new.steps) ((c.place.new.cells ≡ c.loop-c.cells) × (c.place.new.steps ≤ c.loop-c.steps + 6)) c.if-branch.false c.in_ok-place.ensures in
     placing_listed c.args.cells.now c.loop-c.cells c.place.new.cells c.args.new.now c.loop-c.c-index c.loop-c.rest.items c.push.new.self.items c.args.steps.now c.loop-c.steps c.place.new.steps next c.requires.can c.loop-c.invariant c.loop-c-test.true
     (get_or_default c.args.new.now c.loop-c.c-index origin next c.loop-c-test.true) stays.0 stays.1 c.in_ok-push.ensures.items
 

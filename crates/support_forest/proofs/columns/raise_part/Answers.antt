@@ -1,8 +1,8 @@
 use Rattle.std.proofs.Common.{ℕ, ◌∙◌, ap, arith, subst}
 use Rattle.vox_geom.specs.declared.coordinate.Coord.{Coord}
 use Rattle.support_forest.specs.Grid.{side}
-use Rattle.support_forest.specs.Spots.{voxel_of}
-use Rattle.support_forest.specs.Stretches.{AreWritten}
+use Rattle.support_forest.specs.Indices.{voxel_of}
+use Rattle.support_forest.specs.Segments.{AreWritten}
 use Rattle.support_forest.proofs.Raising.{blank, raised_same, whole_row, zero_bit}
 use Rattle.support_forest.proofs.columns.raise_part.Goals as goal
 
@@ -16,5 +16,5 @@ returns-then-count-eq-BRICK_SIDE-clause-raised g c =
     (raised_same _ _ _ _ _ c.take_slot_at.ensures.resolution c.in_ok-own.ensures.same c.requires.can.raised)
     (c.take_slot_at.ensures.resolution ∙ c.requires.can.raised.resolution)
     (subst (λ (p : Coord). AreWritten c.take_slot_at.new.self c.write_row.new.self p c.word_in_column.result)
-    (ap (λ (n : ℕ). voxel_of (side n) c.spot-spot.result) c.take_slot_at.ensures.resolution ∙ c.spot-spot.ensures.voxel) c.write_row.ensures.written)
+    (ap (λ (n : ℕ). voxel_of (side n) c.index_of-index.result) c.take_slot_at.ensures.resolution ∙ c.index_of-index.ensures.voxel) c.write_row.ensures.written)
     c.word_in_column.ensures

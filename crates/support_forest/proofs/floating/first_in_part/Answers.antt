@@ -1,6 +1,6 @@
 use Rattle.std.proofs.Common.{ℕ, ◌+◌, ◌∙◌, ap, sym}
 use Rattle.support_forest.proofs.Searching.{part_first, part_void}
-use Rattle.support_forest.proofs.Stretches.{row_in_chunk}
+use Rattle.support_forest.proofs.Segments.{row_in_chunk}
 use Rattle.support_forest.proofs.floating.first_in_part.Goals as goal
 
 pub first_one-requires-clause-within : goal.first_one-requires-clause-within

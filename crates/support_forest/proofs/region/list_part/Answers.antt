@@ -2,8 +2,8 @@ use Rattle.std.proofs.Common.{◌≡◌, ℕ, ◌+◌, ◌-◌, ◌<◌, ◌≤�
 use Rattle.vox_geom.specs.declared.coordinate.Coord.{Coord}
 use Rattle.support_forest.specs.Grid.{word_at}
 use Rattle.support_forest.specs.Regions.{AreVoided, IsInRow}
-use Rattle.support_forest.specs.Stretches.{further}
-use Rattle.support_forest.proofs.Stretches.{row_slot}
+use Rattle.support_forest.specs.Segments.{further}
+use Rattle.support_forest.proofs.Segments.{row_slot}
 use Rattle.support_forest.proofs.Voiding.{one_before_row, part_at, row_one, voided_already, voided_listed}
 use Rattle.support_forest.proofs.region.list_part.Goals as goal
 

@@ -1,6 +1,6 @@
 use Rattle.std.proofs.Common.{◌+◌, ◌-◌, ◌≤◌}
 use Rattle.support_forest.specs.Regions.{AreVoided, IsInRow}
-use Rattle.support_forest.specs.Stretches.{further}
+use Rattle.support_forest.specs.Segments.{further}
 use Rattle.support_forest.proofs.region.list_part.Given as goal
 
 abbrev pub invariant-loop-left : goal.invariant-loop-left

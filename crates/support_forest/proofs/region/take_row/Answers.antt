@@ -2,8 +2,8 @@ use Rattle.std.proofs.Common.{◌≡◌, ℕ, ◌+◌, ◌-◌, ◌≤◌, ◌�
 use Rattle.vox_geom.specs.declared.coordinate.Coord.{Coord}
 use Rattle.vox_geom.specs.Space.{IsInSpace}
 use Rattle.support_forest.specs.Grid.{side}
-use Rattle.support_forest.specs.Spots.{voxel_of}
-use Rattle.support_forest.proofs.Voxels.{spot_small, voxel_along}
+use Rattle.support_forest.specs.Indices.{voxel_of}
+use Rattle.support_forest.proofs.Voxels.{index_small, voxel_along}
 use Rattle.support_forest.specs.Regions.{AreVoided, IsInRow}
 use Rattle.support_forest.proofs.Voiding.{part_before_row, part_in_row, row_at, voided_already, whole_row_at}
 use Rattle.support_forest.proofs.region.take_row.Goals as goal
@@ -20,16 +20,16 @@ take_part-requires-clause-row g c =
     let end_required = c.requires.end in
     part_in_row c.args.cells.now c.loop-left.cells c.args.first (c.loop-left.left - c.min-part.result) c.min-part.result c.args.end invariant.1.1.1.resolution c.requires.within (omega arith) c.requires.end (omega arith) (omega arith)
 
-pub spot_along-requires : goal.spot_along-requires
-spot_along-requires g c =
+pub index_along-requires : goal.index_along-requires
+index_along-requires g c =
     let within = c.requires.within in
     record {
-      fits = spot_small c.args.cells.now.resolution c.spot-line.result c.recall.ensures.few
-          (subst (λ (p : Coord). IsInSpace c.args.cells.now.resolution p) (sym c.spot-line.ensures.voxel) (record { x = within.x; y = within.y; z = let along_z = within.z in omega arith }));
+      fits = index_small c.args.cells.now.resolution c.index_of-line.result c.recall.ensures.few
+          (subst (λ (p : Coord). IsInSpace c.args.cells.now.resolution p) (sym c.index_of-line.ensures.voxel) (record { x = within.x; y = within.y; z = let along_z = within.z in omega arith }));
     }
 
-pub take_part-requires-clause-spot : goal.take_part-requires-clause-spot
-take_part-requires-clause-spot g c =
+pub take_part-requires-clause-index : goal.take_part-requires-clause-index
+take_part-requires-clause-index g c =
     let invariant = c.loop-left.invariant in
     let goes_on = c.loop-left-test.true in
     let part_ensured = c.min-part.ensures in
@@ -39,9 +39,9 @@ take_part-requires-clause-spot g c =
     let z = c.loop-left.left - c.min-part.result in
     let r = c.args.cells.now.resolution in
     let at : Coord = record { x = c.args.first.x; y = c.args.first.y; z = z } in
-    ap (λ (n : ℕ). voxel_of (side n) c.spot_along.result) invariant.1.1.1.resolution
-    ∙ (ap (voxel_of (side r)) c.spot_along.ensures
-    ∙ voxel_along r c.spot-line.result at c.spot-line.ensures.value (record { x = within.x; y = within.y; z = omega arith }))
+    ap (λ (n : ℕ). voxel_of (side n) c.index_along.result) invariant.1.1.1.resolution
+    ∙ (ap (voxel_of (side r)) c.index_along.ensures
+    ∙ voxel_along r c.index_of-line.result at c.index_of-line.ensures.value (record { x = within.x; y = within.y; z = omega arith }))
 
 pub loop-left-preserved : goal.loop-left-preserved
 loop-left-preserved g c =

@@ -1,4 +1,4 @@
-use Rattle.support_forest.specs.Stretches.{IsTaking}
+use Rattle.support_forest.specs.Segments.{IsTaking}
 use Rattle.support_forest.proofs.remove.take_each.Given as goal
 
 abbrev pub invariant-loop-left : goal.invariant-loop-left

@@ -2,13 +2,13 @@ use Rattle.std.proofs.Common.{arith, refl}
 use Rattle.support_forest.proofs.Across.{across_below, no_word, word_there}
 use Rattle.support_forest.proofs.toward.word_across.Goals as goal
 
-pub word_at_spot-requires : goal.word_at_spot-requires
-word_at_spot-requires g c = let below = across_below _ _ g.row.D _ c.in-Some.ensures.across in let bricks = c.recall.ensures.store.bricks in omega arith
+pub word_at_index-requires : goal.word_at_index-requires
+word_at_index-requires g c = let below = across_below _ _ g.row.D _ c.in-Some.ensures.across in let bricks = c.recall.ensures.store.bricks in omega arith
 
 pub returns-in-Some : goal.returns-in-Some
 returns-in-Some g c = record {
-  word = word_there _ _ g.row.D _ _ c.requires.inside.space c.in-Some.ensures.across c.word_at_spot.ensures.value;
-  touch = c.word_at_spot.ensures.touch;
+  word = word_there _ _ g.row.D _ _ c.requires.inside.space c.in-Some.ensures.across c.word_at_index.ensures.value;
+  touch = c.word_at_index.ensures.touch;
 }
 
 pub returns-in-None : goal.returns-in-None

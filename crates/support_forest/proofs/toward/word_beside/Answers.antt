@@ -7,13 +7,13 @@ use Rattle.support_forest.proofs.toward.word_beside.Goals as goal
 pub word-requires : goal.word-requires
 word-requires g c =
     let place = c.in-Some.ensures (side c.args.cells.now.resolution) in
-    let is = place_is c.args.cells.now c.args.spot c.args.slot g.row.D c.args.at c.in-Some.i c.args.chunk.now c.requires.read place in
+    let is = place_is c.args.cells.now c.args.index c.args.slot g.row.D c.args.at c.in-Some.i c.args.chunk.now c.requires.read place in
     let below = slot_place_below place.toward.there in
     let full = c.requires.read.chunk.full in
     omega (arith, place.toward.at_place)
 
 pub returns-in-Some : goal.returns-in-Some
 returns-in-Some g c = record {
-  word = word_in_chunk c.args.cells.now c.args.spot c.args.slot g.row.D c.args.at c.in-Some.i c.word.result c.args.chunk.now c.recall.ensures.store c.requires.read (c.in-Some.ensures (side c.args.cells.now.resolution)) c.word.ensures.value;
+  word = word_in_chunk c.args.cells.now c.args.index c.args.slot g.row.D c.args.at c.in-Some.i c.word.result c.args.chunk.now c.recall.ensures.store c.requires.read (c.in-Some.ensures (side c.args.cells.now.resolution)) c.word.ensures.value;
   touch = omega (arith, c.word.ensures.touch);
 }

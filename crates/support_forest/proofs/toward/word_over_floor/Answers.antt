@@ -1,6 +1,6 @@
 use Rattle.std.proofs.Common.{◌+◌, ◌∙◌, ap, arith, refl}
 use Rattle.support_forest.specs.Grid.{word_at}
-use Rattle.support_forest.specs.Placing.{StandsToward}
+use Rattle.support_forest.specs.FillingOne.{StandsToward}
 use Rattle.support_forest.proofs.Nearby.{stands_over, stands_beside}
 use Rattle.support_forest.proofs.Sides.{one_toward}
 use Rattle.support_forest.proofs.Store.{slot_place_below}

@@ -24,7 +24,7 @@ overflow_sub-self g c =
 pub overflow_add-self-2 : goal.overflow_add-self-2
 overflow_add-self-2 g c =
     let inside = c.self.inside in
-    let leaning_few = count_few is_overhang (record { resolution = inside.resolution; table = inside.table.items; bricks = inside.bricks }) c.self.invariant.1.0.few in
+    let overhangs_few = count_few is_overhang (record { resolution = inside.resolution; table = inside.table.items; bricks = inside.bricks }) c.self.invariant.1.0.few in
     let invariant = c.self.invariant.1.1.1 in
     let few = c.is_overhang-up.ensures.few in
     omega arith
@@ -33,25 +33,25 @@ pub overflow_sub-self-2 : goal.overflow_sub-self-2
 overflow_sub-self-2 g c =
     let inside = c.self.inside in
     let wrote_here = wrote (record { resolution = inside.resolution; table = inside.table.items; bricks = inside.bricks }) c.args.self.now c.set_word_at.new.self c.requires.0 c.args.slot (swapped c.args.at) c.args.old c.args.word inside.floating c.floats.result c.floats-2.result c.self.view_is c.self.invariant.1.0 c.self.invariant.1.1.0 c.requires.1.within c.requires.1.slot c.requires.1.stands (index_there c.requires.0 c.args.at c.requires.1.place) c.set_word_at.ensures.value c.set_word_at.ensures.written c.floats.ensures.value c.floats-2.ensures.value in
-    let leaning = counted is_overhang (record { resolution = inside.resolution; table = inside.table.items; bricks = inside.bricks }) (record { resolution = inside.resolution; table = inside.table.items; bricks = c.set_word_at.new.self }) c.requires.0 c.args.old c.args.word inside.leaning c.is_overhang-up.result c.is_overhang-down.result refl
+    let overhangs = counted is_overhang (record { resolution = inside.resolution; table = inside.table.items; bricks = inside.bricks }) (record { resolution = inside.resolution; table = inside.table.items; bricks = c.set_word_at.new.self }) c.requires.0 c.args.old c.args.word inside.overhangs c.is_overhang-up.result c.is_overhang-down.result refl
     (subst (λ (q : Grid). IsInSpace q.resolution c.requires.0) (sym c.self.view_is) c.requires.1.within) (subst (λ (q : Grid). c.args.old ≡ word_at q c.requires.0) (sym c.self.view_is) c.requires.1.stands) wrote_here.written c.self.invariant.1.1.1 c.is_overhang-up.ensures.value c.is_overhang-down.ensures.value in
-    leaning.0
+    overhangs.0
 
 pub invariant_of-self : goal.invariant_of-self
 invariant_of-self g c =
     let inside = c.self.inside in
     let wrote_here = wrote (record { resolution = inside.resolution; table = inside.table.items; bricks = inside.bricks }) c.args.self.now c.set_word_at.new.self c.requires.0 c.args.slot (swapped c.args.at) c.args.old c.args.word inside.floating c.floats.result c.floats-2.result c.self.view_is c.self.invariant.1.0 c.self.invariant.1.1.0 c.requires.1.within c.requires.1.slot c.requires.1.stands (index_there c.requires.0 c.args.at c.requires.1.place) c.set_word_at.ensures.value c.set_word_at.ensures.written c.floats.ensures.value c.floats-2.ensures.value in
-    let leaning = counted is_overhang (record { resolution = inside.resolution; table = inside.table.items; bricks = inside.bricks }) (record { resolution = inside.resolution; table = inside.table.items; bricks = c.set_word_at.new.self }) c.requires.0 c.args.old c.args.word inside.leaning c.is_overhang-up.result c.is_overhang-down.result refl
+    let overhangs = counted is_overhang (record { resolution = inside.resolution; table = inside.table.items; bricks = inside.bricks }) (record { resolution = inside.resolution; table = inside.table.items; bricks = c.set_word_at.new.self }) c.requires.0 c.args.old c.args.word inside.overhangs c.is_overhang-up.result c.is_overhang-down.result refl
     (subst (λ (q : Grid). IsInSpace q.resolution c.requires.0) (sym c.self.view_is) c.requires.1.within) (subst (λ (q : Grid). c.args.old ≡ word_at q c.requires.0) (sym c.self.view_is) c.requires.1.stands) wrote_here.written c.self.invariant.1.1.1 c.is_overhang-up.ensures.value c.is_overhang-down.ensures.value in
-    (c.self.invariant.0, (wrote_here.store, (wrote_here.count, (let same = c.if-up-down.true in omega (arith, leaning.1)))))
+    (c.self.invariant.0, (wrote_here.store, (wrote_here.count, (let same = c.if-up-down.true in omega (arith, overhangs.1)))))
 
 pub invariant_of-self-2 : goal.invariant_of-self-2
 invariant_of-self-2 g c =
     let inside = c.self.inside in
     let wrote_here = wrote (record { resolution = inside.resolution; table = inside.table.items; bricks = inside.bricks }) c.args.self.now c.set_word_at.new.self c.requires.0 c.args.slot (swapped c.args.at) c.args.old c.args.word inside.floating c.floats.result c.floats-2.result c.self.view_is c.self.invariant.1.0 c.self.invariant.1.1.0 c.requires.1.within c.requires.1.slot c.requires.1.stands (index_there c.requires.0 c.args.at c.requires.1.place) c.set_word_at.ensures.value c.set_word_at.ensures.written c.floats.ensures.value c.floats-2.ensures.value in
-    let leaning = counted is_overhang (record { resolution = inside.resolution; table = inside.table.items; bricks = inside.bricks }) (record { resolution = inside.resolution; table = inside.table.items; bricks = c.set_word_at.new.self }) c.requires.0 c.args.old c.args.word inside.leaning c.is_overhang-up.result c.is_overhang-down.result refl
+    let overhangs = counted is_overhang (record { resolution = inside.resolution; table = inside.table.items; bricks = inside.bricks }) (record { resolution = inside.resolution; table = inside.table.items; bricks = c.set_word_at.new.self }) c.requires.0 c.args.old c.args.word inside.overhangs c.is_overhang-up.result c.is_overhang-down.result refl
     (subst (λ (q : Grid). IsInSpace q.resolution c.requires.0) (sym c.self.view_is) c.requires.1.within) (subst (λ (q : Grid). c.args.old ≡ word_at q c.requires.0) (sym c.self.view_is) c.requires.1.stands) wrote_here.written c.self.invariant.1.1.1 c.is_overhang-up.ensures.value c.is_overhang-down.ensures.value in
-    (c.self.invariant.0, (wrote_here.store, (wrote_here.count, leaning.1)))
+    (c.self.invariant.0, (wrote_here.store, (wrote_here.count, overhangs.1)))
 
 pub set_word_at-requires-clause-place : goal.set_word_at-requires-clause-place
 set_word_at-requires-clause-place g c = let below = slot_place_below c.requires.0 in let same = c.requires.1.place in omega arith
