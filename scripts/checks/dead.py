@@ -23,8 +23,8 @@ step_machine/proofs/Changed axis
 step_order/proofs/Voxels positive
 support_forest/proofs/Across own_below
 support_forest/proofs/Handling next_full
-support_forest/proofs/Standing at_place
-support_forest/proofs/Standing outside
+support_forest/proofs/ForestView at_offset
+support_forest/proofs/ForestView outside
 swarm_planner/proofs/Lines nobody
 swarm_planner/proofs/Rows wide
 system_state/proofs/Bots Within

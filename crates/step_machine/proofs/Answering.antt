@@ -14,7 +14,7 @@ use Rattle.nano_spec.specs.Rules.{broken}
 use Rattle.nano_spec.specs.State.{IsWellFormed, State}
 use Rattle.nano_spec.specs.Step.{after}
 use Rattle.nano_spec.specs.Work.{volatile_total}
-use Rattle.support_forest.specs.Standing.{Standing}
+use Rattle.support_forest.specs.ForestView.{ForestView}
 use Rattle.step_machine.specs.Settling.{IsSettled, IsUnsettled}
 use Rattle.step_machine.specs.Situation.{Situation, searched_for}
 use Rattle.step_machine.specs.Stepped.{Stepped}
@@ -102,7 +102,7 @@ module _ (s : State) (commands : List Command) (steps : ℕ) (spent : Bool) (v :
     })
 
     -- the step is made
-    pub made : (t : State) (forest : Standing) (ok : StepOk) (settled ended : ℕ)
+    pub made : (t : State) (forest : ForestView) (ok : StepOk) (settled ended : ℕ)
         → IsSettled s commands (steps + 1) forest judged settled → t ≡ after s commands → ok.energy ≡ t.energy
         → (ok.halted ≡ true ↔ t.bots ≡ []) → (IsWellFormed s → IsWellFormed t)
         → ended ≤ settled + volatile_total s.matrix (acts s.bots commands)

@@ -17,7 +17,7 @@ use Rattle.nano_spec.specs.State.{State}
 use Rattle.nano_spec.specs.Step.{is_filled, is_voided, matrix_after}
 use Rattle.nano_spec.specs.Volatile.{is_volatile, is_volatile_of}
 use Rattle.nano_spec.specs.Work.{without_voided}
-use Rattle.support_forest.specs.Standing.{AreAdded, AreRemoved, MayAdd, MayRemove}
+use Rattle.support_forest.specs.ForestView.{AreAdded, AreRemoved, MayAdd, MayRemove}
 use Rattle.vox_planes.specs.Voxel.{is_state}
 use Rattle.step_order.proofs.Effects.{fills_own, voids_own}
 use Rattle.step_order.proofs.Facts.{IsGood}

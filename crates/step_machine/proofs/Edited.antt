@@ -26,7 +26,7 @@ use Rattle.vox_planes.proofs.Voxels.{same_point-is}
 use Rattle.system_state.proofs.OnlyBot.{within_just}
 use Rattle.system_state.proofs.Single.{only_one}
 use Rattle.step_machine.specs.Edits.{cells_of, cells_of_all, edit_count, edits_of, edits_total}
-use Rattle.support_forest.specs.Standing.{AreAdded, AreRemoved, IsCheap, MayAdd, MayRemove, Standing}
+use Rattle.support_forest.specs.ForestView.{AreAdded, AreRemoved, IsCheap, MayAdd, MayRemove, ForestView}
 use Rattle.nano_spec.specs.declared.system.Harmonics.{Harmonics}
 use Rattle.nano_spec.specs.declared.system.Harmonics.TheVariants.{High, Low}
 use Rattle.nano_spec.specs.Grounded.{FirstUngrounded}
@@ -166,7 +166,7 @@ module _ (s : State) (d : Diff) (at : Coord) (full : Bool) (commands : List Comm
             let part = part_void full was (at ∷ []) other e in
             may_lose s commands step ready keeps old (at ∷ []) tied (lost_as (at ∷ []) part.0)
 
-    module _ (forest : Standing) (before listed after : ℕ) (stands : forest.spent ≡ false) (once : listed ≤ before + 10) where
+    module _ (forest : ForestView) (before listed after : ℕ) (stands : forest.spent ≡ false) (once : listed ≤ before + 10) where
       -- then the forest is that of the step's state
       pub changed_refitted : beq was full ≡ false
           → MatchBool full (AreAdded old forest.matrix (at ∷ [])) (AreRemoved old forest.matrix (at ∷ []))
@@ -196,7 +196,7 @@ module _ (s : State) (d : Diff) (at : Coord) (full : Bool) (commands : List Comm
           (lost_none matrix whole_too) (cheap_none matrix matrix listed) (won_none matrix whole_too) (λ first last f l. let cheap_none_here = cheap_none matrix matrix listed first last f l in omega (arith, cheap_none_here, end)) stands
 
   -- the forest is that of the step's state, and each voxel in it is grounded if the harmonics require it
-  pub settled_by : (step : ℕ) → broken s commands step ≡ None → (forest : Standing) (before after : ℕ)
+  pub settled_by : (step : ℕ) → broken s commands step ≡ None → (forest : ForestView) (before after : ℕ)
       → IsRefitted s commands forest before after → (s.harmonics ≡ Low → FirstUngrounded forest.matrix None)
       → IsSettled s commands step forest before after
   settled_by step keeps forest before ended r held = record {

@@ -21,7 +21,7 @@ use Rattle.nano_spec.specs.Step.{after}
 use Rattle.nano_spec.specs.Work.{volatile_total}
 use Rattle.vox_planes.specs.Voxel.{is_state}
 use Rattle.vox_planes.proofs.Walks.{is_of}
-use Rattle.support_forest.specs.Standing.{AreRemoved, IsVoided, IsVoidedCheaply, Standing}
+use Rattle.support_forest.specs.ForestView.{AreRemoved, IsVoided, IsVoidedCheaply, ForestView}
 use Rattle.step_order.proofs.Lists.{In, both, filter_in, in_filter}
 use Rattle.step_order.proofs.Voxels.{in_coordinates}
 use Rattle.step_order.proofs.Turns.{held}
@@ -111,7 +111,7 @@ module _ (s : State) (commands : List Command) (step : ℕ) (ready : IsReady s) 
       let edits_total_is : edits_total s.matrix true (leaders (acts s.bots commands)) ≡ edit_count s.matrix true h.leader + 0 = ap (edits_total s.matrix true) h.only ∙ sum_by-cons (edit_count s.matrix true) h.leader [] in
       omega (arith, volatile_edits, edits_total_is, h.voids.count)
 
-  pub region_refitted : (old : Matrix) (forest : Standing) (before after : ℕ) → old ≡ s.matrix
+  pub region_refitted : (old : Matrix) (forest : ForestView) (before after : ℕ) → old ≡ s.matrix
       → IsVoided old forest.matrix (span k) → IsVoidedCheaply old forest.matrix (span k) before after
       → forest.spent ≡ false → IsRefitted s commands forest before after
   region_refitted old forest before after e v t stands =

@@ -16,7 +16,7 @@ use Rattle.nano_spec.specs.State.{IsReady, State}
 use Rattle.nano_spec.specs.Step.{after}
 use Rattle.nano_spec.specs.Model.{volume}
 use Rattle.nano_spec.specs.Work.{Levels, volatile_total, without_voided}
-use Rattle.support_forest.specs.Standing.{AreAdded, AreRemoved, IsCheap, MayAdd, MayRemove, Standing}
+use Rattle.support_forest.specs.ForestView.{AreAdded, AreRemoved, IsCheap, MayAdd, MayRemove, ForestView}
 use Rattle.step_order.proofs.Facts.{IsGood, good_is}
 use Rattle.step_order.proofs.Lists.{In, any_in}
 use Rattle.step_order.proofs.After.{commands_are}
@@ -90,7 +90,7 @@ module _ (s : State) (commands : List Command) (step : ℕ) (ready : IsReady s) 
 
   -- the forest is that of the step's state and the touches are paid for, if it lost the voided voxels and gained the filled
   -- ones
-  pub is_refitted : (old between : Matrix) (forest : Standing) (front back : List Coord)
+  pub is_refitted : (old between : Matrix) (forest : ForestView) (front back : List Coord)
       (before listed middle after : ℕ) → old ≡ s.matrix → front ≡ edits_of s commands true
       → back ≡ edits_of s commands false → listed ≤ before + 96 * volatile_total s.matrix (acts s.bots commands)
       → AreRemoved old between front → IsCheap old between front 100 listed middle → AreAdded between forest.matrix back

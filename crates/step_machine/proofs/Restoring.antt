@@ -9,7 +9,7 @@ use Rattle.nano_spec.specs.Act.{acts}
 use Rattle.nano_spec.specs.Rules.{broken}
 use Rattle.nano_spec.specs.State.{State}
 use Rattle.nano_spec.specs.Work.{volatile_total}
-use Rattle.support_forest.specs.Standing.{Standing}
+use Rattle.support_forest.specs.ForestView.{ForestView}
 use Rattle.vox_planes.specs.Changes.{Changes}
 use Rattle.step_machine.specs.declared.TheConstants.{MOST_CHANGED}
 use Rattle.step_machine.specs.declared.machine.StepFault.{StepFault}
@@ -22,22 +22,22 @@ use Rattle.step_machine.proofs.Stepping.{seen}
 use Rattle.step_machine.proofs.Weighing.{nothing_taken_back}
 
 -- the forest after a step that was not made, whose changes were undone
-pub restored_by : (s : State) (commands : List Command) (step : ℕ) (f : StepFault) (forest : Standing)
+pub restored_by : (s : State) (commands : List Command) (step : ℕ) (f : StepFault) (forest : ForestView)
     (began judged ended : ℕ) → IsUnsettled s commands step f began judged → forest.matrix ≡ s.matrix
     → forest.spent ≡ false → IsTakenBackBy s commands judged ended → IsRestored s commands step f forest began ended
 restored_by s commands step (fault.Broken b) forest began judged ended h tied stands back = record { judged = judged; floats = h; tied = tied; stands = stands; back = back }
 restored_by s commands step fault.Memory forest began judged ended h tied stands back = tt
 restored_by s commands step fault.Spent forest began judged ended h tied stands back = absurd h
 
-restored_parts : (s : State) (commands : List Command) (step : ℕ) (f : StepFault) (forest : Standing) (began ended : ℕ)
-    (spends : Bool) → (spends ≡ true ↔ f ≡ fault.Memory) → spends ≡ false
+restored_parts : (s : State) (commands : List Command) (step : ℕ) (f : StepFault) (forest : ForestView)
+    (began ended : ℕ) (spends : Bool) → (spends ≡ true ↔ f ≡ fault.Memory) → spends ≡ false
     → IsRestored s commands step f forest began ended → (forest.spent ≡ false) × (forest.matrix ≡ s.matrix)
 restored_parts s commands step (fault.Broken b) forest began ended spends is e h = (h.stands, h.tied)
 restored_parts s commands step fault.Memory forest began ended spends is e h = let spent : spends ≡ true = is.1 refl in absurd (cc)
 restored_parts s commands step fault.Spent forest began ended spends is e h = absurd h
 
 -- the machine's parts are consistent after it
-pub sound_put_back : (s : State) (commands : List Command) (step : ℕ) (f : StepFault) (old new : Standing)
+pub sound_put_back : (s : State) (commands : List Command) (step : ℕ) (f : StepFault) (old new : ForestView)
     (changed list : Changes) (steps : ℕ) (spent spends : Bool) (began ended : ℕ)
     → IsConsistent s old changed steps spent → (spends ≡ true ↔ f ≡ fault.Memory)
     → IsRestored s commands step f new began ended → MOST_CHANGED ≤ list.spare + length list.items
@@ -71,7 +71,7 @@ module _ (s : State) (commands : List Command) (steps : ℕ) (spent : Bool) (v :
   -- a voxel would float, and the step is undone; or allocation fails
   pub not_made : (judged : ℕ) → broken s commands (steps + 1) ≡ None
       → judged ≤ began + 3 * volatile_total s.matrix (acts s.bots commands) → (f : StepFault) (spends : Bool)
-      → (spends ≡ true ↔ f ≡ fault.Memory) → (forest : Standing) (ended : ℕ)
+      → (spends ≡ true ↔ f ≡ fault.Memory) → (forest : ForestView) (ended : ℕ)
       → IsRestored s commands (steps + 1) f forest judged ended
       → IsNotMade v (seen s steps spends) commands f began ended
   not_made judged keeps start fault.Spent spends is forest ended h = absurd h

@@ -23,7 +23,7 @@ use Rattle.nano_spec.specs.Step.{after, flipped}
 use Rattle.step_order.proofs.JudgedRules.{no_grounding}
 use Rattle.step_order.proofs.Lists.{In, flat_in, in_either, map_in}
 use Rattle.step_machine.specs.Situation.{IsEnergyBounded, IsConsistent, Situation}
-use Rattle.support_forest.specs.Standing.{Standing}
+use Rattle.support_forest.specs.ForestView.{ForestView}
 use Rattle.vox_planes.specs.Changes.{Changes}
 use Rattle.step_machine.specs.declared.TheConstants.{MOST_CHANGED}
 
@@ -153,7 +153,7 @@ few_steps : (s : State) (steps : ℕ) (spent : Bool) (v : Situation) → seen s 
     → steps + 1 ≤ 1073741824
 few_steps s steps spent v e h = let steps_is = ap (λ (w : Situation). w.steps) e in omega arith
 
-pub sound_on : (s t : State) (commands : List Command) (old new : Standing) (changed list : Changes) (steps : ℕ)
+pub sound_on : (s t : State) (commands : List Command) (old new : ForestView) (changed list : Changes) (steps : ℕ)
     (spent : Bool) (v : Situation) → IsConsistent s old changed steps spent → seen s steps spent ≡ v
     → v.steps < 1073741824 → t ≡ after s commands → new.spent ≡ false → new.matrix ≡ (after s commands).matrix
     → MOST_CHANGED ≤ list.spare + length list.items → (after s commands).energy <ℤ (s.energy +ℤ pos 3000000000)
@@ -168,7 +168,7 @@ sound_on s t commands old new changed list steps spent v sound e few is stands t
 }
 
 -- a poisoned machine is consistent, whatever its forest
-pub sound_spent : (s : State) (old new : Standing) (changed list : Changes) (steps : ℕ) (spent : Bool)
+pub sound_spent : (s : State) (old new : ForestView) (changed list : Changes) (steps : ℕ) (spent : Bool)
     → IsConsistent s old changed steps spent → MOST_CHANGED ≤ list.spare + length list.items
     → IsConsistent s new list steps true
 sound_spent s old new changed list steps spent sound room = record {

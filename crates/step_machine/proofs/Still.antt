@@ -13,7 +13,7 @@ use Rattle.nano_spec.specs.Matrix.{Matrix}
 use Rattle.nano_spec.specs.Rules.{broken}
 use Rattle.nano_spec.specs.State.{State, is_high}
 use Rattle.nano_spec.specs.Step.{after, harmonics_after, matrix_after}
-use Rattle.support_forest.specs.Standing.{Standing}
+use Rattle.support_forest.specs.ForestView.{ForestView}
 use Rattle.vox_planes.specs.Voxel.{IsWhole}
 use Rattle.system_state.proofs.OnlyBot.{untouched}
 use Rattle.step_machine.specs.Settling.{IsSettled}
@@ -39,7 +39,7 @@ module _ (s : State) (d : Diff) (one : length s.bots ≡ 1) (whole : IsWhole s.m
   harmonics_stay = let only = only_bot s.bots one in sym (ap (λ (bots : List Bot). harmonics_after s.harmonics (acts bots (SMove d ∷ []))) only.1)
 
   -- the step goes to its state, and the forest is that state's
-  pub still : (step : ℕ) (forest : Standing) (now : ℕ) → broken s (SMove d ∷ []) step ≡ None
+  pub still : (step : ℕ) (forest : ForestView) (now : ℕ) → broken s (SMove d ∷ []) step ≡ None
       → (s.harmonics ≡ Low → FirstUngrounded s.matrix None) → forest.matrix ≡ s.matrix → forest.spent ≡ false
       → IsSettled s (SMove d ∷ []) step forest now now
   still step forest now keeps held tied stands = record {

@@ -17,7 +17,7 @@ use Rattle.nano_spec.specs.Matrix.{Matrix, all_of, differ_at, is_full, matrix_wh
 use Rattle.nano_spec.specs.Rules.{broken}
 use Rattle.nano_spec.specs.State.{IsReady, IsWellFormed, State}
 use Rattle.nano_spec.specs.Step.{after, is_filled, is_voided, matrix_after}
-use Rattle.support_forest.specs.Standing.{AreAdded, AreRemoved, MayAdd, MayRemove, Standing}
+use Rattle.support_forest.specs.ForestView.{AreAdded, AreRemoved, MayAdd, MayRemove, ForestView}
 use Rattle.support_forest.proofs.Counts.{length_coordinates}
 use Rattle.system_state.specs.Painting.{is_cell, with_cells}
 use Rattle.step_order.proofs.Facts.{IsGood, good_is}
@@ -107,8 +107,8 @@ may_gain_back m n undo e h = subst (λ (x : Matrix). MayAdd (without_filled x un
 
 -- the machine's parts are consistent in the state of the note, if the machine is poisoned or its forest is that
 -- state's
-pub sound_restored : (s : State) (undo : Undo) (old : Standing) (changed : Changes) (steps : ℕ) (spent : Bool)
-    → IsConsistent s old changed steps spent → MayUndo s undo → (now : State) (new : Standing) (spends : Bool)
+pub sound_restored : (s : State) (undo : Undo) (old : ForestView) (changed : Changes) (steps : ℕ) (spent : Bool)
+    → IsConsistent s old changed steps spent → MayUndo s undo → (now : State) (new : ForestView) (spends : Bool)
     (filled voided : List Coord) → filled ≡ undo.filled.items → voided ≡ undo.voided.items → now ≡ state_before s undo
     → (spends ≡ false → spent ≡ false) → (spends ≡ false → new.spent ≡ false)
     → (spends ≡ false → new.matrix ≡ matrix_before old.matrix filled voided)
@@ -123,7 +123,7 @@ sound_restored s undo old changed steps spent sound may now new spends filled vo
 }
 
 -- a machine may lose and gain the voxels of a note, as they are read from it
-module _ (s : State) (undo : Undo) (old : Standing) (changed : Changes) (steps : ℕ) (spent : Bool) (v : Situation) (sound : IsConsistent s old changed steps spent) (e : seen s steps spent ≡ v) (stands : v.spent ≡ false) (may : MayUndo v.state undo) where
+module _ (s : State) (undo : Undo) (old : ForestView) (changed : Changes) (steps : ℕ) (spent : Bool) (v : Situation) (sound : IsConsistent s old changed steps spent) (e : seen s steps spent ≡ v) (stands : v.spent ≡ false) (may : MayUndo v.state undo) where
   here : MayUndo s undo
   here = subst (λ (w : Situation). MayUndo w.state undo) (sym e) may
 
@@ -140,7 +140,7 @@ module _ (s : State) (undo : Undo) (old : Standing) (changed : Changes) (steps :
       (subst (λ (ys : List Coord). MayAdd (without_filled old.matrix undo.filled.items) ys) (sym u) (may_gain_back old.matrix s.matrix undo (sound.tied unspent) here.voxels))
 
   -- the machine's parts are consistent again
-  pub sound_back : (now : State) (new : Standing) (filled voided : List Coord) → filled ≡ undo.filled.items
+  pub sound_back : (now : State) (new : ForestView) (filled voided : List Coord) → filled ≡ undo.filled.items
       → voided ≡ undo.voided.items → now ≡ state_before s undo → new.spent ≡ false
       → new.matrix ≡ matrix_before old.matrix filled voided → IsConsistent now new changed undo.steps spent
   sound_back now new filled voided f u is free tied = sound_restored s undo old changed steps spent sound here now new spent filled voided f u is (λ h. h) (λ _. free) (λ _. tied)
@@ -272,7 +272,7 @@ module _ (s : State) (commands : List Command) (step : ℕ) (ready : IsReady s) 
     }
 
     -- the same for a machine
-    pub note_may_undo : (old : Standing) (changed : Changes) (steps : ℕ) (spent : Bool) (v : Situation)
+    pub note_may_undo : (old : ForestView) (changed : Changes) (steps : ℕ) (spent : Bool) (v : Situation)
         → IsConsistent s old changed steps spent → seen s steps spent ≡ v → undo.steps + 1 ≡ steps + 1
         → IsWellFormed v.state → MayUndo t undo
     note_may_undo old changed steps spent v sound e counted formed =

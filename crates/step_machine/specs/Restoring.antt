@@ -6,7 +6,7 @@ use Rattle.nano_spec.specs.declared.outcomes.Rule.{Rule}
 use Rattle.nano_spec.specs.declared.outcomes.Rule.TheVariants.{Ungrounded}
 use Rattle.nano_spec.specs.State.{State}
 use Rattle.nano_spec.specs.Step.{after}
-use Rattle.support_forest.specs.Standing.{Standing}
+use Rattle.support_forest.specs.ForestView.{ForestView}
 use Rattle.step_machine.specs.declared.machine.StepOk.{StepOk}
 use Rattle.step_machine.specs.declared.machine.StepFault.{StepFault}
 use Rattle.step_machine.specs.declared.machine.StepFault.TheVariants as fault
@@ -27,7 +27,7 @@ IsTakenBackAfter Ungrounded s commands began ended = IsTakenBackBy s commands be
 IsTakenBackAfter rule s commands began ended = ended ≡ began
 
 -- the step breaks the rule of grounding, and the forest is again that of the state
-pub record IsFloatRestored (s : State) (commands : List Command) (step : ℕ) (b : Broken) (forest : Standing) (began ended : ℕ)
+pub record IsFloatRestored (s : State) (commands : List Command) (step : ℕ) (b : Broken) (forest : ForestView) (began ended : ℕ)
     : Type 0 where
   pub judged : ℕ
   pub floats : IsFloating s commands step b began judged
@@ -36,7 +36,7 @@ pub record IsFloatRestored (s : State) (commands : List Command) (step : ℕ) (b
   pub back : IsTakenBackBy s commands judged ended
 
 -- the step is not made: it breaks the rule of grounding and is undone, or allocation fails
-abbrev pub IsRestored : State → List Command → ℕ → StepFault → Standing → ℕ → ℕ → Type 0
+abbrev pub IsRestored : State → List Command → ℕ → StepFault → ForestView → ℕ → ℕ → Type 0
 IsRestored s commands step (fault.Broken b) forest began ended = IsFloatRestored s commands step b forest began ended
 IsRestored s commands step fault.Memory forest began ended = Unit {0}
 IsRestored s commands step fault.Spent forest began ended = ⊥

@@ -23,7 +23,7 @@ use Rattle.nano_spec.specs.Work.{WorkOfActs, volatile_total}
 use Rattle.step_groups.specs.Judging.{edit_of}
 use Rattle.system_state.specs.declared.turns.Turn.{Turn}
 use Rattle.system_state.specs.Turns.{AreTurns}
-use Rattle.support_forest.specs.Standing.{Standing}
+use Rattle.support_forest.specs.ForestView.{ForestView}
 use Rattle.vox_planes.specs.Changes.{Changes}
 use Rattle.step_machine.specs.Edits.{edit_count, is_edit, is_edited}
 use Rattle.step_machine.specs.declared.TheConstants.{MOST_CHANGED}
@@ -38,7 +38,7 @@ IsPaidBy s commands began ended =
 
 -- the changes of a step may be listed and made: the turns are those of the leaders, the list has room for all changes, and the
 -- forest is one of the state's matrix
-pub record IsPrepared (s : State) (all : List Command) (taken : List Turn) (list : Changes) (forest : Standing)
+pub record IsPrepared (s : State) (all : List Command) (taken : List Turn) (list : Changes) (forest : ForestView)
     : Type 0 where
   pub commands : AreCommands all
   pub turns : AreTurns (acts s.bots all) (leaders (acts s.bots all)) taken
@@ -52,21 +52,21 @@ pub record CanTakeTurns (s : State) (commands : List Command) (taken : List Turn
   pub turns : AreTurns (acts s.bots commands) (leaders (acts s.bots commands)) taken
 
 -- the step breaks no rule at its start, and the forest is one of the state's matrix
-pub record CanRefit (s : State) (commands : List Command) (forest : Standing) : Type 0 where
+pub record CanRefit (s : State) (commands : List Command) (forest : ForestView) : Type 0 where
   pub judged : (step : ℕ) × (broken s commands step ≡ None)
   pub stands : forest.spent ≡ false
   pub tied : forest.matrix ≡ s.matrix
 
 -- the step breaks no rule at its start, and the changes of its groups may be listed and made
 pub record CanBeSettled (s : State) (commands : List Command) (step : ℕ) (taken : List Turn) (list : Changes)
-    (forest : Standing) : Type 0 where
+    (forest : ForestView) : Type 0 where
   pub judged : broken s commands step ≡ None
   pub few : length commands ≤ length s.bots
   pub prepared : IsPrepared s commands taken list forest
 
 -- the step is one of the only bot, which fills the voxel (or voids it), and the forest is one of the state's
 -- matrix
-pub record CanEditOne (s : State) (commands : List Command) (d : Diff) (at : Coord) (full : Bool) (forest : Standing)
+pub record CanEditOne (s : State) (commands : List Command) (d : Diff) (at : Coord) (full : Bool) (forest : ForestView)
     : Type 0 where
   pub one : length s.bots ≡ 1
   pub command : commands ≡ edit_of full d ∷ []
@@ -91,7 +91,7 @@ pub record IsOnlyRegion (s : State) (commands : List Command) (k : Corners) : Ty
   pub voids : IsVoidedRegion s.matrix leader k
 
 -- the forest is that of the state to which the step goes
-pub record IsRefitted (s : State) (commands : List Command) (forest : Standing) (began ended : ℕ) : Type 0 where
+pub record IsRefitted (s : State) (commands : List Command) (forest : ForestView) (began ended : ℕ) : Type 0 where
   pub matrix : forest.matrix ≡ (after s commands).matrix
   pub stands : forest.spent ≡ false
   pub touches : IsPaidBy s commands began ended
@@ -101,7 +101,7 @@ abbrev pub FloatsAtMost : Matrix → Coord → Type 0
 FloatsAtMost m c = FirstUngrounded m None ⊎ FirstUngrounded m (Some c)
 
 -- the step goes to its state, and the forest is that of this state
-pub record IsSettled (s : State) (commands : List Command) (step : ℕ) (forest : Standing) (began ended : ℕ)
+pub record IsSettled (s : State) (commands : List Command) (step : ℕ) (forest : ForestView) (began ended : ℕ)
     : Type 0 where
   pub goes : Next s commands step (Goes (after s commands))
   pub tied : forest.matrix ≡ (after s commands).matrix

@@ -6,7 +6,7 @@ use Rattle.nano_spec.specs.declared.outcomes.Rule.TheVariants.{Ungrounded}
 use Rattle.nano_spec.specs.Matrix.{Matrix}
 use Rattle.nano_spec.specs.Model.{volume}
 use Rattle.nano_spec.specs.State.{State}
-use Rattle.support_forest.specs.Standing.{Standing}
+use Rattle.support_forest.specs.ForestView.{ForestView}
 use Rattle.vox_planes.specs.Changes.{Changes}
 use Rattle.system_state.specs.Bounds.{IsWithin}
 use Rattle.step_machine.specs.declared.TheConstants.{MOST_CHANGED}
@@ -24,7 +24,7 @@ abbrev pub IsEnergyBounded : ℤ → ℕ → Type 0
 IsEnergyBounded energy steps = IsWithin (3000000000 * steps) energy
 
 -- the parts of a machine belong together
-pub record IsConsistent (system : State) (forest : Standing) (changed : Changes) (steps : ℕ) (spent : Bool)
+pub record IsConsistent (system : State) (forest : ForestView) (changed : Changes) (steps : ℕ) (spent : Bool)
     : Type 0 where
   -- until the machine is poisoned, its forest is one of its matrix
   pub stands : spent ≡ false → forest.spent ≡ false

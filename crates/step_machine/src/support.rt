@@ -9,7 +9,7 @@ ghost use Rattle.nano_spec.specs.Rules.{broken as broken_of};
 ghost use Rattle.nano_spec.specs.Step.{after};
 ghost use Rattle.nano_spec.specs.Work.{volatile_total};
 ghost use Rattle.vox_planes.specs.Layers.{bit_index};
-ghost use Rattle.support_forest.specs.Standing.{AreAdded, AreRemoved, IsCheap, MayAdd, MayRemove};
+ghost use Rattle.support_forest.specs.ForestView.{AreAdded, AreRemoved, IsCheap, MayAdd, MayRemove};
 ghost use Rattle.step_machine.specs.Edits.{edits_of, is_edit};
 ghost use Rattle.step_machine.specs.Settling.{CanBeSettled, CanEditOne, CanRefit, CanTakeTurns, FloatsAtMost, IsPaidBy, IsPrepared, IsRefitted, IsSettled, IsUnsettled};
 ghost use Rattle.step_machine.specs.Undoing.{IsUndoneBy, matrix_before, without_filled};

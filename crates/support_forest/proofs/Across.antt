@@ -8,8 +8,8 @@ use Rattle.vox_geom.specs.declared.coordinate.Coord.{Coord}
 use Rattle.vox_geom.specs.Space.{IsInSpace, place}
 use Rattle.vox_geom.proofs.Firsts.{place_below}
 use Rattle.support_forest.specs.Directions.{lies_left, lies_right, lies_under, lies_over, lies_near, lies_far}
-use Rattle.support_forest.specs.Grid.{Grid, IsStore, StandsIn, brick, brick_number, place_in_slot, side, slot_at, word_at, word_in, word_index}
-use Rattle.support_forest.specs.FillingOne.{EndsBrick, IsOwnIndex, IsIndexAcross, IsIndexToward, IsWordToward, NoneToward, StandsBeyond}
+use Rattle.support_forest.specs.Grid.{Grid, IsStore, LiesAtOffset, brick, brick_number, offset_in_slot, side, slot_at, word_at, word_in, word_index}
+use Rattle.support_forest.specs.FillingOne.{EndsBrick, IsOwnIndex, IsIndexAcross, IsIndexToward, IsWordToward, NoneToward, IsOffsetBeyond}
 use Rattle.support_forest.specs.Indices.{voxel_of}
 use Rattle.support_forest.proofs.Sides.{goes, one_toward}
 use Rattle.support_forest.proofs.Voxels.{digit_x, digit_y, digit_z, own_index}
@@ -62,46 +62,46 @@ square_of_bricks n h =
     let at_most_n : n * n ≤ 51 * n = grind arith in
     omega arith
 
-pub stands_below : (r number slot_place : ℕ) (c : Coord) → StandsIn r number slot_place c
+pub lies_below : (r number slot_offset : ℕ) (c : Coord) → LiesAtOffset r number slot_offset c
     → number < side r * side r * side r
 unfolding brick_number
-stands_below r number slot_place c s = let below = place_below (side r) (brick c) s.within in let in_brick = s.in_brick in omega arith
+lies_below r number slot_offset c s = let below = place_below (side r) (brick c) s.within in let in_brick = s.in_brick in omega arith
 
 -- ---- the index of the neighbor
 
 -- as many bricks are before it, unless it is in the first of them
-pub own_below : (r : ℕ) (c : Coord) (number slot_place : ℕ) → IsOwnIndex r c number slot_place → side r ≤ 51
+pub own_below : (r : ℕ) (c : Coord) (number slot_offset : ℕ) → IsOwnIndex r c number slot_offset → side r ≤ 51
     → number < 132651
 unfolding brick_number
-own_below r c number slot_place own few =
+own_below r c number slot_offset own few =
     let below = place_below (side r) (brick c) (brick_inside r c own.within) in
     let cube = cube_of_bricks (side r) few in
     let in_brick = own.in_brick in
     omega arith
 
-pub wall_before_own : (r : ℕ) (c : Coord) (number slot_place : ℕ) → IsOwnIndex r c number slot_place → c.x % 8 ≡ 0
+pub wall_before_own : (r : ℕ) (c : Coord) (number slot_offset : ℕ) → IsOwnIndex r c number slot_offset → c.x % 8 ≡ 0
     → 0 < c.x → side r * side r ≤ number
 unfolding brick_number
-wall_before_own r c number slot_place own last some = wall_fits (side r) (c.x / 8) (c.y / 8) (c.z / 8) number (omega arith) own.in_brick
+wall_before_own r c number slot_offset own last some = wall_fits (side r) (c.x / 8) (c.y / 8) (c.z / 8) number (omega arith) own.in_brick
 
-pub row_before_own : (r : ℕ) (c : Coord) (number slot_place : ℕ) → IsOwnIndex r c number slot_place → c.y % 8 ≡ 0
+pub row_before_own : (r : ℕ) (c : Coord) (number slot_offset : ℕ) → IsOwnIndex r c number slot_offset → c.y % 8 ≡ 0
     → 0 < c.y → side r ≤ number
 unfolding brick_number
-row_before_own r c number slot_place own last some = row_fits (side r) (c.x / 8) (c.y / 8) (c.z / 8) number (omega arith) own.in_brick
+row_before_own r c number slot_offset own last some = row_fits (side r) (c.x / 8) (c.y / 8) (c.z / 8) number (omega arith) own.in_brick
 
-pub one_before_own : (r : ℕ) (c : Coord) (number slot_place : ℕ) → IsOwnIndex r c number slot_place → c.z % 8 ≡ 0
+pub one_before_own : (r : ℕ) (c : Coord) (number slot_offset : ℕ) → IsOwnIndex r c number slot_offset → c.z % 8 ≡ 0
     → 0 < c.z → 1 ≤ number
 unfolding brick_number
-one_before_own r c number slot_place own last some = let in_brick = own.in_brick in omega arith
+one_before_own r c number slot_offset own last some = let in_brick = own.in_brick in omega arith
 
-pub index_left : (r : ℕ) (c : Coord) (d own place number slot_place : ℕ) → IsOwnIndex r c own place → d ≡ 1
-    → c.x % 8 ≡ 0 → 0 < c.x → number + side r * side r ≡ own → slot_place ≡ place + 56
-    → IsIndexToward r c d number slot_place
-unfolding brick_number place_in_slot
-index_left r c d own place number slot_place own_index e last some n i =
+pub index_left : (r : ℕ) (c : Coord) (d own place number slot_offset : ℕ) → IsOwnIndex r c own place → d ≡ 1
+    → c.x % 8 ≡ 0 → 0 < c.x → number + side r * side r ≡ own → slot_offset ≡ place + 56
+    → IsIndexToward r c d number slot_offset
+unfolding brick_number offset_in_slot
+index_left r c d own place number slot_offset own_index e last some n i =
     let bricks = brick_inside r c own_index.within in
     let in_x = bricks.x in
-    let at = own_index.at_place in
+    let at = own_index.at_offset in
     let before : (c.x - 1) / 8 ≡ c.x / 8 - 1 = omega arith in
     record {
       there = record { x = c.x - 1; y = c.y; z = c.z };
@@ -109,17 +109,17 @@ index_left r c d own place number slot_place own_index e last some n i =
       stands = record {
         within = record { x = omega arith; y = bricks.y; z = bricks.z };
         in_brick = ap (λ (k : ℕ). k * side r * side r + c.y / 8 * side r + c.z / 8) before ∙ wall_before (side r) (c.x / 8) (c.y / 8) (c.z / 8) number own (omega arith) n own_index.in_brick;
-        at_place = omega arith;
+        at_offset = omega arith;
       };
     }
 
-pub index_right : (r : ℕ) (c : Coord) (d own place number slot_place : ℕ) → IsOwnIndex r c own place → d ≡ 2
-    → c.x % 8 ≡ 7 → number ≡ own + side r * side r → slot_place + 56 ≡ place → IsIndexToward r c d number slot_place
-unfolding brick_number place_in_slot side
-index_right r c d own place number slot_place own_index e last n i =
+pub index_right : (r : ℕ) (c : Coord) (d own place number slot_offset : ℕ) → IsOwnIndex r c own place → d ≡ 2
+    → c.x % 8 ≡ 7 → number ≡ own + side r * side r → slot_offset + 56 ≡ place → IsIndexToward r c d number slot_offset
+unfolding brick_number offset_in_slot side
+index_right r c d own place number slot_offset own_index e last n i =
     let bricks = brick_inside r c own_index.within in
     let along = own_index.within.x in
-    let at = own_index.at_place in
+    let at = own_index.at_offset in
     let behind : (c.x + 1) / 8 ≡ c.x / 8 + 1 = omega arith in
     record {
       there = record { x = c.x + 1; y = c.y; z = c.z };
@@ -127,17 +127,17 @@ index_right r c d own place number slot_place own_index e last n i =
       stands = record {
         within = record { x = omega arith; y = bricks.y; z = bricks.z };
         in_brick = ap (λ (k : ℕ). k * side r * side r + c.y / 8 * side r + c.z / 8) behind ∙ wall_behind (side r) (c.x / 8) (c.y / 8) (c.z / 8) number own n own_index.in_brick;
-        at_place = omega arith;
+        at_offset = omega arith;
       };
     }
 
-pub index_under : (r : ℕ) (c : Coord) (d own place number slot_place : ℕ) → IsOwnIndex r c own place → d ≡ 3
-    → c.y % 8 ≡ 0 → 0 < c.y → number + side r ≡ own → slot_place ≡ place + 448 → IsIndexToward r c d number slot_place
-unfolding brick_number place_in_slot
-index_under r c d own place number slot_place own_index e last some n i =
+pub index_under : (r : ℕ) (c : Coord) (d own place number slot_offset : ℕ) → IsOwnIndex r c own place → d ≡ 3
+    → c.y % 8 ≡ 0 → 0 < c.y → number + side r ≡ own → slot_offset ≡ place + 448 → IsIndexToward r c d number slot_offset
+unfolding brick_number offset_in_slot
+index_under r c d own place number slot_offset own_index e last some n i =
     let bricks = brick_inside r c own_index.within in
     let in_y = bricks.y in
-    let at = own_index.at_place in
+    let at = own_index.at_offset in
     let before : (c.y - 1) / 8 ≡ c.y / 8 - 1 = omega arith in
     record {
       there = record { x = c.x; y = c.y - 1; z = c.z };
@@ -145,17 +145,17 @@ index_under r c d own place number slot_place own_index e last some n i =
       stands = record {
         within = record { x = bricks.x; y = omega arith; z = bricks.z };
         in_brick = ap (λ (k : ℕ). c.x / 8 * side r * side r + k * side r + c.z / 8) before ∙ row_before (side r) (c.x / 8) (c.y / 8) (c.z / 8) number own (omega arith) n own_index.in_brick;
-        at_place = omega arith;
+        at_offset = omega arith;
       };
     }
 
-pub index_over : (r : ℕ) (c : Coord) (d own place number slot_place : ℕ) → IsOwnIndex r c own place → d ≡ 4
-    → c.y % 8 ≡ 7 → number ≡ own + side r → slot_place + 448 ≡ place → IsIndexToward r c d number slot_place
-unfolding brick_number place_in_slot side
-index_over r c d own place number slot_place own_index e last n i =
+pub index_over : (r : ℕ) (c : Coord) (d own place number slot_offset : ℕ) → IsOwnIndex r c own place → d ≡ 4
+    → c.y % 8 ≡ 7 → number ≡ own + side r → slot_offset + 448 ≡ place → IsIndexToward r c d number slot_offset
+unfolding brick_number offset_in_slot side
+index_over r c d own place number slot_offset own_index e last n i =
     let bricks = brick_inside r c own_index.within in
     let along = own_index.within.y in
-    let at = own_index.at_place in
+    let at = own_index.at_offset in
     let behind : (c.y + 1) / 8 ≡ c.y / 8 + 1 = omega arith in
     record {
       there = record { x = c.x; y = c.y + 1; z = c.z };
@@ -163,36 +163,36 @@ index_over r c d own place number slot_place own_index e last n i =
       stands = record {
         within = record { x = bricks.x; y = omega arith; z = bricks.z };
         in_brick = ap (λ (k : ℕ). c.x / 8 * side r * side r + k * side r + c.z / 8) behind ∙ row_behind (side r) (c.x / 8) (c.y / 8) (c.z / 8) number own n own_index.in_brick;
-        at_place = omega arith;
+        at_offset = omega arith;
       };
     }
 
-pub index_near : (r : ℕ) (c : Coord) (d own place number slot_place : ℕ) → IsOwnIndex r c own place → d ≡ 5
-    → c.z % 8 ≡ 0 → 0 < c.z → number + 1 ≡ own → slot_place ≡ place + 7 → IsIndexToward r c d number slot_place
-unfolding brick_number place_in_slot
-index_near r c d own place number slot_place own_index e last some n i =
+pub index_near : (r : ℕ) (c : Coord) (d own place number slot_offset : ℕ) → IsOwnIndex r c own place → d ≡ 5
+    → c.z % 8 ≡ 0 → 0 < c.z → number + 1 ≡ own → slot_offset ≡ place + 7 → IsIndexToward r c d number slot_offset
+unfolding brick_number offset_in_slot
+index_near r c d own place number slot_offset own_index e last some n i =
     let bricks = brick_inside r c own_index.within in
     let in_z = bricks.z in
-    let at = own_index.at_place in
+    let at = own_index.at_offset in
     let in_brick = own_index.in_brick in
     record {
       there = record { x = c.x; y = c.y; z = c.z - 1 };
       toward = lies_near (e, refl, refl, omega arith);
-      stands = record { within = record { x = bricks.x; y = bricks.y; z = omega arith }; in_brick = omega arith; at_place = omega arith };
+      stands = record { within = record { x = bricks.x; y = bricks.y; z = omega arith }; in_brick = omega arith; at_offset = omega arith };
     }
 
-pub index_far : (r : ℕ) (c : Coord) (d own place number slot_place : ℕ) → IsOwnIndex r c own place → d ≡ 6 → c.z % 8 ≡ 7
-    → number ≡ own + 1 → slot_place + 7 ≡ place → IsIndexToward r c d number slot_place
-unfolding brick_number place_in_slot side
-index_far r c d own place number slot_place own_index e last n i =
+pub index_far : (r : ℕ) (c : Coord) (d own place number slot_offset : ℕ) → IsOwnIndex r c own place → d ≡ 6
+    → c.z % 8 ≡ 7 → number ≡ own + 1 → slot_offset + 7 ≡ place → IsIndexToward r c d number slot_offset
+unfolding brick_number offset_in_slot side
+index_far r c d own place number slot_offset own_index e last n i =
     let bricks = brick_inside r c own_index.within in
     let along = own_index.within.z in
-    let at = own_index.at_place in
+    let at = own_index.at_offset in
     let in_brick = own_index.in_brick in
     record {
       there = record { x = c.x; y = c.y; z = c.z + 1 };
       toward = lies_far (e, refl, refl, omega arith);
-      stands = record { within = record { x = bricks.x; y = bricks.y; z = omega arith }; in_brick = omega arith; at_place = omega arith };
+      stands = record { within = record { x = bricks.x; y = bricks.y; z = omega arith }; in_brick = omega arith; at_offset = omega arith };
     }
 
 -- ---- no neighbor at the border of space
@@ -283,9 +283,10 @@ match_so (Some a) N M P Q n k h = k a h
 
 -- the word at an offset of a brick is that of each voxel with this offset
 pub reads_in_brick : (g : Grid) (number at word : ℕ) (slot : Option ℕ) → IsStore g → slot ≡ slot_at g.table number
-    → word ≡ word_in g.bricks slot (swapped at) → (q : Coord) → StandsIn g.resolution number at q → word_at g q ≡ word
+    → word ≡ word_in g.bricks slot (swapped at) → (q : Coord) → LiesAtOffset g.resolution number at q
+    → word_at g q ≡ word
 reads_in_brick g number at word slot h e k q s =
-    sym (h.words q s.within) ∙ (ap (λ (n : ℕ). word_in g.bricks (slot_at g.table n) (word_index q)) s.in_brick ∙ (ap (λ (j : ℕ). word_in g.bricks (slot_at g.table number) j) (sym (index_there q at (sym s.at_place))) ∙ (ap (λ (x : Option ℕ). word_in g.bricks x (swapped at)) (sym e) ∙ sym k)))
+    sym (h.words q s.within) ∙ (ap (λ (n : ℕ). word_in g.bricks (slot_at g.table n) (word_index q)) s.in_brick ∙ (ap (λ (j : ℕ). word_in g.bricks (slot_at g.table number) j) (sym (index_there q at (sym s.at_offset))) ∙ (ap (λ (x : Option ℕ). word_in g.bricks x (swapped at)) (sym e) ∙ sym k)))
 
 -- if no voxel lies in the direction, the word is 0
 pub no_word : (g : Grid) (c : Coord) (d word : ℕ) → ((q : Coord) → 0 < word_at g q → IsInSpace g.resolution q)
@@ -295,9 +296,11 @@ no_word g c d word space none e = record {
   some = λ f. absurd (omega arith);
 }
 
-pub that_word : (g : Grid) (c : Coord) (d number slot_place word : ℕ) → IsIndexToward g.resolution c d number slot_place
-    → ((q : Coord) → StandsIn g.resolution number slot_place q → word_at g q ≡ word) → IsWordToward (word_at g) c d word
-that_word g c d number slot_place word s value = record {
+pub that_word : (g : Grid) (c : Coord) (d number slot_offset word : ℕ)
+    → IsIndexToward g.resolution c d number slot_offset
+    → ((q : Coord) → LiesAtOffset g.resolution number slot_offset q → word_at g q ≡ word)
+    → IsWordToward (word_at g) c d word
+that_word g c d number slot_offset word s value = record {
   each = λ q k. ap (word_at g) (one_toward d c q s.there k s.toward) ∙ value s.there s.stands;
   some = λ f. (s.there, s.toward);
 }
@@ -312,13 +315,13 @@ void_word g q word space out e = elim (cases_lt 0 (word_at g q)) [ inl f ↦ abs
 -- the number of its brick is in the table
 pub across_below : (r : ℕ) (c : Coord) (d next : ℕ) → IsIndexAcross r c d next
     → next / 512 < side r * side r * side r
-across_below r c d next (inl s) = stands_below r (next / 512) (next % 512) s.there s.stands
-across_below r c d next (inr s) = stands_below r (next / 512) (next % 512) s.1.there s.1.stands
+across_below r c d next (inl s) = lies_below r (next / 512) (next % 512) s.there s.stands
+across_below r c d next (inr s) = lies_below r (next / 512) (next % 512) s.1.there s.1.stands
 
 -- the word there is that of the neighbor, and 0 if none lies in space
 pub word_there : (g : Grid) (c : Coord) (d next word : ℕ) → ((q : Coord) → 0 < word_at g q → IsInSpace g.resolution q)
     → IsIndexAcross g.resolution c d next
-    → ((q : Coord) → StandsIn g.resolution (next / 512) (next % 512) q → word_at g q ≡ word)
+    → ((q : Coord) → LiesAtOffset g.resolution (next / 512) (next % 512) q → word_at g q ≡ word)
     → IsWordToward (word_at g) c d word
 word_there g c d next word space (inl s) value = that_word g c d (next / 512) (next % 512) word s value
 word_there g c d next word space (inr s) value =
@@ -371,8 +374,8 @@ across_far r p next within last is =
 
 -- the brick before the first of its row lies beyond space
 beyond_row : (r p next : ℕ) → IsInSpace r (voxel_of (side r) p) → (voxel_of (side r) p).y ≡ 0
-    → next + 512 * side r ≡ p + 448 → StandsBeyond r (next / 512) (next % 512)
-unfolding brick_number place_in_slot side
+    → next + 512 * side r ≡ p + 448 → IsOffsetBeyond r (next / 512) (next % 512)
+unfolding brick_number offset_in_slot side
 beyond_row r p next within floor is =
     let c = voxel_of (side r) p in
     let own = own_index r p within in
@@ -387,7 +390,7 @@ beyond_row r p next within floor is =
     ] in
     let x_is : (c.x - 8) / 8 ≡ c.x / 8 - 1 = omega arith in
     let y_is : (8 * (side r - 1) + 7) / 8 ≡ side r - 1 = omega arith in
-    let at = own.at_place in
+    let at = own.at_offset in
     let row : p / 512 ≡ c.x / 8 * side r * side r + 0 * side r + c.z / 8 = own.in_brick ∙ ap (λ (k : ℕ). c.x / 8 * side r * side r + k * side r + c.z / 8) (omega arith) in
     let number : next / 512 + side r ≡ p / 512 = omega arith in
     record {
@@ -396,7 +399,7 @@ beyond_row r p next within floor is =
       stands = record {
         within = record { x = omega arith; y = omega arith; z = in_z };
         in_brick = ap (λ (k : ℕ). k * side r * side r + (8 * (side r - 1) + 7) / 8 * side r + c.z / 8) x_is ∙ (ap (λ (k : ℕ). (c.x / 8 - 1) * side r * side r + k * side r + c.z / 8) y_is ∙ row_around (side r) (c.x / 8) (c.z / 8) (next / 512) (p / 512) wall (omega arith) number row);
-        at_place = omega arith;
+        at_offset = omega arith;
       };
     }
 
@@ -424,8 +427,8 @@ no_under r p t e within last few =
 
 -- the brick before the first of its line lies beyond space
 beyond_line : (r p next : ℕ) → IsInSpace r (voxel_of (side r) p) → (voxel_of (side r) p).z ≡ 0
-    → next + 512 ≡ p + 7 → StandsBeyond r (next / 512) (next % 512)
-unfolding brick_number place_in_slot side
+    → next + 512 ≡ p + 7 → IsOffsetBeyond r (next / 512) (next % 512)
+unfolding brick_number offset_in_slot side
 beyond_line r p next within first is =
     let c = voxel_of (side r) p in
     let own = own_index r p within in
@@ -433,7 +436,7 @@ beyond_line r p next within first is =
     let in_x = bricks.x in
     let in_y = bricks.y in
     let digit : p % 512 % 8 ≡ 0 = sym (digit_z (side r) p) ∙ omega arith in
-    let at = own.at_place in
+    let at = own.at_offset in
     let z_is : (8 * (side r - 1) + 7) / 8 ≡ side r - 1 = omega arith in
     let number : next / 512 + 1 ≡ p / 512 = omega arith in
     let line : p / 512 ≡ c.x / 8 * side r * side r + c.y / 8 * side r + 0 = own.in_brick ∙ ap (λ (k : ℕ). c.x / 8 * side r * side r + c.y / 8 * side r + k) (omega arith) in
@@ -446,7 +449,7 @@ beyond_line r p next within first is =
             stands = record {
               within = record { x = in_x; y = omega arith; z = omega arith };
               in_brick = ap (λ (j : ℕ). c.x / 8 * side r * side r + j * side r + (8 * (side r - 1) + 7) / 8) y_is ∙ (ap (λ (j : ℕ). c.x / 8 * side r * side r + (c.y / 8 - 1) * side r + j) z_is ∙ line_around (side r) (c.x / 8) (c.y / 8) (next / 512) (p / 512) k (omega arith) number line);
-              at_place = omega arith;
+              at_offset = omega arith;
             };
           }
       | inr k ↦
@@ -464,7 +467,7 @@ beyond_line r p next within first is =
             stands = record {
               within = record { x = omega arith; y = omega arith; z = omega arith };
               in_brick = ap (λ (j : ℕ). j * side r * side r + (8 * (side r - 1) + c.y % 8) / 8 * side r + (8 * (side r - 1) + 7) / 8) x_is ∙ (ap (λ (j : ℕ). (c.x / 8 - 1) * side r * side r + j * side r + (8 * (side r - 1) + 7) / 8) y_is ∙ (ap (λ (j : ℕ). (c.x / 8 - 1) * side r * side r + (side r - 1) * side r + j) z_is ∙ wall_around (side r) (c.x / 8) (next / 512) (p / 512) wall (omega arith) number wall_line));
-              at_place = omega arith;
+              at_offset = omega arith;
             };
           }
     ]

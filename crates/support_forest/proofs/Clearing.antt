@@ -6,10 +6,10 @@ use Rattle.vox_geom.specs.declared.coordinate.Coord.{Coord}
 use Rattle.vox_geom.proofs.Points.{same_or_not}
 use Rattle.support_forest.specs.Directions.{Toward, lies_left, lies_right, lies_under, lies_over, lies_near, lies_far}
 use Rattle.support_forest.specs.Grid.{Grid, word_at}
-use Rattle.support_forest.specs.Segments.{AreCleared, IsPast, IsSegment, IsTaking, RowIsFree, TakesMore, further}
+use Rattle.support_forest.specs.Segments.{AreCleared, IsPast, IsSegment, IsVoidingEach, RowIsFree, VoidsMore, further}
 use Rattle.support_forest.specs.VoidingOne.{HaveVoidedOne, IsNoParent}
 use Rattle.support_forest.specs.Words.{AreExact, IsWritten}
-use Rattle.support_forest.proofs.Each.{before_last, taking_listed, taking_taken}
+use Rattle.support_forest.proofs.Each.{before_last, voiding_listed, voiding_voided}
 use Rattle.support_forest.proofs.VoidingOne.{exact_without}
 
 -- ---- voxels of a row become void
@@ -90,32 +90,32 @@ in_row d c (suc n) = elim (same_or_not d (further c n)) [
   ]
 ]
 
-pub one_taken : (now new : Grid) (gone : List Coord) (end count : ℕ) (rest : List Coord) (steps after : ℕ) (x : Coord)
+pub one_voided : (now new : Grid) (gone : List Coord) (end count : ℕ) (rest : List Coord) (steps after : ℕ) (x : Coord)
     → count ≡ 1 → count ≤ end → x ≡ slice_index_or gone (end - count) x → HaveVoidedOne now new x steps after
-    → TakesMore now new gone end (end - count) rest rest steps after
-one_taken now new gone end count rest steps after x c l e h old before a p =
+    → VoidsMore now new gone end (end - count) rest rest steps after
+one_voided now new gone end count rest steps after x c l e h old before a p =
     let end_is : end ≡ end - count + 1 = omega arith in
-    taking_taken old now new gone (end - count) rest before steps after x a (subst (λ (i : ℕ). IsTaking old now gone i rest before steps) end_is p) e h
+    voiding_voided old now new gone (end - count) rest before steps after x a (subst (λ (i : ℕ). IsVoidingEach old now gone i rest before steps) end_is p) e h
 
 pub one_listed : (now new : Grid) (gone : List Coord) (end count : ℕ) (rest more : List Coord) (steps after : ℕ)
     (x : Coord) → count ≡ 1 → count ≤ end → x ≡ slice_index_or gone (end - count) x → new ≡ now → after ≤ steps + 6
-    → more ≡ rest ++ x ∷ [] → TakesMore now new gone end (end - count) rest more steps after
+    → more ≡ rest ++ x ∷ [] → VoidsMore now new gone end (end - count) rest more steps after
 one_listed now new gone end count rest more steps after x c l e n s m old before a p =
     let end_is : end ≡ end - count + 1 = omega arith in
-    taking_listed old now new gone (end - count) rest more before steps after x a (subst (λ (i : ℕ). IsTaking old now gone i rest before steps) end_is p) e n s m
+    voiding_listed old now new gone (end - count) rest more before steps after x a (subst (λ (i : ℕ). IsVoidingEach old now gone i rest before steps) end_is p) e n s m
 
 pub list_more : (gone : List Coord) (end left : ℕ) (first rest more : List Coord) (next : Coord) → 0 < left → left ≤ end
-    → ((now : Grid) (steps : ℕ) → TakesMore now now gone end left first rest steps (steps + 6 * (end - left)))
+    → ((now : Grid) (steps : ℕ) → VoidsMore now now gone end left first rest steps (steps + 6 * (end - left)))
     → next ≡ slice_index_or gone (left - 1) next → more ≡ rest ++ next ∷ [] → (now : Grid) (steps : ℕ)
-    → TakesMore now now gone end (left - 1) first more steps (steps + 6 * (end - (left - 1)))
+    → VoidsMore now now gone end (left - 1) first more steps (steps + 6 * (end - (left - 1)))
 list_more gone end left first rest more next s l h e m now steps old before a p =
-    taking_listed old now now gone (left - 1) rest more before (steps + 6 * (end - left)) (steps + 6 * (end - (left - 1))) next a
+    voiding_listed old now now gone (left - 1) rest more before (steps + 6 * (end - left)) (steps + 6 * (end - (left - 1))) next a
     (before_last old now gone left rest before (steps + 6 * (end - left)) s (h now steps old before a p)) e refl (omega arith) m
 
 pub row_listed : (now : Grid) (gone : List Coord) (end count : ℕ) (rest more : List Coord) (steps after : ℕ) → 2 ≤ count
     → count ≤ end → after ≤ steps + 5 * count + 2
-    → TakesMore now now gone end (end - count) rest more steps (steps + 6 * (end - (end - count)))
-    → TakesMore now now gone end (end - count) rest more steps after
+    → VoidsMore now now gone end (end - count) rest more steps (steps + 6 * (end - (end - count)))
+    → VoidsMore now now gone end (end - count) rest more steps after
 row_listed now gone end count rest more steps after b l s h old before a p =
     let t = h old before a p in
     record {
@@ -132,7 +132,7 @@ row_listed now gone end count rest more steps after b l s h old before a p =
 
 pub row_cleared : (now new : Grid) (gone : List Coord) (end count : ℕ) (rest : List Coord) (steps mid after : ℕ)
     (c : Coord) → 2 ≤ count → count ≤ end → IsSegment gone (end - count) count c → mid ≤ steps + 5 * count + 2
-    → AreCleared now new c 0 count mid after → TakesMore now new gone end (end - count) rest rest steps after
+    → AreCleared now new c 0 count mid after → VoidsMore now new gone end (end - count) rest rest steps after
 row_cleared now new gone end count rest steps mid after c b l s m h old before a p = record {
   resolution = h.resolution ∙ p.resolution;
   exact = h.exact;

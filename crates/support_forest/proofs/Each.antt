@@ -11,9 +11,9 @@ use Rattle.vox_geom.specs.Space.{IsInSpace, coordinates}
 use Rattle.vox_geom.proofs.Points.{same_or_not}
 use Rattle.support_forest.specs.Grid.{Grid, word_at}
 use Rattle.support_forest.specs.Losing.{CanRemove, HaveRemoved}
-use Rattle.support_forest.specs.FillingOne.{ArePlaced, HaveFilledOne}
-use Rattle.support_forest.specs.Segments.{IsPast, IsTaking}
-use Rattle.support_forest.specs.VoidingOne.{AreTaken, HaveVoidedOne}
+use Rattle.support_forest.specs.FillingOne.{HaveFilledEach, HaveFilledOne}
+use Rattle.support_forest.specs.Segments.{IsPast, IsVoidingEach}
+use Rattle.support_forest.specs.VoidingOne.{HaveVoidedEach, HaveVoidedOne}
 use Rattle.support_forest.specs.Waiting.{CanAdd, HaveAdded}
 use Rattle.support_forest.specs.Words.{height, AreExact, has_changed, changed}
 use Rattle.support_forest.proofs.Counts.{count_le, differ, do_differ}
@@ -55,7 +55,7 @@ still_level r s w v e f k (suc n) c l h = elim (e.parent c h) [
 -- ---- voxels that become full
 
 -- the first voxels are full or listed
-pub record IsPlacing (old now : Grid) (cells : List Coord) (i : ℕ) (rest : List Coord) (before steps : ℕ) : Type 0 where
+pub record IsFillingEach (old now : Grid) (cells : List Coord) (i : ℕ) (rest : List Coord) (before steps : ℕ) : Type 0 where
   pub resolution : now.resolution ≡ old.resolution
   pub exact : AreExact now.resolution (word_at now)
   pub each : (c : Coord) → (word_at now c ≡ word_at old c) ⊎ ((0 < word_at now c) × IsMarked cells i c)
@@ -80,16 +80,16 @@ not_marked : (old : Grid) (cells : List Coord) (i : ℕ) (x : Coord) → CanAdd 
     → x ≡ slice_index_or cells i x → IsMarked cells i x → ⊥
 not_marked old cells i x a l e m = a.differ m.0 i x m.1 l (m.3 ∙ e)
 
-pub placing_space : (old now : Grid) (cells : List Coord) (i : ℕ) (rest : List Coord) (before steps : ℕ) (x : Coord)
-    → CanAdd old cells → IsPlacing old now cells i rest before steps → i < length cells → x ≡ slice_index_or cells i x
-    → IsInSpace now.resolution x
-placing_space old now cells i rest before steps x a p l e = subst (λ (r : ℕ). IsInSpace r x) (sym p.resolution) (a.space x (i, l, sym e))
+pub filling_space : (old now : Grid) (cells : List Coord) (i : ℕ) (rest : List Coord) (before steps : ℕ) (x : Coord)
+    → CanAdd old cells → IsFillingEach old now cells i rest before steps → i < length cells
+    → x ≡ slice_index_or cells i x → IsInSpace now.resolution x
+filling_space old now cells i rest before steps x a p l e = subst (λ (r : ℕ). IsInSpace r x) (sym p.resolution) (a.space x (i, l, sym e))
 
-pub placing_placed : (old now new : Grid) (cells : List Coord) (i : ℕ) (rest : List Coord) (before steps after : ℕ)
-    (x : Coord) → CanAdd old cells → IsPlacing old now cells i rest before steps → i < length cells
+pub filling_filled : (old now new : Grid) (cells : List Coord) (i : ℕ) (rest : List Coord) (before steps after : ℕ)
+    (x : Coord) → CanAdd old cells → IsFillingEach old now cells i rest before steps → i < length cells
     → x ≡ slice_index_or cells i x → HaveFilledOne now new x steps after
-    → IsPlacing old new cells (i + 1) rest before after
-placing_placed old now new cells i rest before steps after x a p l e h = record {
+    → IsFillingEach old new cells (i + 1) rest before after
+filling_filled old now new cells i rest before steps after x a p l e h = record {
   resolution = h.resolution ∙ p.resolution;
   exact = h.exact;
   each = λ c. elim (same_or_not c x) [
@@ -106,11 +106,11 @@ placing_placed old now new cells i rest before steps after x a p l e h = record 
   cost = omega (arith, p.cost, h.cost);
 }
 
-pub placing_listed : (old now new : Grid) (cells : List Coord) (i : ℕ) (rest more : List Coord) (before steps after : ℕ)
-    (x : Coord) → CanAdd old cells → IsPlacing old now cells i rest before steps → i < length cells
+pub filling_listed : (old now new : Grid) (cells : List Coord) (i : ℕ) (rest more : List Coord) (before steps after : ℕ)
+    (x : Coord) → CanAdd old cells → IsFillingEach old now cells i rest before steps → i < length cells
     → x ≡ slice_index_or cells i x → new ≡ now → after ≤ steps + 6 → more ≡ rest ++ x ∷ []
-    → IsPlacing old new cells (i + 1) more before after
-placing_listed old now new cells i rest more before steps after x a p l e s t m = subst (λ (v : Grid). IsPlacing old v cells (i + 1) more before after) (sym s) (subst (λ (xs : List Coord). IsPlacing old now cells (i + 1) xs before after) (sym m) (record {
+    → IsFillingEach old new cells (i + 1) more before after
+filling_listed old now new cells i rest more before steps after x a p l e s t m = subst (λ (v : Grid). IsFillingEach old v cells (i + 1) more before after) (sym s) (subst (λ (xs : List Coord). IsFillingEach old now cells (i + 1) xs before after) (sym m) (record {
   resolution = p.resolution;
   exact = p.exact;
   each = λ c. elim (p.each c) [ inl g ↦ inl g | inr g ↦ inr (g.0, later_mark cells i c g.1) ];
@@ -127,9 +127,10 @@ placing_listed old now new cells i rest more before steps after x a p l e s t m 
   cost = let same_length : length (rest ++ x ∷ []) ≡ length rest + 1 = length-append rest (x ∷ []) in omega (arith, p.cost);
 }))
 
-pub are_placed : (old now : Grid) (cells : List Coord) (i : ℕ) (rest : List Coord) (before steps : ℕ) → CanAdd old cells
-    → IsPlacing old now cells i rest before steps → i ≡ length cells → ArePlaced old now cells rest before steps
-are_placed old now cells i rest before steps a p e = record {
+pub are_filled : (old now : Grid) (cells : List Coord) (i : ℕ) (rest : List Coord) (before steps : ℕ) → CanAdd old cells
+    → IsFillingEach old now cells i rest before steps → i ≡ length cells
+    → HaveFilledEach old now cells rest before steps
+are_filled old now cells i rest before steps a p e = record {
   resolution = p.resolution;
   left = record {
     differ = p.differ;
@@ -140,7 +141,7 @@ are_placed old now cells i rest before steps a p e = record {
   listed = λ c h. in_cells c (p.listed c h).0;
   full = λ c h. elim (p.each c) [ inl f ↦ inl (omega arith) | inr f ↦ inr (in_cells c f.1) ];
   kept = λ c h. elim (p.each c) [ inl f ↦ f | inr f ↦ let void = a.void c (in_cells c f.1) in absurd (omega arith) ];
-  placed = λ c h. p.done c (let below_length : h.0 < length cells = h.1 in (h.0, omega arith, below_length, h.2));
+  filled = λ c h. p.done c (let below_length : h.0 < length cells = h.1 in (h.0, omega arith, below_length, h.2));
   few = omega (arith, p.few);
   cost = omega (arith, p.cost);
 }
@@ -148,13 +149,13 @@ are_placed old now cells i rest before steps a p e = record {
     in_cells : (c : Coord) → IsMarked cells i c → Contains cells c
     in_cells c m = (m.0, m.2, m.3)
 
--- a level that changed since some were placed changed
-changed_since_placed : (old now new : Grid) (cells rest : List Coord) (before steps : ℕ) → CanAdd old cells
-    → ArePlaced old now cells rest before steps → AreExact new.resolution (word_at new)
+-- a level that changed since some were filled changed
+changed_since_filled : (old now new : Grid) (cells rest : List Coord) (before steps : ℕ) → CanAdd old cells
+    → HaveFilledEach old now cells rest before steps → AreExact new.resolution (word_at new)
     → ((c : Coord) → 0 < word_at now c → 0 < word_at new c)
     → changed now.resolution (word_at now) (word_at new) ≤ changed old.resolution (word_at old) (word_at new)
 unfolding changed
-changed_since_placed old now new cells rest before steps a p e k =
+changed_since_filled old now new cells rest before steps a p e k =
     subst (λ (r : ℕ). count_by (has_changed (word_at now) (word_at new)) (coordinates r) ≤ count_by (has_changed (word_at old) (word_at new)) (coordinates old.resolution)) (sym p.resolution)
     (count_le (has_changed (word_at now) (word_at new)) (has_changed (word_at old) (word_at new)) (λ c h. differ (word_at old c / 8) (word_at new c / 8) (λ f. do_differ (word_at now c / 8) (word_at new c / 8) h (by c f))) (coordinates old.resolution))
   where
@@ -167,24 +168,24 @@ changed_since_placed old now new cells rest before steps a p e k =
       ]
     ]
 
-pub placed_and_added : (old now new : Grid) (cells rest : List Coord) (before steps after : ℕ) → CanAdd old cells
-    → ArePlaced old now cells rest before steps → HaveAdded now new rest 14 steps after
+pub filled_and_added : (old now new : Grid) (cells rest : List Coord) (before steps after : ℕ) → CanAdd old cells
+    → HaveFilledEach old now cells rest before steps → HaveAdded now new rest 14 steps after
     → HaveAdded old new cells 20 before after
-placed_and_added old now new cells rest before steps after a p h = record {
+filled_and_added old now new cells rest before steps after a p h = record {
   resolution = h.resolution ∙ p.resolution;
   exact = h.exact;
   full = λ c f. elim (h.full c f) [ inl g ↦ p.full c g | inr g ↦ inr (p.listed c g) ];
   kept = λ c f. let kept = p.kept c f in h.kept c (omega arith);
-  added = λ c f. elim (p.placed c f) [ inl g ↦ h.kept c g | inr g ↦ h.added c g ];
-  cost = omega (arith, h.cost, p.cost, p.few, changed_since_placed old now new cells rest before steps a p h.exact h.kept);
+  added = λ c f. elim (p.filled c f) [ inl g ↦ h.kept c g | inr g ↦ h.added c g ];
+  cost = omega (arith, h.cost, p.cost, p.few, changed_since_filled old now new cells rest before steps a p h.exact h.kept);
 }
 
 -- ---- voxels that become void
 
 -- the state before the last voxel that is left
 pub before_last : (old now : Grid) (gone : List Coord) (i : ℕ) (rest : List Coord) (before steps : ℕ) → 0 < i
-    → IsTaking old now gone i rest before steps → IsTaking old now gone (i - 1 + 1) rest before steps
-before_last old now gone i rest before steps s p = let i_is : i ≡ i - 1 + 1 = omega arith in subst (λ (k : ℕ). IsTaking old now gone k rest before steps) i_is p
+    → IsVoidingEach old now gone i rest before steps → IsVoidingEach old now gone (i - 1 + 1) rest before steps
+before_last old now gone i rest before steps s p = let i_is : i ≡ i - 1 + 1 = omega arith in subst (λ (k : ℕ). IsVoidingEach old now gone k rest before steps) i_is p
 
 earlier_past : (gone : List Coord) (i : ℕ) (c : Coord) → IsPast gone (i + 1) c → IsPast gone i c
 earlier_past gone i c m = let at_most_m : i + 1 ≤ m.0 = m.1 in (m.0, omega arith, m.2, m.3)
@@ -200,10 +201,10 @@ not_past : (old : Grid) (gone : List Coord) (i : ℕ) (x : Coord) → CanRemove 
     → x ≡ slice_index_or gone i x → IsPast gone (i + 1) x → ⊥
 not_past old gone i x a l e m = let at_most_m : i + 1 ≤ m.0 = m.1 in a.differ i m.0 x (omega arith) m.2 (sym e ∙ sym m.3)
 
-pub taking_taken : (old now new : Grid) (gone : List Coord) (i : ℕ) (rest : List Coord) (before steps after : ℕ)
-    (x : Coord) → CanRemove old gone → IsTaking old now gone (i + 1) rest before steps → x ≡ slice_index_or gone i x
-    → HaveVoidedOne now new x steps after → IsTaking old new gone i rest before after
-taking_taken old now new gone i rest before steps after x a p e h =
+pub voiding_voided : (old now new : Grid) (gone : List Coord) (i : ℕ) (rest : List Coord) (before steps after : ℕ)
+    (x : Coord) → CanRemove old gone → IsVoidingEach old now gone (i + 1) rest before steps
+    → x ≡ slice_index_or gone i x → HaveVoidedOne now new x steps after → IsVoidingEach old new gone i rest before after
+voiding_voided old now new gone i rest before steps after x a p e h =
     let below_length : i < length gone = let its_within = p.within in omega arith in
     record {
       resolution = h.resolution ∙ p.resolution;
@@ -223,12 +224,13 @@ taking_taken old now new gone i rest before steps after x a p e h =
       cost = omega (arith, p.cost, h.cost);
     }
 
-pub taking_listed : (old now new : Grid) (gone : List Coord) (i : ℕ) (rest more : List Coord) (before steps after : ℕ)
-    (x : Coord) → CanRemove old gone → IsTaking old now gone (i + 1) rest before steps → x ≡ slice_index_or gone i x
-    → new ≡ now → after ≤ steps + 6 → more ≡ rest ++ x ∷ [] → IsTaking old new gone i more before after
-taking_listed old now new gone i rest more before steps after x a p e s t m =
+pub voiding_listed : (old now new : Grid) (gone : List Coord) (i : ℕ) (rest more : List Coord) (before steps after : ℕ)
+    (x : Coord) → CanRemove old gone → IsVoidingEach old now gone (i + 1) rest before steps
+    → x ≡ slice_index_or gone i x → new ≡ now → after ≤ steps + 6 → more ≡ rest ++ x ∷ []
+    → IsVoidingEach old new gone i more before after
+voiding_listed old now new gone i rest more before steps after x a p e s t m =
     let below_length : i < length gone = let its_within = p.within in omega arith in
-    subst (λ (v : Grid). IsTaking old v gone i more before after) (sym s) (subst (λ (xs : List Coord). IsTaking old now gone i xs before after) (sym m) (record {
+    subst (λ (v : Grid). IsVoidingEach old v gone i more before after) (sym s) (subst (λ (xs : List Coord). IsVoidingEach old now gone i xs before after) (sym m) (record {
       resolution = p.resolution;
       exact = p.exact;
       each = λ c. elim (p.each c) [ inl g ↦ inl g | inr g ↦ inr (g.0, earlier_past gone i c g.1) ];
@@ -262,10 +264,10 @@ changed_since old now new e each k =
       | inr s ↦ elim (cases_lt 0 (word_at new c)) [ inl g ↦ let z = k c g in absurd (omega arith) | inr g ↦ omega arith ]
     ]
 
-pub taken_and_removed : (old now new : Grid) (gone rest : List Coord) (before steps after : ℕ)
-    → AreTaken old now gone rest before steps → HaveRemoved now new rest 56 steps after
+pub voided_and_removed : (old now new : Grid) (gone rest : List Coord) (before steps after : ℕ)
+    → HaveVoidedEach old now gone rest before steps → HaveRemoved now new rest 56 steps after
     → HaveRemoved old new gone 62 before after
-taken_and_removed old now new gone rest before steps after p h = record {
+voided_and_removed old now new gone rest before steps after p h = record {
   resolution = h.resolution ∙ p.resolution;
   exact = h.exact;
   full = λ c f. let full = h.full c f in elim (p.each c) [ inl s ↦ omega arith | inr s ↦ absurd (omega (arith, s.0)) ];

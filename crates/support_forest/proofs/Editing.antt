@@ -8,7 +8,7 @@ use Rattle.vox_geom.proofs.Truths.{one_of_two, or_by_first, or_by_second, same_t
 use Rattle.vox_geom.proofs.Points.{coordinate_by_test}
 use Rattle.nano_spec.specs.Matrix.{Matrix, is_full}
 use Rattle.support_forest.specs.Edits.{Edit, adds, removes, AreEdited, is_among, is_left}
-use Rattle.support_forest.specs.Standing.{AreAdded, AreRemoved}
+use Rattle.support_forest.specs.ForestView.{AreAdded, AreRemoved}
 use Rattle.support_forest.proofs.Counts.{later}
 use Rattle.support_forest.proofs.Levels.{same_point_itself}
 

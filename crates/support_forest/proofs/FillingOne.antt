@@ -13,7 +13,7 @@ use Rattle.support_forest.specs.declared.beside.Beside.{Beside}
 use Rattle.support_forest.specs.declared.fill_one.Around.{Around}
 use Rattle.support_forest.specs.Directions.{Toward, AreBeside, lies_left, lies_right, lies_under, lies_over, lies_near, lies_far}
 use Rattle.support_forest.specs.Grid.{Grid, word_at}
-use Rattle.support_forest.specs.FillingOne.{AreBesideWords, HaveFilledOne, IsAround, IsWordToward, LeavesRoom, MayLieUnder, MayStand}
+use Rattle.support_forest.specs.FillingOne.{AreBesideWords, HaveFilledOne, IsAround, IsWordToward, LeavesRoom, MayLieUnder, MayBeSupported}
 use Rattle.support_forest.specs.Waiting.{CanAdd, HaveAdded}
 use Rattle.support_forest.specs.Words.{height, AreExact, AreSettling, IsSound, IsWritten}
 use Rattle.support_forest.proofs.Nearby.{each_beside, toward_down}
@@ -213,7 +213,7 @@ fits_below r w c a e few i z firm calm =
 
 -- ---- the voxel is a child of the voxel below
 
-fits_over : (r : ℕ) (w : Coord → ℕ) (c : Coord) (b : Beside) → AreBesideWords w c b → MayStand b
+fits_over : (r : ℕ) (w : Coord → ℕ) (c : Coord) (b : Beside) → AreBesideWords w c b → MayBeSupported b
     → Fits r w c (8 * (b.under / 8) + 11)
 fits_over r w c b k m =
     let down = k.under.some (let under = m.under in omega arith) in
@@ -300,11 +300,11 @@ off_floor c b e h = positive_by_test c.y (sym e ∙ h)
 
 -- ---- the voxel is full
 
-pub placed_with : (old new : Grid) (c : Coord) (word before mid after : ℕ) → AreExact old.resolution (word_at old)
+pub filled_with : (old new : Grid) (c : Coord) (word before mid after : ℕ) → AreExact old.resolution (word_at old)
     → IsInSpace old.resolution c → word_at old c ≡ 0 → Fits old.resolution (word_at old) c word
     → IsWritten (word_at old) (word_at new) c word → new.resolution ≡ old.resolution → mid ≤ before + 6
     → after ≡ mid + 1 → HaveFilledOne old new c before after
-placed_with old new c word before mid after e s z f k r m t = record {
+filled_with old new c word before mid after e s z f k r m t = record {
   resolution = r;
   exact = subst (λ (n : ℕ). AreExact n (word_at new)) (sym r) (exact_with old.resolution (word_at old) (word_at new) c word e s z f k);
   full = omega (arith, k.here, f.some);
@@ -312,37 +312,38 @@ placed_with old new c word before mid after e s z f k r m t = record {
   cost = omega arith;
 }
 
-pub placed_alone : (old new : Grid) (c : Coord) (a : Around) (before mid after : ℕ)
+pub filled_alone : (old new : Grid) (c : Coord) (a : Around) (before mid after : ℕ)
     → AreExact old.resolution (word_at old) → IsInSpace old.resolution c → word_at old c ≡ 0
     → IsAround (word_at old) c a 7 → a.height ≡ 0 → IsWritten (word_at old) (word_at new) c 1
     → new.resolution ≡ old.resolution → mid ≤ before + 6 → after ≡ mid + 1 → HaveFilledOne old new c before after
-placed_alone old new c a before mid after e s z i h k r m t = placed_with old new c 1 before mid after e s z (fits_alone old.resolution (word_at old) c a i h) k r m t
+filled_alone old new c a before mid after e s z i h k r m t = filled_with old new c 1 before mid after e s z (fits_alone old.resolution (word_at old) c a i h) k r m t
 
-pub placed_below : (old new : Grid) (c : Coord) (a : Around) (before mid after : ℕ)
+pub filled_below : (old new : Grid) (c : Coord) (a : Around) (before mid after : ℕ)
     → AreExact old.resolution (word_at old) → old.resolution * old.resolution * old.resolution ≤ 64000000
     → IsInSpace old.resolution c → word_at old c ≡ 0 → IsAround (word_at old) c a 7 → (a.height ≡ 0 → ⊥)
     → a.is_loose ≡ false → a.highest ≤ a.height + 1 → IsWritten (word_at old) (word_at new) c (8 * a.height + a.toward)
     → new.resolution ≡ old.resolution → mid ≤ before + 6 → after ≡ mid + 1 → HaveFilledOne old new c before after
-placed_below old new c a before mid after e few s z i h firm calm k r m t = placed_with old new c (8 * a.height + a.toward) before mid after e s z (fits_below old.resolution (word_at old) c a e few i h firm calm) k r m t
+filled_below old new c a before mid after e few s z i h firm calm k r m t = filled_with old new c (8 * a.height + a.toward) before mid after e s z (fits_below old.resolution (word_at old) c a e few i h firm calm) k r m t
 
-pub placed_over : (old new : Grid) (c : Coord) (b : Beside) (before mid after : ℕ)
+pub filled_over : (old new : Grid) (c : Coord) (b : Beside) (before mid after : ℕ)
     → AreExact old.resolution (word_at old) → IsInSpace old.resolution c → word_at old c ≡ 0
-    → AreBesideWords (word_at old) c b → MayStand b → IsWritten (word_at old) (word_at new) c (8 * (b.under / 8) + 11)
-    → new.resolution ≡ old.resolution → mid ≤ before + 6 → after ≡ mid + 1 → HaveFilledOne old new c before after
-placed_over old new c b before mid after e s z i m k r l t = placed_with old new c (8 * (b.under / 8) + 11) before mid after e s z (fits_over old.resolution (word_at old) c b i m) k r l t
+    → AreBesideWords (word_at old) c b → MayBeSupported b
+    → IsWritten (word_at old) (word_at new) c (8 * (b.under / 8) + 11) → new.resolution ≡ old.resolution
+    → mid ≤ before + 6 → after ≡ mid + 1 → HaveFilledOne old new c before after
+filled_over old new c b before mid after e s z i m k r l t = filled_with old new c (8 * (b.under / 8) + 11) before mid after e s z (fits_over old.resolution (word_at old) c b i m) k r l t
 
 -- a voxel that fits became full
-pub placed_fit : (old new : Grid) (c : Coord) (word before mid after : ℕ) → AreExact old.resolution (word_at old)
+pub filled_fit : (old new : Grid) (c : Coord) (word before mid after : ℕ) → AreExact old.resolution (word_at old)
     → IsInSpace old.resolution c → word_at old c ≡ 0 → Fits old.resolution (word_at old) c word
     → IsWritten (word_at old) (word_at new) c word → new.resolution ≡ old.resolution → mid ≤ before + 6
     → after ≡ mid + 1 → HaveFilledOne old new c before after
-placed_fit old new c word before mid after e s z f k r l t = placed_with old new c word before mid after e s z f k r l t
+filled_fit old new c word before mid after e s z f k r l t = filled_with old new c word before mid after e s z f k r l t
 
-pub placed_on_floor : (old new : Grid) (c : Coord) (over before mid after : ℕ) → AreExact old.resolution (word_at old)
+pub filled_on_floor : (old new : Grid) (c : Coord) (over before mid after : ℕ) → AreExact old.resolution (word_at old)
     → IsInSpace old.resolution c → word_at old c ≡ 0 → c.y ≡ 0 → IsWordToward (word_at old) c 4 over → MayLieUnder over
     → IsWritten (word_at old) (word_at new) c 8 → new.resolution ≡ old.resolution → mid ≤ before + 1 → after ≡ mid + 1
     → HaveFilledOne old new c before after
-placed_on_floor old new c over before mid after e s z y i m k r l t = placed_with old new c 8 before mid after e s z (fits_on_floor old.resolution (word_at old) c over e y i m) k r (omega arith) t
+filled_on_floor old new c over before mid after e s z y i m k r l t = filled_with old new c 8 before mid after e s z (fits_on_floor old.resolution (word_at old) c over e y i m) k r (omega arith) t
 
 -- a voxel has a small height if one lies above it
 pub under_small : (r : ℕ) (w : Coord → ℕ) (c : Coord) (under : ℕ) → AreExact r w → r * r * r ≤ 64000000
@@ -362,10 +363,10 @@ only_one cells c x l e h =
     let h_is : h.0 ≡ 0 = omega arith in
     e ∙ (get_or_default cells 0 c x (omega arith) ∙ (ap (λ (n : ℕ). slice_index_or cells n x) (sym h_is) ∙ h.2))
 
-pub placed_added : (old new : Grid) (cells : List Coord) (c : Coord) (before after : ℕ) → length cells ≡ 1
+pub filled_added : (old new : Grid) (cells : List Coord) (c : Coord) (before after : ℕ) → length cells ≡ 1
     → c ≡ slice_index_or cells 0 c → CanAdd old cells → HaveFilledOne old new c before after
     → HaveAdded old new cells 20 before after
-placed_added old new cells c before after l e a p = record {
+filled_added old new cells c before after l e a p = record {
   resolution = p.resolution;
   exact = p.exact;
   full = λ x f. elim (same_or_not x c) [ inl m ↦ inr (0, omega arith, get_or_default cells 0 x c (omega arith) ∙ (sym e ∙ sym m)) | inr m ↦ let kept = p.kept x m in inl (omega arith) ];

@@ -4,8 +4,8 @@ use Rattle.vox_geom.specs.declared.coordinate.Coord.{Coord}
 use Rattle.vox_geom.specs.Space.{IsInSpace}
 use Rattle.support_forest.specs.declared.beside.Beside.{Beside}
 use Rattle.support_forest.specs.Directions.{Toward, AreBeside, lies_left, lies_right, lies_under, lies_over, lies_near, lies_far}
-use Rattle.support_forest.specs.Grid.{Grid, StandsAt, brick, brick_number, place_in_slot, side, slot_at, slot_of}
-use Rattle.support_forest.specs.FillingOne.{AreBesideWords, StandsToward, StayAfter}
+use Rattle.support_forest.specs.Grid.{Grid, LiesAt, brick, brick_number, offset_in_slot, side, slot_at, slot_of}
+use Rattle.support_forest.specs.FillingOne.{AreBesideWords, IsOffsetToward, StayAfter}
 use Rattle.support_forest.specs.Words.{IsWritten}
 use Rattle.support_forest.proofs.Sides.{one_direction}
 use Rattle.support_forest.proofs.Store.{brick_inside, same_brick}
@@ -38,73 +38,73 @@ same_slot g c d own e h = subst (λ (n : ℕ). own ≡ slot_at g.table n) (sym (
 
 -- ---- the offset of a neighbor's word in the same brick
 
-pub stands_left : (c : Coord) (d slot_place i : ℕ) → d ≡ 1 → slot_place ≡ place_in_slot c → 0 < c.x % 8
-    → i + 8 ≡ slot_place → StandsToward c d i
-unfolding place_in_slot
-stands_left c d slot_place i n e h k = record {
+pub is_offset_left : (c : Coord) (d slot_offset i : ℕ) → d ≡ 1 → slot_offset ≡ offset_in_slot c → 0 < c.x % 8
+    → i + 8 ≡ slot_offset → IsOffsetToward c d i
+unfolding offset_in_slot
+is_offset_left c d slot_offset i n e h k = record {
   there = record { x = c.x - 1; y = c.y; z = c.z };
   toward = lies_left (n, omega arith, refl, refl);
   same_brick = let quotient_is : (c.x - 1) / 8 ≡ c.x / 8 = omega arith in λ j. record { x = quotient_is j; y = c.y / 8; z = c.z / 8 };
-  at_place = omega arith;
+  at_offset = omega arith;
 }
 
-pub stands_right : (c : Coord) (d slot_place i : ℕ) → d ≡ 2 → slot_place ≡ place_in_slot c → c.x % 8 < 7
-    → i ≡ slot_place + 8 → StandsToward c d i
-unfolding place_in_slot
-stands_right c d slot_place i n e h k = record {
+pub is_offset_right : (c : Coord) (d slot_offset i : ℕ) → d ≡ 2 → slot_offset ≡ offset_in_slot c → c.x % 8 < 7
+    → i ≡ slot_offset + 8 → IsOffsetToward c d i
+unfolding offset_in_slot
+is_offset_right c d slot_offset i n e h k = record {
   there = record { x = c.x + 1; y = c.y; z = c.z };
   toward = lies_right (n, omega arith, refl, refl);
   same_brick = let quotient_is : (c.x + 1) / 8 ≡ c.x / 8 = omega arith in λ j. record { x = quotient_is j; y = c.y / 8; z = c.z / 8 };
-  at_place = omega arith;
+  at_offset = omega arith;
 }
 
-pub stands_under : (c : Coord) (d slot_place i : ℕ) → d ≡ 3 → slot_place ≡ place_in_slot c → 0 < c.y % 8
-    → i + 64 ≡ slot_place → StandsToward c d i
-unfolding place_in_slot
-stands_under c d slot_place i n e h k = record {
+pub is_offset_under : (c : Coord) (d slot_offset i : ℕ) → d ≡ 3 → slot_offset ≡ offset_in_slot c → 0 < c.y % 8
+    → i + 64 ≡ slot_offset → IsOffsetToward c d i
+unfolding offset_in_slot
+is_offset_under c d slot_offset i n e h k = record {
   there = record { x = c.x; y = c.y - 1; z = c.z };
   toward = lies_under (n, refl, omega arith, refl);
   same_brick = let quotient_is : (c.y - 1) / 8 ≡ c.y / 8 = omega arith in λ j. record { x = c.x / 8; y = quotient_is j; z = c.z / 8 };
-  at_place = omega arith;
+  at_offset = omega arith;
 }
 
-pub stands_over : (c : Coord) (d slot_place i : ℕ) → d ≡ 4 → slot_place ≡ place_in_slot c → c.y % 8 < 7
-    → i ≡ slot_place + 64 → StandsToward c d i
-unfolding place_in_slot
-stands_over c d slot_place i n e h k = record {
+pub is_offset_over : (c : Coord) (d slot_offset i : ℕ) → d ≡ 4 → slot_offset ≡ offset_in_slot c → c.y % 8 < 7
+    → i ≡ slot_offset + 64 → IsOffsetToward c d i
+unfolding offset_in_slot
+is_offset_over c d slot_offset i n e h k = record {
   there = record { x = c.x; y = c.y + 1; z = c.z };
   toward = lies_over (n, refl, omega arith, refl);
   same_brick = let quotient_is : (c.y + 1) / 8 ≡ c.y / 8 = omega arith in λ j. record { x = c.x / 8; y = quotient_is j; z = c.z / 8 };
-  at_place = omega arith;
+  at_offset = omega arith;
 }
 
-pub stands_near : (c : Coord) (d slot_place i : ℕ) → d ≡ 5 → slot_place ≡ place_in_slot c → 0 < c.z % 8
-    → i + 1 ≡ slot_place → StandsToward c d i
-unfolding place_in_slot
-stands_near c d slot_place i n e h k = record {
+pub is_offset_near : (c : Coord) (d slot_offset i : ℕ) → d ≡ 5 → slot_offset ≡ offset_in_slot c → 0 < c.z % 8
+    → i + 1 ≡ slot_offset → IsOffsetToward c d i
+unfolding offset_in_slot
+is_offset_near c d slot_offset i n e h k = record {
   there = record { x = c.x; y = c.y; z = c.z - 1 };
   toward = lies_near (n, refl, refl, omega arith);
   same_brick = let quotient_is : (c.z - 1) / 8 ≡ c.z / 8 = omega arith in λ j. record { x = c.x / 8; y = c.y / 8; z = quotient_is j };
-  at_place = omega arith;
+  at_offset = omega arith;
 }
 
-pub stands_far : (c : Coord) (d slot_place i : ℕ) → d ≡ 6 → slot_place ≡ place_in_slot c → c.z % 8 < 7
-    → i ≡ slot_place + 1 → StandsToward c d i
-unfolding place_in_slot
-stands_far c d slot_place i n e h k = record {
+pub is_offset_far : (c : Coord) (d slot_offset i : ℕ) → d ≡ 6 → slot_offset ≡ offset_in_slot c → c.z % 8 < 7
+    → i ≡ slot_offset + 1 → IsOffsetToward c d i
+unfolding offset_in_slot
+is_offset_far c d slot_offset i n e h k = record {
   there = record { x = c.x; y = c.y; z = c.z + 1 };
   toward = lies_far (n, refl, refl, omega arith);
   same_brick = let quotient_is : (c.z + 1) / 8 ≡ c.z / 8 = omega arith in λ j. record { x = c.x / 8; y = c.y / 8; z = quotient_is j };
-  at_place = omega arith;
+  at_offset = omega arith;
 }
 
 -- a neighbor in the same brick has its word in the same slot
-pub stands_beside : (g : Grid) (c : Coord) (d slot slot_place : ℕ) → IsInSpace g.resolution c → slot_of g c ≡ Some slot
-    → (t : StandsToward c d slot_place) → StandsAt g slot slot_place t.there
-stands_beside g c d slot slot_place i e t = record {
+pub lies_beside : (g : Grid) (c : Coord) (d slot slot_offset : ℕ) → IsInSpace g.resolution c → slot_of g c ≡ Some slot
+    → (t : IsOffsetToward c d slot_offset) → LiesAt g slot slot_offset t.there
+lies_beside g c d slot slot_offset i e t = record {
   within = subst (λ (b : Coord). IsInSpace (side g.resolution) b) (sym t.same_brick) (brick_inside g.resolution c i);
   in_slot = sym (same_slot g c t.there (Some slot) t.same_brick (sym e));
-  at_place = t.at_place;
+  at_offset = t.at_offset;
 }
 
 -- if the table stays, a brick keeps its slot

@@ -5,12 +5,12 @@ use Rattle.vox_geom.specs.declared.coordinate.Coord.{Coord}
 use Rattle.vox_geom.specs.Space.{IsInSpace}
 use Rattle.vox_geom.proofs.Tests.{less_by_test, not_less_by_test}
 use Rattle.support_forest.specs.Directions.{Toward}
-use Rattle.support_forest.specs.Grid.{brick, place_in_slot}
+use Rattle.support_forest.specs.Grid.{brick, offset_in_slot}
 use Rattle.support_forest.specs.FillingOne.{EndsBrick}
 use Rattle.support_forest.specs.Indices.{IsBrickBeside, StaysInBrick, voxel_of}
 use Rattle.support_forest.proofs.Across.{ends_far, ends_left, ends_near, ends_over, ends_right, ends_under, row_before, row_behind, row_fits, wall_before, wall_behind, wall_fits}
 use Rattle.support_forest.proofs.Sides.{sums}
-use Rattle.support_forest.proofs.Voxels.{digit_x, digit_y, digit_z, slot_place_at, place_at, voxel_is}
+use Rattle.support_forest.proofs.Voxels.{digit_x, digit_y, digit_z, slot_offset_at, place_at, voxel_is}
 
 -- a conditional, by the value of its test
 by_test : {P Q : Type 0} (t : Bool) → (t ≡ true → P) → (t ≡ false → Q) → MatchBool t P Q
@@ -131,12 +131,12 @@ fits_near s p d e b h =
 pub next_left : (s p d wall next : ℕ) → d ≡ 1 → wall ≡ s * s → (8 ≤ p % 64 → next + 8 ≡ p)
     → (p % 64 < 8 → next + 512 * wall ≡ p + 56) → (q : Coord) → Toward d (voxel_of s p) q
     → IsInSpace s (brick q) → voxel_of s next ≡ q
-unfolding place_in_slot
+unfolding offset_in_slot
 next_left s p d wall next e f within over q t inside =
     let c = voxel_of s p in
     let moved = sums 1 c q (subst (λ (k : ℕ). Toward k c q) e t) in
     let number = place_at s p in
-    let slot_place = slot_place_at s p in
+    let slot_offset = slot_offset_at s p in
     let digit = digit_x s p in
     elim (cases_lt (p % 64) 8) [
       | inl k ↦
@@ -150,12 +150,12 @@ next_left s p d wall next e f within over q t inside =
 pub next_right : (s p d wall next : ℕ) → d ≡ 2 → wall ≡ s * s → (p % 64 < 56 → next ≡ p + 8)
     → (56 ≤ p % 64 → next + 56 ≡ p + 512 * wall) → (q : Coord) → Toward d (voxel_of s p) q
     → IsInSpace s (brick q) → voxel_of s next ≡ q
-unfolding place_in_slot
+unfolding offset_in_slot
 next_right s p d wall next e f within over q t inside =
     let c = voxel_of s p in
     let moved = sums 2 c q (subst (λ (k : ℕ). Toward k c q) e t) in
     let number = place_at s p in
-    let slot_place = slot_place_at s p in
+    let slot_offset = slot_offset_at s p in
     let digit = digit_x s p in
     elim (cases_lt (p % 64) 56) [
       | inl k ↦
@@ -169,12 +169,12 @@ next_right s p d wall next e f within over q t inside =
 pub next_under : (s p d next : ℕ) → d ≡ 3 → (64 ≤ p % 512 → next + 64 ≡ p)
     → (p % 512 < 64 → next + 512 * s ≡ p + 448) → (q : Coord) → Toward d (voxel_of s p) q
     → IsInSpace s (brick q) → voxel_of s next ≡ q
-unfolding place_in_slot
+unfolding offset_in_slot
 next_under s p d next e within over q t inside =
     let c = voxel_of s p in
     let moved = sums 3 c q (subst (λ (k : ℕ). Toward k c q) e t) in
     let number = place_at s p in
-    let slot_place = slot_place_at s p in
+    let slot_offset = slot_offset_at s p in
     let digit = digit_y s p in
     elim (cases_lt (p % 512) 64) [
       | inl k ↦
@@ -188,12 +188,12 @@ next_under s p d next e within over q t inside =
 pub next_over : (s p d next : ℕ) → d ≡ 4 → (p % 512 < 448 → next ≡ p + 64)
     → (448 ≤ p % 512 → next + 448 ≡ p + 512 * s) → (q : Coord) → Toward d (voxel_of s p) q
     → IsInSpace s (brick q) → voxel_of s next ≡ q
-unfolding place_in_slot
+unfolding offset_in_slot
 next_over s p d next e within over q t inside =
     let c = voxel_of s p in
     let moved = sums 4 c q (subst (λ (k : ℕ). Toward k c q) e t) in
     let number = place_at s p in
-    let slot_place = slot_place_at s p in
+    let slot_offset = slot_offset_at s p in
     let digit = digit_y s p in
     elim (cases_lt (p % 512) 448) [
       | inl k ↦
@@ -207,12 +207,12 @@ next_over s p d next e within over q t inside =
 pub next_near : (s p d next : ℕ) → d ≡ 5 → (1 ≤ p % 8 → next + 1 ≡ p)
     → (p % 8 < 1 → next + 512 ≡ p + 7) → (q : Coord) → Toward d (voxel_of s p) q
     → IsInSpace s (brick q) → voxel_of s next ≡ q
-unfolding place_in_slot
+unfolding offset_in_slot
 next_near s p d next e within over q t inside =
     let c = voxel_of s p in
     let moved = sums 5 c q (subst (λ (k : ℕ). Toward k c q) e t) in
     let number = place_at s p in
-    let slot_place = slot_place_at s p in
+    let slot_offset = slot_offset_at s p in
     let digit = digit_z s p in
     elim (cases_lt (p % 8) 1) [
       | inl k ↦
@@ -226,12 +226,12 @@ next_near s p d next e within over q t inside =
 pub next_far : (s p d next : ℕ) → d ≡ 6 → (p % 8 < 7 → next ≡ p + 1)
     → (7 ≤ p % 8 → next + 7 ≡ p + 512) → (q : Coord) → Toward d (voxel_of s p) q
     → IsInSpace s (brick q) → voxel_of s next ≡ q
-unfolding place_in_slot
+unfolding offset_in_slot
 next_far s p d next e within over q t inside =
     let c = voxel_of s p in
     let moved = sums 6 c q (subst (λ (k : ℕ). Toward k c q) e t) in
     let number = place_at s p in
-    let slot_place = slot_place_at s p in
+    let slot_offset = slot_offset_at s p in
     let digit = digit_z s p in
     elim (cases_lt (p % 8) 7) [
       | inl k ↦

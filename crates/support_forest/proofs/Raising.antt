@@ -29,7 +29,7 @@ use Rattle.vox_planes.proofs.TakenBits.{and_bit}
 use Rattle.support_forest.specs.Directions.{Toward, lies_left, lies_right, lies_under, lies_over, lies_near, lies_far}
 use Rattle.support_forest.specs.Grid.{Grid, brick, brick_number, slot_at, slot_of, word_at}
 use Rattle.support_forest.specs.Columns.{AreRowBits, AreSupportedBits, CanScan, IsScanned, column_word, is_deferred, is_raised, is_column_full, scan_index}
-use Rattle.support_forest.specs.Standing.{matrix_of}
+use Rattle.support_forest.specs.ForestView.{matrix_of}
 use Rattle.support_forest.specs.Segments.{AreWritten, further}
 use Rattle.support_forest.specs.Waiting.{CanAdd, HaveAdded}
 use Rattle.support_forest.specs.Words.{height, AreExact, IsWritten}

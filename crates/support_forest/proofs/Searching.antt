@@ -10,7 +10,7 @@ use Rattle.vox_geom.specs.Space.{IsInSpace, coordinate_at, place}
 use Rattle.vox_geom.proofs.Firsts.{place_below}
 use Rattle.vox_geom.proofs.Places.{coordinate_at-place}
 use Rattle.support_forest.specs.Floating.{FirstOne, IsFirstOne, NoneIsOne, words_along, words_from}
-use Rattle.support_forest.specs.Grid.{FloatsFirst, Grid, IsStore, NoneFloatsBelow, place_in_slot, slot_of, word_at}
+use Rattle.support_forest.specs.Grid.{FloatsFirst, Grid, IsStore, NoneFloatsBelow, offset_in_slot, slot_of, word_at}
 use Rattle.support_forest.specs.Segments.{LieInRow, further}
 use Rattle.support_forest.proofs.Store.{brick_inside}
 use Rattle.support_forest.proofs.Segments.{row_slot, row_space, row_word}
@@ -27,11 +27,11 @@ first_same (Some k) same first = record {
   first = λ j l e. first.first j l (sym (same j (let below = first.below in omega arith)) ∙ e);
 }
 
-pub part_first : (g : Grid) (chunk : List ℕ) (slot slot_place from n : ℕ) (c : Coord) (o : Option ℕ) → IsStore g
-    → LieInRow g c n → slot_of g c ≡ Some slot → HasSlot g.bricks slot chunk → slot_place ≡ place_in_slot c
-    → from ≡ start_in_chunk slot + slot_place → FirstOne (words_from chunk from) n o → FirstOne (words_along g c) n o
-part_first g chunk slot slot_place from n c o store row own has at start =
-    first_same o (row_word g chunk slot slot_place from n c store (brick_inside g.resolution c row.within) row.row own has at start)
+pub part_first : (g : Grid) (chunk : List ℕ) (slot slot_offset from n : ℕ) (c : Coord) (o : Option ℕ) → IsStore g
+    → LieInRow g c n → slot_of g c ≡ Some slot → HasSlot g.bricks slot chunk → slot_offset ≡ offset_in_slot c
+    → from ≡ start_in_chunk slot + slot_offset → FirstOne (words_from chunk from) n o → FirstOne (words_along g c) n o
+part_first g chunk slot slot_offset from n c o store row own has at start =
+    first_same o (row_word g chunk slot slot_offset from n c store (brick_inside g.resolution c row.within) row.row own has at start)
 
 -- no voxel of a brick without a slot floats
 pub part_void : (g : Grid) (c : Coord) (n : ℕ) → LieInRow g c n → None ≡ slot_of g c → NoneIsOne (words_along g c) n

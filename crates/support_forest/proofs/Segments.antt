@@ -7,15 +7,15 @@ use Rattle.vox_geom.specs.Space.{IsInSpace}
 use Rattle.support_forest.specs.Directions.{Toward, lies_left, lies_right, lies_under, lies_over, lies_near, lies_far}
 use Rattle.brick_arena.specs.Slots.{HasSlot, start_in_chunk, swapped, words_of}
 use Rattle.support_forest.specs.Access.{LieInBrick}
-use Rattle.support_forest.specs.Grid.{Grid, IsStore, StandsAt, StandsIn, brick, place_in_slot, side, slot_at, slot_of, word_at, word_in, word_index}
-use Rattle.support_forest.specs.FillingOne.{StandsToward, IsIndexAcross, IsWordToward, NoneToward}
+use Rattle.support_forest.specs.Grid.{Grid, IsStore, LiesAt, LiesAtOffset, brick, offset_in_slot, side, slot_at, slot_of, word_at, word_in, word_index}
+use Rattle.support_forest.specs.FillingOne.{IsOffsetToward, IsIndexAcross, IsWordToward, NoneToward}
 use Rattle.support_forest.specs.Segments.{EndsAreFree, LieInRow, IsSegment, RowHangsNot, RowIsFree, SideHangsNot, SidesAreFree, WordsHangNot, further, whole_row_start}
 use Rattle.support_forest.specs.VoidingOne.{HangsNot}
 use Rattle.support_forest.specs.Words.{AreExact}
-use Rattle.support_forest.proofs.Nearby.{same_slot, stands_beside}
+use Rattle.support_forest.proofs.Nearby.{same_slot, lies_beside}
 use Rattle.support_forest.proofs.Sides.{one_toward}
-use Rattle.support_forest.proofs.Store.{brick_inside, slot_place_below}
-use Rattle.support_forest.proofs.Writes.{reads_place}
+use Rattle.support_forest.proofs.Store.{brick_inside, slot_offset_below}
+use Rattle.support_forest.proofs.Writes.{reads_offset}
 
 -- ---- the start of a segment
 
@@ -63,9 +63,9 @@ pub row_slot : (g : Grid) (c : Coord) (n k : ℕ) (own : Option ℕ) → LieInRo
     → own ≡ slot_of g (further c k)
 row_slot g c n k own h l e = same_slot g c (further c k) own (row_brick c n k h.row l) e
 
-pub row_place : (c : Coord) (n k at : ℕ) → c.z % 8 + n ≤ 8 → k < n → at ≡ place_in_slot c
-    → place_in_slot (further c k) ≡ at + k
-unfolding place_in_slot
+pub row_place : (c : Coord) (n k at : ℕ) → c.z % 8 + n ≤ 8 → k < n → at ≡ offset_in_slot c
+    → offset_in_slot (further c k) ≡ at + k
+unfolding offset_in_slot
 row_place c n k at r l e = omega arith
 
 pub row_index : (c : Coord) (n k index : ℕ) → c.z % 8 + n ≤ 8 → k < n → index ≡ word_index c
@@ -74,57 +74,59 @@ unfolding word_index
 row_index c n k index r l e = omega arith
 
 -- the words of a row are in the chunk that has its slot
-pub row_in_chunk : (g : Grid) (chunk : List ℕ) (slot slot_place from n : ℕ) (c : Coord) → HasSlot g.bricks slot chunk
-    → slot_place ≡ place_in_slot c → c.z % 8 + n ≤ 8 → from ≡ start_in_chunk slot + slot_place → from + n ≤ length chunk
-unfolding place_in_slot
-row_in_chunk g chunk slot slot_place from n c h e r f = let full = h.full in omega arith
+pub row_in_chunk : (g : Grid) (chunk : List ℕ) (slot slot_offset from n : ℕ) (c : Coord) → HasSlot g.bricks slot chunk
+    → slot_offset ≡ offset_in_slot c → c.z % 8 + n ≤ 8 → from ≡ start_in_chunk slot + slot_offset
+    → from + n ≤ length chunk
+unfolding offset_in_slot
+row_in_chunk g chunk slot slot_offset from n c h e r f = let full = h.full in omega arith
 
 -- the words of the row are those of the chunk; the row may lie beyond space
-pub row_word : (g : Grid) (chunk : List ℕ) (slot slot_place from n : ℕ) (c : Coord) → IsStore g
+pub row_word : (g : Grid) (chunk : List ℕ) (slot slot_offset from n : ℕ) (c : Coord) → IsStore g
     → IsInSpace (side g.resolution) (brick c) → c.z % 8 + n ≤ 8 → slot_of g c ≡ Some slot → HasSlot g.bricks slot chunk
-    → slot_place ≡ place_in_slot c → from ≡ start_in_chunk slot + slot_place → (k : ℕ) → k < n
+    → slot_offset ≡ offset_in_slot c → from ≡ start_in_chunk slot + slot_offset → (k : ℕ) → k < n
     → word_at g (further c k) ≡ get_or chunk (from + k) 0
-row_word g chunk slot slot_place from n c s b r e h i f k l =
+row_word g chunk slot slot_offset from n c s b r e h i f k l =
     let same : brick (further c k) ≡ brick c = row_brick c n k r l in
-    let at : place_in_slot (further c k) ≡ slot_place + k = row_place c n k slot_place r l i in
-    let below : slot_place + k < 512 = let below_512 = slot_place_below (further c k) in omega arith in
-    let stands : StandsAt g slot (slot_place + k) (further c k) = record {
+    let at : offset_in_slot (further c k) ≡ slot_offset + k = row_place c n k slot_offset r l i in
+    let below : slot_offset + k < 512 = let below_512 = slot_offset_below (further c k) in omega arith in
+    let stands : LiesAt g slot (slot_offset + k) (further c k) = record {
       within = subst (λ (x : Coord). IsInSpace (side g.resolution) x) (sym same) b;
       in_slot = sym (same_slot g c (further c k) (Some slot) same (sym e));
-      at_place = at;
+      at_offset = at;
     } in
-    let place : from + k ≡ start_in_chunk slot + (slot_place + k) = omega arith in
-    let read : word_at g (further c k) ≡ get_or (words_of g.bricks slot) (swapped (slot_place + k)) 0 = reads_place g (further c k) slot (slot_place + k) (get_or (words_of g.bricks slot) (swapped (slot_place + k)) 0) s stands refl in
-    read ∙ sym (ap (λ (j : ℕ). get_or chunk j 0) place ∙ h.each (slot_place + k) below)
+    let place : from + k ≡ start_in_chunk slot + (slot_offset + k) = omega arith in
+    let read : word_at g (further c k) ≡ get_or (words_of g.bricks slot) (swapped (slot_offset + k)) 0 = reads_offset g (further c k) slot (slot_offset + k) (get_or (words_of g.bricks slot) (swapped (slot_offset + k)) 0) s stands refl in
+    read ∙ sym (ap (λ (j : ℕ). get_or chunk j 0) place ∙ h.each (slot_offset + k) below)
 
 -- a fact about the words of the chunk is one about those of the row
-pub row_in_slot : (g : Grid) (chunk : List ℕ) (slot slot_place from n : ℕ) (c : Coord) (P : ℕ → Type 0) → IsStore g
+pub row_in_slot : (g : Grid) (chunk : List ℕ) (slot slot_offset from n : ℕ) (c : Coord) (P : ℕ → Type 0) → IsStore g
     → IsInSpace (side g.resolution) (brick c) → c.z % 8 + n ≤ 8 → slot_of g c ≡ Some slot → HasSlot g.bricks slot chunk
-    → slot_place ≡ place_in_slot c → from ≡ start_in_chunk slot + slot_place
+    → slot_offset ≡ offset_in_slot c → from ≡ start_in_chunk slot + slot_offset
     → ((k : ℕ) → k < n → P (get_or chunk (from + k) 0)) → (k : ℕ) → k < n → P (word_at g (further c k))
-row_in_slot g chunk slot slot_place from n c P s b r e h i f w k l =
-    subst P (sym (row_word g chunk slot slot_place from n c s b r e h i f k l)) (w k l)
+row_in_slot g chunk slot slot_offset from n c P s b r e h i f w k l =
+    subst P (sym (row_word g chunk slot slot_offset from n c s b r e h i f k l)) (w k l)
 
 -- the offset of a row in its line of a brick, by that in its slot
-pub row_part : (q : Coord) (slot_place n : ℕ) → place_in_slot q ≡ slot_place → slot_place % 8 + n ≤ 8 → q.z % 8 + n ≤ 8
-unfolding place_in_slot
-row_part q slot_place n e r = omega arith
+pub row_part : (q : Coord) (slot_offset n : ℕ) → offset_in_slot q ≡ slot_offset → slot_offset % 8 + n ≤ 8
+    → q.z % 8 + n ≤ 8
+unfolding offset_in_slot
+row_part q slot_offset n e r = omega arith
 
 -- the words of a row in a brick of the table, which may lie beyond space
-pub standing_row : (g : Grid) (chunk : List ℕ) (slot number slot_place from n : ℕ) (q : Coord) (P : ℕ → Type 0)
-    → IsStore g → StandsIn g.resolution number slot_place q → slot_place % 8 + n ≤ 8
-    → Some slot ≡ slot_at g.table number → HasSlot g.bricks slot chunk → from ≡ start_in_chunk slot + slot_place
+pub standing_row : (g : Grid) (chunk : List ℕ) (slot number slot_offset from n : ℕ) (q : Coord) (P : ℕ → Type 0)
+    → IsStore g → LiesAtOffset g.resolution number slot_offset q → slot_offset % 8 + n ≤ 8
+    → Some slot ≡ slot_at g.table number → HasSlot g.bricks slot chunk → from ≡ start_in_chunk slot + slot_offset
     → ((k : ℕ) → k < n → P (get_or chunk (from + k) 0)) → (k : ℕ) → k < n → P (word_at g (further q k))
-standing_row g chunk slot number slot_place from n q P store s r e h f w =
-    row_in_slot g chunk slot slot_place from n q P store s.within (row_part q slot_place n s.at_place r)
-    (ap (λ (k : ℕ). slot_at g.table k) s.in_brick ∙ sym e) h (sym s.at_place) f w
+standing_row g chunk slot number slot_offset from n q P store s r e h f w =
+    row_in_slot g chunk slot slot_offset from n q P store s.within (row_part q slot_offset n s.at_offset r)
+    (ap (λ (k : ℕ). slot_at g.table k) s.in_brick ∙ sym e) h (sym s.at_offset) f w
 
 -- a row in a brick without a slot is void
-pub standing_void : (g : Grid) (number slot_place n toward : ℕ) (q : Coord) → IsStore g
-    → StandsIn g.resolution number slot_place q → slot_place % 8 + n ≤ 8 → None ≡ slot_at g.table number
+pub standing_void : (g : Grid) (number slot_offset n toward : ℕ) (q : Coord) → IsStore g
+    → LiesAtOffset g.resolution number slot_offset q → slot_offset % 8 + n ≤ 8 → None ≡ slot_at g.table number
     → RowHangsNot (word_at g) q n toward
-standing_void g number slot_place n toward q store s r e k l f =
-    let same : brick (further q k) ≡ brick q = row_brick q n k (row_part q slot_place n s.at_place r) l in
+standing_void g number slot_offset n toward q store s r e k l f =
+    let same : brick (further q k) ≡ brick q = row_brick q n k (row_part q slot_offset n s.at_offset r) l in
     let slot : None ≡ slot_of g (further q k) = same_slot g q (further q k) None same (e ∙ ap (λ (j : ℕ). slot_at g.table j) (sym s.in_brick)) in
     let word_is : 0 ≡ word_at g (further q k) = ap (λ (o : Option ℕ). word_in g.bricks o (word_index (further q k))) slot
     ∙ store.words (further q k) (subst (λ (b : Coord). IsInSpace (side g.resolution) b) (sym same) s.within) in
@@ -174,26 +176,27 @@ side_none g c n d toward own b h none k p l t f m =
     none (record { x = p.x; y = p.y; z = c.z }) (side_back d k c p b.1 t) (record { x = space_here.x; y = space_here.y; z = within_z })
 
 -- a side in the same brick
-pub side_in_slot : (g : Grid) (chunk : List ℕ) (slot slot_place from n d toward : ℕ) (c : Coord) → (0 < d) × (d ≤ 4)
-    → IsStore g → LieInBrick g c slot → c.z % 8 + n ≤ 8 → HasSlot g.bricks slot chunk → StandsToward c d slot_place
-    → from ≡ start_in_chunk slot + slot_place → WordsHangNot chunk from n toward → SideHangsNot (word_at g) c n d toward
-side_in_slot g chunk slot slot_place from n d toward c r s b row h t f w =
-    let at : StandsAt g slot slot_place t.there = stands_beside g c d slot slot_place b.within b.slot t in
+pub side_in_slot : (g : Grid) (chunk : List ℕ) (slot slot_offset from n d toward : ℕ) (c : Coord) → (0 < d) × (d ≤ 4)
+    → IsStore g → LieInBrick g c slot → c.z % 8 + n ≤ 8 → HasSlot g.bricks slot chunk → IsOffsetToward c d slot_offset
+    → from ≡ start_in_chunk slot + slot_offset → WordsHangNot chunk from n toward
+    → SideHangsNot (word_at g) c n d toward
+side_in_slot g chunk slot slot_offset from n d toward c r s b row h t f w =
+    let at : LiesAt g slot slot_offset t.there = lies_beside g c d slot slot_offset b.within b.slot t in
     let same_z : t.there.z ≡ c.z = same_height d c t.there r.1 t.toward in
     side_free (word_at g) c t.there n d toward r t.toward
-    (row_in_slot g chunk slot slot_place from n t.there (λ v. HangsNot v toward) s at.within (omega arith) at.in_slot h (sym at.at_place) f w)
+    (row_in_slot g chunk slot slot_offset from n t.there (λ v. HangsNot v toward) s at.within (omega arith) at.in_slot h (sym at.at_offset) f w)
 
-pub side_in_chunk : (g : Grid) (chunk : List ℕ) (slot slot_place from n d : ℕ) (c : Coord) → d ≤ 4 → c.z % 8 + n ≤ 8
-    → HasSlot g.bricks slot chunk → StandsToward c d slot_place → from ≡ start_in_chunk slot + slot_place
+pub side_in_chunk : (g : Grid) (chunk : List ℕ) (slot slot_offset from n d : ℕ) (c : Coord) → d ≤ 4 → c.z % 8 + n ≤ 8
+    → HasSlot g.bricks slot chunk → IsOffsetToward c d slot_offset → from ≡ start_in_chunk slot + slot_offset
     → from + n ≤ length chunk
-side_in_chunk g chunk slot slot_place from n d c r row h t f =
+side_in_chunk g chunk slot slot_offset from n d c r row h t f =
     let same_z : t.there.z ≡ c.z = same_height d c t.there r t.toward in
-    row_in_chunk g chunk slot slot_place from n t.there h (sym t.at_place) (omega arith) f
+    row_in_chunk g chunk slot slot_offset from n t.there h (sym t.at_offset) (omega arith) f
 
 -- a side over the border of the brick: the row at its index is the neighbor row, or none lies in space
 pub side_across : (g : Grid) (c : Coord) (n d toward next own : ℕ) → (0 < d) × (d ≤ 4) → LieInBrick g c own
     → IsIndexAcross g.resolution c d next
-    → ((q : Coord) → StandsIn g.resolution (next / 512) (next % 512) q → RowHangsNot (word_at g) q n toward)
+    → ((q : Coord) → LiesAtOffset g.resolution (next / 512) (next % 512) q → RowHangsNot (word_at g) q n toward)
     → SideHangsNot (word_at g) c n d toward
 side_across g c n d toward next own r b (inl s) free = side_free (word_at g) c s.there n d toward r s.toward (free s.there s.stands)
 side_across g c n d toward next own r b (inr s) free = side_none g c n d toward own r b s.0
@@ -259,13 +262,13 @@ whole_row_brick : (c : Coord) → brick (whole_row_start c) ≡ brick c
 whole_row_brick c = let product_is : c.z / 8 * 8 / 8 ≡ c.z / 8 = omega arith in λ j. record { x = c.x / 8; y = c.y / 8; z = product_is j }
 
 -- a fact about the words of the whole row in the chunk is one about those of its voxels, which may lie beyond space
-pub whole_row_in_slot : (g : Grid) (chunk : List ℕ) (slot slot_place from : ℕ) (c : Coord) (P : ℕ → Type 0) → IsStore g
+pub whole_row_in_slot : (g : Grid) (chunk : List ℕ) (slot slot_offset from : ℕ) (c : Coord) (P : ℕ → Type 0) → IsStore g
     → IsInSpace g.resolution c → slot_of g c ≡ Some slot → HasSlot g.bricks slot chunk
-    → slot_place ≡ place_in_slot (whole_row_start c) → from ≡ start_in_chunk slot + slot_place
+    → slot_offset ≡ offset_in_slot (whole_row_start c) → from ≡ start_in_chunk slot + slot_offset
     → ((k : ℕ) → k < 8 → P (get_or chunk (from + k) 0)) → (k : ℕ) → k < 8
     → P (word_at g (further (whole_row_start c) k))
-whole_row_in_slot g chunk slot slot_place from c P s w e h i f v =
-    row_in_slot g chunk slot slot_place from 8 (whole_row_start c) P s
+whole_row_in_slot g chunk slot slot_offset from c P s w e h i f v =
+    row_in_slot g chunk slot slot_offset from 8 (whole_row_start c) P s
     (subst (λ (x : Coord). IsInSpace (side g.resolution) x) (sym (whole_row_brick c)) (brick_inside g.resolution c w)) (omega arith)
     (sym (same_slot g c (whole_row_start c) (Some slot) (whole_row_brick c) (sym e))) h i f v
 

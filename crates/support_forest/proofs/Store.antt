@@ -12,7 +12,7 @@ use Rattle.vox_geom.proofs.Places.{coordinate_at-place}
 use Rattle.vox_geom.proofs.Truths.{both_true, first_of_two, second_of_two}
 use Rattle.vox_geom.proofs.Tests.{less_by_test, test_less}
 use Rattle.brick_arena.specs.Slots.{Slots, IsLive, swapped, words_of}
-use Rattle.support_forest.specs.Grid.{Grid, side, brick, brick_number, word_index, place_in_slot, slot_at, is_inside, IsStore}
+use Rattle.support_forest.specs.Grid.{Grid, side, brick, brick_number, word_index, offset_in_slot, slot_at, is_inside, IsStore}
 
 pub inside : (r : ℕ) (c : Coord) → IsInSpace r c → is_inside r c ≡ true
 inside r c h = both_true (nat_lt c.x r && nat_lt c.y r) (nat_lt c.z r) (both_true (nat_lt c.x r) (nat_lt c.y r) (test_less c.x r h.x) (test_less c.y r h.y)) (test_less c.z r h.z)
@@ -40,13 +40,13 @@ cube_of_bricks n h =
     let at_most_n : n * n * n ≤ 51 * n * n = grind arith in
     omega arith
 
-pub slot_place_below : (c : Coord) → place_in_slot c < 512
-unfolding place_in_slot
-slot_place_below c = omega arith
+pub slot_offset_below : (c : Coord) → offset_in_slot c < 512
+unfolding offset_in_slot
+slot_offset_below c = omega arith
 
 -- the index of the word at a voxel's offset
-pub index_there : (c : Coord) (at : ℕ) → at ≡ place_in_slot c → swapped at ≡ word_index c
-unfolding swapped place_in_slot word_index
+pub index_there : (c : Coord) (at : ℕ) → at ≡ offset_in_slot c → swapped at ≡ word_index c
+unfolding swapped offset_in_slot word_index
 index_there c at e = omega arith
 
 digits : (a b c d e f : ℕ) → 64 * (a % 8) + 8 * (b % 8) + c % 8 ≡ 64 * (d % 8) + 8 * (e % 8) + f % 8

@@ -73,17 +73,17 @@ none_hangs_on_floor r w c over e y k n q h t = by t
     by (lies_near d) = let w_is : w q ≡ 8 = e.floor q (omega arith) (omega arith) in omega arith
     by (lies_far d) = let w_is : w q ≡ 8 = e.floor q (omega arith) (omega arith) in omega arith
 
-pub taken_from_floor : (old new : Grid) (c : Coord) (over before mid after : ℕ) → AreExact old.resolution (word_at old)
+pub voided_from_floor : (old new : Grid) (c : Coord) (over before mid after : ℕ) → AreExact old.resolution (word_at old)
     → c.y ≡ 0 → IsWordToward (word_at old) c 4 over → HangsNot over 3 → IsWritten (word_at old) (word_at new) c 0
     → new.resolution ≡ old.resolution → mid ≤ before + 1 → after ≡ mid + 1 → HaveVoidedOne old new c before after
-taken_from_floor old new c over before mid after e y k n w r l t = taken_by old new c before after e (none_hangs_on_floor old.resolution (word_at old) c over e y k n) w r (omega arith)
+voided_from_floor old new c over before mid after e y k n w r l t = taken_by old new c before after e (none_hangs_on_floor old.resolution (word_at old) c over e y k n) w r (omega arith)
 
 -- ---- the only one
 
-pub taken_removed : (old new : Grid) (gone : List Coord) (c : Coord) (before after : ℕ) → length gone ≡ 1
+pub voided_removed : (old new : Grid) (gone : List Coord) (c : Coord) (before after : ℕ) → length gone ≡ 1
     → c ≡ slice_index_or gone 0 c → CanRemove old gone → HaveVoidedOne old new c before after
     → HaveRemoved old new gone 62 before after
-taken_removed old new gone c before after l e a p = record {
+voided_removed old new gone c before after l e a p = record {
   resolution = p.resolution;
   exact = p.exact;
   full = λ x f. elim (same_or_not x c) [ inl m ↦ let same_word : word_at new x ≡ word_at new c = ap (word_at new) m in let gone = p.gone in absurd (omega arith) | inr m ↦ let kept = p.kept x m in omega arith ];

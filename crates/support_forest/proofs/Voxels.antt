@@ -8,11 +8,11 @@ use Rattle.vox_geom.specs.Space.{IsInSpace, coordinate_at, place}
 use Rattle.vox_geom.proofs.Firsts.{place_below}
 use Rattle.vox_geom.proofs.Places.{coordinate_at-place, place-coordinate_at}
 use Rattle.vox_geom.proofs.Tests.{test_equal, test_unequal}
-use Rattle.support_forest.specs.Grid.{Grid, IsStore, brick, brick_number, place_in_slot, side, slot_at, slot_of}
+use Rattle.support_forest.specs.Grid.{Grid, IsStore, brick, brick_number, offset_in_slot, side, slot_at, slot_of}
 use Rattle.support_forest.specs.FillingOne.{IsOwnIndex}
 use Rattle.support_forest.specs.Indices.{store_index, voxel_of, voxel_in, voxel_of_brick}
 use Rattle.support_forest.specs.Segments.{further, whole_row_start}
-use Rattle.support_forest.proofs.Store.{brick_inside, cube_of_bricks, few_bricks, slot_place_below}
+use Rattle.support_forest.proofs.Store.{brick_inside, cube_of_bricks, few_bricks, slot_offset_below}
 
 high : (b i : ℕ) → i < 8 → (8 * b + i) / 8 ≡ b
 high b i h = omega arith
@@ -50,16 +50,16 @@ pub number_at : (r p : ℕ) → brick_number r (voxel_of (side r) p) ≡ p / 512
 unfolding brick_number
 number_at r p = place_at (side r) p
 
-pub slot_place_at : (s p : ℕ) → place_in_slot (voxel_of s p) ≡ p % 512
-unfolding place_in_slot
-slot_place_at s p =
+pub slot_offset_at : (s p : ℕ) → offset_in_slot (voxel_of s p) ≡ p % 512
+unfolding offset_in_slot
+slot_offset_at s p =
     let x_is = digit_x s p in
     let y_is = digit_y s p in
     let z_is = digit_z s p in
     omega arith
 
-of_brick : (c : Coord) → voxel_of_brick (brick c) (place_in_slot c) ≡ c
-unfolding place_in_slot
+of_brick : (c : Coord) → voxel_of_brick (brick c) (offset_in_slot c) ≡ c
+unfolding offset_in_slot
 of_brick c =
     let x_is : 8 * (c.x / 8) + (64 * (c.y % 8) + 8 * (c.x % 8) + c.z % 8) / 8 % 8 ≡ c.x = omega arith in
     let y_is : 8 * (c.y / 8) + (64 * (c.y % 8) + 8 * (c.x % 8) + c.z % 8) / 64 ≡ c.y = omega arith in
@@ -67,7 +67,7 @@ of_brick c =
     λ j. record { x = x_is j; y = y_is j; z = z_is j }
 
 -- the voxel at a voxel's index, and at any index that has its brick and its offset there
-pub voxel_is : (s p : ℕ) (c : Coord) → IsInSpace s (brick c) → place s (brick c) ≡ p / 512 → place_in_slot c ≡ p % 512
+pub voxel_is : (s p : ℕ) (c : Coord) → IsInSpace s (brick c) → place s (brick c) ≡ p / 512 → offset_in_slot c ≡ p % 512
     → voxel_of s p ≡ c
 unfolding voxel_of
 voxel_is s p c h n i =
@@ -76,18 +76,18 @@ voxel_is s p c h n i =
     ∙ (ap (voxel_of_brick (brick c)) (sym i) ∙ of_brick c))
 
 pub voxel_there : (r p : ℕ) (c : Coord) → IsInSpace (side r) (brick c) → brick_number r c ≡ p / 512
-    → place_in_slot c ≡ p % 512 → voxel_of (side r) p ≡ c
+    → offset_in_slot c ≡ p % 512 → voxel_of (side r) p ≡ c
 unfolding brick_number
 voxel_there r p c h n i = voxel_is (side r) p c h n i
 
 pub voxel_at_index : (r : ℕ) (c : Coord) → IsInSpace (side r) (brick c) → voxel_of (side r) (store_index r c) ≡ c
 unfolding store_index
 voxel_at_index r c h =
-    let below = slot_place_below c in
-    voxel_there r (512 * brick_number r c + place_in_slot c) c h (omega arith) (omega arith)
+    let below = slot_offset_below c in
+    voxel_there r (512 * brick_number r c + offset_in_slot c) c h (omega arith) (omega arith)
 
 pub own_index : (r p : ℕ) → IsInSpace r (voxel_of (side r) p) → IsOwnIndex r (voxel_of (side r) p) (p / 512) (p % 512)
-own_index r p h = record { within = h; in_brick = sym (number_at r p); at_place = sym (slot_place_at (side r) p) }
+own_index r p h = record { within = h; in_brick = sym (number_at r p); at_offset = sym (slot_offset_at (side r) p) }
 
 -- the number of a brick in the table
 pub number_below : (r p : ℕ) → IsInSpace r (voxel_of (side r) p) → p / 512 < side r * side r * side r
@@ -150,7 +150,7 @@ whole_row_there s p =
 
 pub voxel_along : (r line : ℕ) (c : Coord) → line ≡ store_index r (record { x = c.x; y = c.y; z = 0 }) → IsInSpace r c
     → voxel_of (side r) (line + 512 * (c.z / 8) + c.z % 8) ≡ c
-unfolding store_index brick_number place_in_slot
+unfolding store_index brick_number offset_in_slot
 voxel_along r line c e h =
     let bricks = brick_inside r c h in
     voxel_there r (line + 512 * (c.z / 8) + c.z % 8) c bricks (omega arith) (omega arith)

@@ -8,7 +8,7 @@ use Rattle.support_forest.specs.Directions.{Toward, AreBeside, lies_left, lies_r
 use Rattle.support_forest.specs.FillingOne.{IsWordToward}
 use Rattle.support_forest.specs.Grid.{Grid, count_words, word_at}
 use Rattle.support_forest.specs.Segments.{EndsAreFree, SideHangsNot, SidesAreFree, further}
-use Rattle.support_forest.proofs.Standing.{none_passes}
+use Rattle.support_forest.proofs.ForestView.{none_passes}
 use Rattle.support_forest.proofs.Writes.{word_in_space}
 use Rattle.support_forest.specs.VoidingOne.{HangsNot, IsNoParent}
 use Rattle.support_forest.specs.Words.{AreExact, NoneOverhangs, height, is_overhang}
@@ -115,8 +115,8 @@ no_parent_without_overhangs w c over s k z q h t = elim (upright (w q) (s q)) [
     up (lies_far d) = let is = d.0 in omega arith
 
 -- a voxel whose parent is the voxel below is not an overhang
-pub stands_upright : (h : ℕ) → is_overhang (8 * h + 11) ≡ false
-stands_upright h = let digit : (8 * h + 11) % 8 ≡ 3 = omega arith in ap (λ (d : ℕ). not (d == 0 || d == 3)) digit
+pub lies_upright : (h : ℕ) → is_overhang (8 * h + 11) ≡ false
+lies_upright h = let digit : (8 * h + 11) % 8 ≡ 3 = omega arith in ap (λ (d : ℕ). not (d == 0 || d == 3)) digit
 
 -- the voxel below another has a height if it is full
 pub held_by : (r : ℕ) (w : Coord → ℕ) (c : Coord) (under : ℕ) → AreExact r w → NoneOverhangs w

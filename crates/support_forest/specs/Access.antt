@@ -3,7 +3,7 @@ use Rattle.std.specs.Prelude.{◌≡◌, ℕ, ◌+◌, ◌<◌, ◌≤◌, Some}
 use Rattle.brick_arena.specs.Slots.{IsLive}
 use Rattle.vox_geom.specs.declared.coordinate.Coord.{Coord}
 use Rattle.vox_geom.specs.Space.{IsInSpace}
-use Rattle.support_forest.specs.Grid.{Grid, place_in_slot, slot_at, slot_of, word_at}
+use Rattle.support_forest.specs.Grid.{Grid, offset_in_slot, slot_at, slot_of, word_at}
 use Rattle.support_forest.specs.FillingOne.{IsWordToward}
 use Rattle.support_forest.specs.Indices.{voxel_in}
 use Rattle.support_forest.specs.Words.{IsWritten}
@@ -23,7 +23,7 @@ pub record LieInBrick (g : Grid) (c : Coord) (own : ℕ) : Type 0 where
 pub record IsWordIn (g : Grid) (own at word : ℕ) (c : Coord) : Type 0 where
   pub within : IsInSpace g.resolution c
   pub slot : slot_of g c ≡ Some own
-  pub place : at ≡ place_in_slot c
+  pub offset : at ≡ offset_in_slot c
   pub stands : word ≡ word_at g c
 
 -- the brick of that number has the slot, which is live; no word changed

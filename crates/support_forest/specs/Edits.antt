@@ -3,7 +3,7 @@ use Rattle.std.specs.Prelude.{◌≡◌, Bool, false, ◌&&◌, ◌||◌, not, L
 use Rattle.vox_geom.specs.declared.coordinate.Coord.{Coord}
 use Rattle.vox_geom.specs.Point.{point, same_point}
 use Rattle.nano_spec.specs.Matrix.{Matrix}
-use Rattle.support_forest.specs.Standing.{AreAdded, AreRemoved}
+use Rattle.support_forest.specs.ForestView.{AreAdded, AreRemoved}
 
 -- the cells of an `add`, or those of a `remove`
 pub data Edit : Type 0 where

@@ -6,7 +6,7 @@ use Rattle.vox_geom.specs.Space.{IsInSpace}
 use Rattle.support_forest.specs.declared.beside.Beside.{Beside}
 use Rattle.support_forest.specs.declared.fill_one.Around.{Around}
 use Rattle.support_forest.specs.Directions.{Toward, AreBeside}
-use Rattle.support_forest.specs.Grid.{Grid, StandsIn, brick, brick_number, place_in_slot, slot_of, word_at}
+use Rattle.support_forest.specs.Grid.{Grid, LiesAtOffset, brick, brick_number, offset_in_slot, slot_of, word_at}
 use Rattle.support_forest.specs.Waiting.{CanAdd}
 use Rattle.support_forest.specs.Words.{height, AreExact, IsSound}
 
@@ -34,17 +34,17 @@ abbrev pub StayAfter : (Coord → ℕ) → (Coord → ℕ) → Coord → ℕ →
 StayAfter w v c d = (k word : ℕ) → d < k → IsWordToward w c k word → IsWordToward v c k word
 
 -- the neighbor in the direction lies in the same brick, and its word is at that offset of the slot
-pub record StandsToward (c : Coord) (d at : ℕ) : Type 0 where
+pub record IsOffsetToward (c : Coord) (d at : ℕ) : Type 0 where
   pub there : Coord
   pub toward : Toward d c there
   pub same_brick : brick there ≡ brick c
-  pub at_place : place_in_slot there ≡ at
+  pub at_offset : offset_in_slot there ≡ at
 
 -- the same if the offsets of both words are counted from another origin
-pub record IsPlaceToward (c : Coord) (d own at place : ℕ) : Type 0 where
+pub record IsMovedOffsetToward (c : Coord) (d own at offset : ℕ) : Type 0 where
   pub in_slot : ℕ
-  pub toward : StandsToward c d in_slot
-  pub moved : place + own ≡ at + in_slot
+  pub toward : IsOffsetToward c d in_slot
+  pub moved : offset + own ≡ at + in_slot
 
 -- the voxel is the last of its brick in the direction
 pub record EndsBrick (c : Coord) (d : ℕ) : Type 0 where
@@ -59,28 +59,28 @@ pub record EndsBrick (c : Coord) (d : ℕ) : Type 0 where
 pub record IsOwnIndex (r : ℕ) (c : Coord) (number at : ℕ) : Type 0 where
   pub within : IsInSpace r c
   pub in_brick : number ≡ brick_number r c
-  pub at_place : at ≡ place_in_slot c
+  pub at_offset : at ≡ offset_in_slot c
 
 -- the neighbor in the direction is at that offset in the slot of the brick of that number
 pub record IsIndexToward (r : ℕ) (c : Coord) (d number at : ℕ) : Type 0 where
   pub there : Coord
   pub toward : Toward d c there
-  pub stands : StandsIn r number at there
+  pub stands : LiesAtOffset r number at there
 
 -- no neighbor in the direction is in space
 abbrev pub NoneToward : ℕ → Coord → ℕ → Type 0
 NoneToward r c d = (q : Coord) → Toward d c q → IsInSpace r q → ⊥
 
 -- the voxel at that offset in the slot of the brick of that number lies beyond space
-pub record StandsBeyond (r number at : ℕ) : Type 0 where
+pub record IsOffsetBeyond (r number at : ℕ) : Type 0 where
   pub there : Coord
   pub out : IsInSpace r there → ⊥
-  pub stands : StandsIn r number at there
+  pub stands : LiesAtOffset r number at there
 
 -- the neighbor in the direction is at the index; or none lies in space, and neither does the voxel at the index
 abbrev pub IsIndexAcross : ℕ → Coord → ℕ → ℕ → Type 0
 IsIndexAcross r c d next =
-    IsIndexToward r c d (next / 512) (next % 512) ⊎ (NoneToward r c d × StandsBeyond r (next / 512) (next % 512))
+    IsIndexToward r c d (next / 512) (next % 512) ⊎ (NoneToward r c d × IsOffsetBeyond r (next / 512) (next % 512))
 
 -- the words are those of the voxel's neighbors
 pub record AreBesideWords (w : Coord → ℕ) (c : Coord) (b : Beside) : Type 0 where
@@ -100,7 +100,7 @@ abbrev pub MayLieUnder : ℕ → Type 0
 MayLieUnder word = (word ≡ 0) ⊎ ((8 ≤ word) × (word < 24))
 
 -- a voxel whose parent is the voxel below changes no other level
-pub record MayStand (b : Beside) : Type 0 where
+pub record MayBeSupported (b : Beside) : Type 0 where
   pub under : 8 ≤ b.under
   pub left : LeavesRoom b.left (b.under / 8)
   pub right : LeavesRoom b.right (b.under / 8)
@@ -133,17 +133,17 @@ FillsOrStays done old new c before after =
     MatchBool done (HaveFilledOne old new c before after) ((new ≡ old) × (after ≤ before + 6))
 
 -- the same, and a voxel that became full has a height
-pub record StandsOrStays (done : Bool) (old new : Grid) (c : Coord) (before after : ℕ) : Type 0 where
-  pub placed : FillsOrStays done old new c before after
+pub record FillsSupportedOrStays (done : Bool) (old new : Grid) (c : Coord) (before after : ℕ) : Type 0 where
+  pub filled : FillsOrStays done old new c before after
   pub held : done ≡ true → 8 ≤ word_at new c
 
 -- the voxels that change no other level became full, one after another, and the others may still be added
-pub record ArePlaced (old new : Grid) (cells rest : List Coord) (before after : ℕ) : Type 0 where
+pub record HaveFilledEach (old new : Grid) (cells rest : List Coord) (before after : ℕ) : Type 0 where
   pub resolution : new.resolution ≡ old.resolution
   pub left : CanAdd new rest
   pub listed : (c : Coord) → Contains rest c → Contains cells c
   pub full : (c : Coord) → 0 < word_at new c → (0 < word_at old c) ⊎ Contains cells c
   pub kept : (c : Coord) → 0 < word_at old c → word_at new c ≡ word_at old c
-  pub placed : (c : Coord) → Contains cells c → (0 < word_at new c) ⊎ Contains rest c
+  pub filled : (c : Coord) → Contains cells c → (0 < word_at new c) ⊎ Contains rest c
   pub few : length rest ≤ length cells
   pub cost : after + length rest ≤ before + 7 * length cells

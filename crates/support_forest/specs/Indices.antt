@@ -4,11 +4,11 @@ use Rattle.brick_arena.specs.Slots.{HasSlot, start_in_chunk}
 use Rattle.vox_geom.specs.declared.coordinate.Coord.{Coord}
 use Rattle.vox_geom.specs.Space.{IsInSpace, coordinate_at}
 use Rattle.support_forest.specs.Directions.{Toward}
-use Rattle.support_forest.specs.Grid.{Grid, brick, brick_number, place_in_slot, side, slot_of, word_at}
+use Rattle.support_forest.specs.Grid.{Grid, brick, brick_number, offset_in_slot, side, slot_of, word_at}
 
 -- the index of a voxel
 unfoldable pub store_index : ℕ → Coord → ℕ
-store_index r c = 512 * brick_number r c + place_in_slot c
+store_index r c = 512 * brick_number r c + offset_in_slot c
 
 -- the voxel of a brick whose word has the offset in the brick's slot
 abbrev pub voxel_of_brick : Coord → ℕ → Coord

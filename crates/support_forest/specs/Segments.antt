@@ -102,7 +102,8 @@ abbrev pub IsPast : List Coord → ℕ → Coord → Type 0
 IsPast gone i c = (k : ℕ) × (i ≤ k) × (k < length gone) × (slice_index_or gone k c ≡ c)
 
 -- the voxels from an index on are void or deferred
-pub record IsTaking (old now : Grid) (gone : List Coord) (i : ℕ) (rest : List Coord) (before steps : ℕ) : Type 0 where
+pub record IsVoidingEach (old now : Grid) (gone : List Coord) (i : ℕ) (rest : List Coord) (before steps : ℕ)
+    : Type 0 where
   pub resolution : now.resolution ≡ old.resolution
   pub exact : AreExact now.resolution (word_at now)
   pub each : (c : Coord) → (word_at now c ≡ word_at old c) ⊎ ((word_at now c ≡ 0) × IsPast gone i c)
@@ -114,7 +115,7 @@ pub record IsTaking (old now : Grid) (gone : List Coord) (i : ℕ) (rest : List 
   pub cost : steps + 2 * length rest + 8 * i ≤ before + 8 * length gone
 
 -- whatever was handled before, these voxels became void too or were deferred
-abbrev pub TakesMore : Grid → Grid → List Coord → ℕ → ℕ → List Coord → List Coord → ℕ → ℕ → Type 0
-TakesMore now new gone i j rest more steps after =
-    (old : Grid) (before : ℕ) → CanRemove old gone → IsTaking old now gone i rest before steps
-    → IsTaking old new gone j more before after
+abbrev pub VoidsMore : Grid → Grid → List Coord → ℕ → ℕ → List Coord → List Coord → ℕ → ℕ → Type 0
+VoidsMore now new gone i j rest more steps after =
+    (old : Grid) (before : ℕ) → CanRemove old gone → IsVoidingEach old now gone i rest before steps
+    → IsVoidingEach old new gone j more before after

@@ -49,7 +49,7 @@ VoidsOrStays done old new c before after =
     MatchBool done (HaveVoidedOne old new c before after) ((new ≡ old) × (after ≤ before + 6))
 
 -- voxels of `gone` became void one after another, each without children; the rest may still be removed
-pub record AreTaken (old new : Grid) (gone rest : List Coord) (before after : ℕ) : Type 0 where
+pub record HaveVoidedEach (old new : Grid) (gone rest : List Coord) (before after : ℕ) : Type 0 where
   pub resolution : new.resolution ≡ old.resolution
   pub left : CanRemove new rest
   pub listed : (c : Coord) → Contains rest c → Contains gone c

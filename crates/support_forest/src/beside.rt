@@ -27,7 +27,7 @@ pub struct Beside {
 
 /// Returns the offset of an index's word in the chunk that contains the slot of its brick.
 #[inline(always)]
-pub fn place_in_chunk(slot: u32, index: u32) -> usize
+pub fn offset_in_chunk(slot: u32, index: u32) -> usize
     ensures { result ≡ start_in_chunk_of slot + index % 512 }
 {
     start_in_chunk(slot) + (index % BRICK_WORDS) as usize
@@ -112,7 +112,7 @@ pub fn words_beside<L: Ledger>(cells: &Cells, index: u32, steps: &mut Steps<L>) 
             index,
             slot,
             cells.chunk(slot),
-            place_in_chunk(slot, index),
+            offset_in_chunk(slot, index),
             steps,
         ),
         None => words_beyond(cells, index, steps),

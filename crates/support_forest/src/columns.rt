@@ -6,7 +6,7 @@ ghost use Rattle.vox_geom.specs.declared.coordinate.Coord.{Coord as Coordinate};
 ghost use Rattle.support_forest.specs.Grid.{slot_of, word_at};
 ghost use Rattle.support_forest.specs.Columns.{CanScan, IsScanned, column_word, scan_index};
 ghost use Rattle.support_forest.specs.Indices.{voxel_in};
-ghost use Rattle.support_forest.specs.Standing.{matrix_of};
+ghost use Rattle.support_forest.specs.ForestView.{matrix_of};
 ghost use Rattle.support_forest.specs.Words.{AreExact};
 
 use crate::add::add_cells;

@@ -2,12 +2,12 @@
 ghost use Rattle.std.specs.Prelude.{◌≡◌, ◌==◌, ℕ, ◌+◌, ◌<◌, ◌≤◌, IfOk, true};
 ghost use Rattle.vox_geom.specs.declared.coordinate.Coord.{Coord};
 ghost use Rattle.support_forest.specs.Grid.{word_at};
-ghost use Rattle.support_forest.specs.FillingOne.{AreBesideWords, CanFillOne, CanFillOneIn, IsAround, IsWordToward, LeavesRoom, MayLieUnder, MayStand, FillsOrStays, StandsOrStays};
+ghost use Rattle.support_forest.specs.FillingOne.{AreBesideWords, CanFillOne, CanFillOneIn, IsAround, IsWordToward, LeavesRoom, MayLieUnder, MayBeSupported, FillsOrStays, FillsSupportedOrStays};
 ghost use Rattle.support_forest.specs.Access.{LieInSpace};
 ghost use Rattle.support_forest.specs.Indices.{IsReadAt, voxel_in};
 ghost use Rattle.support_forest.specs.Words.{NoneOverhangs};
 
-use crate::beside::{Beside, place_in_chunk, words_beside, words_beyond};
+use crate::beside::{Beside, offset_in_chunk, words_beside, words_beyond};
 use crate::cells::Cells;
 use crate::toward::{word_beside, word_over_floor, word_toward};
 use brick_arena::Chunk;
@@ -149,7 +149,7 @@ pub fn look_at<L: Ledger>(
             index,
             slot,
             cells.chunk(slot),
-            place_in_chunk(slot, index),
+            offset_in_chunk(slot, index),
             is_on_floor,
             steps,
         ),
@@ -168,8 +168,8 @@ fn leaves_room(word: u32, height: u32) -> bool
 
 /// Returns whether a void voxel can be filled as a child of the voxel below without a change of another level.
 #[inline(always)]
-fn may_stand(beside: Beside) -> bool
-    ensures { result ≡ true → MayStand beside }
+fn may_be_supported(beside: Beside) -> bool
+    ensures { result ≡ true → MayBeSupported beside }
 {
     let height = beside.under / 8;
     height > 0
@@ -188,9 +188,9 @@ fn may_lie_under(word: u32) -> bool
     word == 0 || (word >= 8 && word < 24)
 }
 
-/// Like [`place`], for a voxel that neither the floor nor the voxel below can support without a change of another level.
+/// Like [`fill_locally`], for a voxel that neither the floor nor the voxel below can support without a change of another level.
 #[inline(never)]
-fn place_beside<L: Ledger>(
+fn fill_beside<L: Ledger>(
     cells: &mut Cells,
     c: Coord,
     beside: Beside,
@@ -214,9 +214,9 @@ fn place_beside<L: Ledger>(
     Ok(true)
 }
 
-/// Like [`place`], for a voxel whose brick has no slot.
+/// Like [`fill_locally`], for a voxel whose brick has no slot.
 #[inline(never)]
-fn place_first<L: Ledger>(
+fn fill_in_void_brick<L: Ledger>(
     cells: &mut Cells,
     c: Coord,
     steps: &mut Steps<L>,
@@ -225,17 +225,17 @@ fn place_first<L: Ledger>(
     ensures { IfOk result (λ done. FillsOrStays done cells.old cells.new c steps.old steps.new) }
 {
     let beside = words_beyond(cells, cells.index_of(c), steps);
-    place_beside(cells, c, beside, steps)
+    fill_beside(cells, c, beside, steps)
 }
 
-/// Like [`place`], on the floor.
+/// Like [`fill_locally`], on the floor.
 ///
 /// There a full voxel has level 0, so only the level of the voxel above can change.
 #[inline(always)]
-fn place_on_floor<L: Ledger>(cells: &mut Cells, c: Coord, slot: u32, steps: &mut Steps<L>) -> bool
-    requires place { CanFillOneIn cells.old c slot }
+fn fill_on_floor<L: Ledger>(cells: &mut Cells, c: Coord, slot: u32, steps: &mut Steps<L>) -> bool
+    requires can { CanFillOneIn cells.old c slot }
     requires floor { c.y ≡ 0 }
-    ensures { StandsOrStays result cells.old cells.new c steps.old steps.new }
+    ensures { FillsSupportedOrStays result cells.old cells.new c steps.old steps.new }
 {
     let over = word_over_floor(cells, c, slot, steps);
     if !may_lie_under(over) {
@@ -245,9 +245,9 @@ fn place_on_floor<L: Ledger>(cells: &mut Cells, c: Coord, slot: u32, steps: &mut
     true
 }
 
-/// Like [`place`], above the floor, for a voxel whose brick has this slot.
+/// Like [`fill_locally`], above the floor, for a voxel whose brick has this slot.
 #[inline(always)]
-fn place_in<L: Ledger>(
+fn fill_above_floor<L: Ledger>(
     cells: &mut Cells,
     c: Coord,
     slot: u32,
@@ -257,18 +257,18 @@ fn place_in<L: Ledger>(
     ensures { IfOk result (λ done. FillsOrStays done cells.old cells.new c steps.old steps.new) }
 {
     let beside = words_beside(cells, cells.index_of(c), steps);
-    if may_stand(beside) {
+    if may_be_supported(beside) {
         cells.write(slot, c, 0, 8 * (beside.under / 8) + 11, steps);
         return Ok(true);
     }
-    place_beside(cells, c, beside, steps)
+    fill_beside(cells, c, beside, steps)
 }
 
 /// Fills a void voxel if that changes no other level, and returns whether it did; otherwise changes nothing.
 ///
 /// Each path reads its own words, so that they stay in registers.
 #[inline(always)]
-pub fn place<L: Ledger>(
+pub fn fill_locally<L: Ledger>(
     cells: &mut Cells,
     c: Coord,
     steps: &mut Steps<L>,
@@ -277,12 +277,12 @@ pub fn place<L: Ledger>(
     ensures { IfOk result (λ done. FillsOrStays done cells.old cells.new c steps.old steps.new) }
 {
     let Some(slot) = cells.slot(c) else {
-        return place_first(cells, c, steps);
+        return fill_in_void_brick(cells, c, steps);
     };
     if c.y == 0 {
-        return Ok(place_on_floor(cells, c, slot, steps));
+        return Ok(fill_on_floor(cells, c, slot, steps));
     }
-    place_in(cells, c, slot, steps)
+    fill_above_floor(cells, c, slot, steps)
 }
 
 /// Like [`try_fill`], above the floor, for a voxel whose brick has this slot.
@@ -291,11 +291,11 @@ pub fn place<L: Ledger>(
 #[inline(always)]
 fn fill_by<L: Ledger>(cells: &mut Cells, index: u32, slot: u32, steps: &mut Steps<L>) -> bool
     requires { CanFillOneIn cells.old (voxel_in cells.old index) slot }
-    ensures { StandsOrStays result cells.old cells.new (voxel_in cells.old index) steps.old steps.new }
+    ensures { FillsSupportedOrStays result cells.old cells.new (voxel_in cells.old index) steps.old steps.new }
 {
     cells.recall();
     let chunk = cells.chunk(slot);
-    let at = place_in_chunk(slot, index);
+    let at = offset_in_chunk(slot, index);
     let under = word_beside::<3, L>(cells, index, slot, chunk, at, steps);
     let height = under / 8;
     if height == 0 {
@@ -329,7 +329,7 @@ fn fill_by<L: Ledger>(cells: &mut Cells, index: u32, slot: u32, steps: &mut Step
 #[inline(never)]
 fn fill_lowest<L: Ledger>(cells: &mut Cells, index: u32, slot: u32, steps: &mut Steps<L>) -> bool
     requires { CanFillOneIn cells.old (voxel_in cells.old index) slot }
-    ensures { StandsOrStays result cells.old cells.new (voxel_in cells.old index) steps.old steps.new }
+    ensures { FillsSupportedOrStays result cells.old cells.new (voxel_in cells.old index) steps.old steps.new }
 {
     fill_by(cells, index, slot, steps)
 }
@@ -338,7 +338,7 @@ fn fill_lowest<L: Ledger>(cells: &mut Cells, index: u32, slot: u32, steps: &mut 
 #[inline(always)]
 fn fill_in<L: Ledger>(cells: &mut Cells, index: u32, slot: u32, steps: &mut Steps<L>) -> bool
     requires { CanFillOneIn cells.old (voxel_in cells.old index) slot }
-    ensures { StandsOrStays result cells.old cells.new (voxel_in cells.old index) steps.old steps.new }
+    ensures { FillsSupportedOrStays result cells.old cells.new (voxel_in cells.old index) steps.old steps.new }
 {
     if index % 512 < 64 {
         return fill_lowest(cells, index, slot, steps);
@@ -358,11 +358,11 @@ fn fill_without_overhangs<L: Ledger>(
 ) -> bool
     requires can { CanFillOneIn cells.old (voxel_in cells.old index) slot }
     requires without_overhangs { NoneOverhangs (word_at cells.old) }
-    ensures { StandsOrStays result cells.old cells.new (voxel_in cells.old index) steps.old steps.new }
+    ensures { FillsSupportedOrStays result cells.old cells.new (voxel_in cells.old index) steps.old steps.new }
 {
     cells.recall();
     let chunk = cells.chunk(slot);
-    let at = place_in_chunk(slot, index);
+    let at = offset_in_chunk(slot, index);
     let under = word_beside::<3, L>(cells, index, slot, chunk, at, steps);
     if under == 0 {
         return false;
@@ -377,14 +377,14 @@ fn fill_without_overhangs<L: Ledger>(
 #[inline(always)]
 pub fn try_fill<L: Ledger>(cells: &mut Cells, c: Coord, steps: &mut Steps<L>) -> bool
     requires { CanFillOne cells.old c }
-    ensures { StandsOrStays result cells.old cells.new c steps.old steps.new }
+    ensures { FillsSupportedOrStays result cells.old cells.new c steps.old steps.new }
 {
     let index = cells.index_of(c);
     let Some(slot) = cells.slot_at(index) else {
         return false;
     };
     if c.y == 0 {
-        return place_on_floor(cells, c, slot, steps);
+        return fill_on_floor(cells, c, slot, steps);
     }
     if cells.has_no_overhangs() {
         return fill_without_overhangs(cells, index, slot, steps);

@@ -6,7 +6,7 @@ ghost use Rattle.support_forest.specs.Floating.{FirstOne, words_along, words_fro
 ghost use Rattle.support_forest.specs.Grid.{FloatsFirst, NoneFloatsBelow};
 ghost use Rattle.support_forest.specs.Segments.{LieInRow};
 
-use crate::cells::{BRICK_SIDE, Cells, place_in_slot};
+use crate::cells::{BRICK_SIDE, Cells, offset_in_slot};
 use brick_arena::{Chunk, start_in_chunk};
 use std::sync::ledger::Ledger;
 use vox_geom::{Coord, Steps};
@@ -39,7 +39,7 @@ fn first_in_part<L: Ledger>(
 {
     match cells.slot(at) {
         Some(slot) => {
-            let from = start_in_chunk(slot) + usize::from(place_in_slot(at));
+            let from = start_in_chunk(slot) + usize::from(offset_in_slot(at));
             first_one(cells.chunk(slot), from, count, steps)
         }
         None => None,

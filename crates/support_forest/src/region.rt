@@ -9,7 +9,7 @@ ghost use Rattle.support_forest.specs.Regions.{AreVoided, IsInRegion, IsInRow, I
 ghost use Rattle.support_forest.specs.Segments.{IsBrickRow, LieInRow, further, whole_row_start};
 ghost use Rattle.support_forest.specs.Words.{AreExact};
 
-use crate::beside::place_in_chunk;
+use crate::beside::offset_in_chunk;
 use crate::cells::{BRICK_SIDE, Cells};
 use crate::indices::index_along;
 use crate::segment::{clear_row, part_is_free, start_of_row};
@@ -52,7 +52,7 @@ fn row_is_void<L: Ledger>(cells: &Cells, own: u32, index: u32, steps: &mut Steps
     }
     cells.recall();
     let chunk = cells.chunk(own);
-    let from = place_in_chunk(own, start_of_row(index));
+    let from = offset_in_chunk(own, start_of_row(index));
     words_are_void(chunk, from, BRICK_SIDE, steps)
 }
 
@@ -88,7 +88,7 @@ fn list_part<L: Ledger>(
 
 /// Voids the full voxels of a part of a row in one brick, or defers them. The first of them is at that index.
 #[inline(always)]
-fn take_part<L: Ledger>(
+fn void_part<L: Ledger>(
     cells: &mut Cells,
     first: Coord,
     index: u32,
@@ -118,7 +118,7 @@ fn take_part<L: Ledger>(
 }
 
 /// Voids the full voxels of a row from one on, before `end`, or defers them.
-fn take_row<L: Ledger>(
+fn void_row<L: Ledger>(
     cells: &mut Cells,
     first: Coord,
     end: u16,
@@ -141,13 +141,13 @@ fn take_row<L: Ledger>(
         let part = ((left - 1) % BRICK_SIDE + 1).min(left - first.z);
         left -= part;
         let at = Coord { z: left, ..first };
-        take_part(cells, at, index_along(line, left), part, rest, steps)?;
+        void_part(cells, at, index_along(line, left), part, rest, steps)?;
     }
     Ok(())
 }
 
 /// Voids the full voxels of a region with this x, or defers them.
-fn take_wall<L: Ledger>(
+fn void_wall<L: Ledger>(
     cells: &mut Cells,
     b: &Region,
     x: u16,
@@ -168,13 +168,13 @@ fn take_wall<L: Ledger>(
     let mut y = high.y + 1;
     while y > low.y {
         y -= 1;
-        take_row(cells, Coord { x, y, z: low.z }, high.z + 1, rest, steps)?;
+        void_row(cells, Coord { x, y, z: low.z }, high.z + 1, rest, steps)?;
     }
     Ok(())
 }
 
 /// Voids the full voxels of a region or defers them, from the last to the first, so that children come before their parents.
-pub fn take_region<L: Ledger>(
+pub fn void_region<L: Ledger>(
     cells: &mut Cells,
     b: &Region,
     rest: &mut Vec<Coord>,
@@ -192,7 +192,7 @@ pub fn take_region<L: Ledger>(
     let mut x = high.x + 1;
     while x > low.x {
         x -= 1;
-        take_wall(cells, b, x, rest, steps)?;
+        void_wall(cells, b, x, rest, steps)?;
     }
     Ok(())
 }

@@ -5,14 +5,14 @@ ghost use Rattle.std.specs.Prelude.{◌≡◌, ℕ, ◌+◌, ◌-◌, ◌*◌, �
 ghost use Rattle.vox_geom.specs.Space.{IsInSpace};
 ghost use Rattle.vox_geom.specs.declared.coordinate.Coord.{Coord};
 ghost use Rattle.support_forest.specs.Access.{LieInBrick};
-ghost use Rattle.support_forest.specs.Grid.{Grid, StandsIn, slot_of, word_at};
+ghost use Rattle.support_forest.specs.Grid.{Grid, LiesAtOffset, slot_of, word_at};
 ghost use Rattle.support_forest.specs.Indices.{IsReadAt, voxel_in, voxel_of};
-ghost use Rattle.support_forest.specs.Segments.{AreCleared, CanClear, EndsAreFree, IsBrickRow, IsSegment, LieInRow, RowHangsNot, RowIsFree, SideHangsNot, SidesAreFree, TakesMore, WordsHangNot, whole_row_start};
+ghost use Rattle.support_forest.specs.Segments.{AreCleared, CanClear, EndsAreFree, IsBrickRow, IsSegment, LieInRow, RowHangsNot, RowIsFree, SideHangsNot, SidesAreFree, VoidsMore, WordsHangNot, whole_row_start};
 ghost use Rattle.support_forest.specs.Words.{AreExact, IsWritten};
 
-use crate::beside::place_in_chunk;
+use crate::beside::offset_in_chunk;
 use crate::cells::{BRICK_SIDE, Cells};
-use crate::toward::{index_across, place_toward, word_toward};
+use crate::toward::{index_across, offset_toward, word_toward};
 use crate::void_one::{hangs, try_void};
 use brick_arena::Chunk;
 use std::alloc::AllocError;
@@ -81,13 +81,13 @@ fn row_is_free<L: Ledger>(
 ) -> bool
     requires number { index / 512 < length cells.now.table }
     requires row { index % 8 + count ≤ 8 }
-    ensures none { result ≡ true → (q : Coord) → StandsIn cells.now.resolution (index / 512) (index % 512) q
+    ensures none { result ≡ true → (q : Coord) → LiesAtOffset cells.now.resolution (index / 512) (index % 512) q
         → RowHangsNot (word_at cells.now) q count toward }
     ensures touches { steps.new ≤ steps.old + count }
 {
     match cells.slot_beyond(index) {
         Some(slot) => {
-            let from = place_in_chunk(slot, index);
+            let from = offset_in_chunk(slot, index);
             words_hang_not(cells.chunk(slot), from, count, toward, steps)
         }
         None => true,
@@ -115,7 +115,7 @@ fn side_is_free<const D: u8, L: Ledger>(
     ensures touches { steps.new ≤ steps.old + count }
 {
     cells.recall();
-    if let Some(from) = place_toward::<D>(index, at) {
+    if let Some(from) = offset_toward::<D>(index, at) {
         return words_hang_not(chunk, from, count, toward, steps);
     }
     match index_across::<D>(cells, index) {
@@ -143,7 +143,7 @@ fn sides_are_free<L: Ledger>(
 {
     cells.recall();
     let chunk = cells.chunk(own);
-    let at = place_in_chunk(own, index);
+    let at = offset_in_chunk(own, index);
     if !side_is_free::<4, L>(cells, index, own, chunk, at, count, 3, steps) {
         return false;
     }
@@ -180,7 +180,7 @@ fn ends_are_free<L: Ledger>(
     }
     cells.recall();
     let chunk = cells.chunk(own);
-    let at = place_in_chunk(own, index);
+    let at = offset_in_chunk(own, index);
     let near = word_toward::<5, L>(cells, index, own, chunk, at, steps);
     if hangs(near, 6) {
         return false;
@@ -385,7 +385,7 @@ fn list_voxels(
     requires within { end ≤ length gone.now }
     ensures { (now : Grid) (steps : ℕ)
         → IfOk result
-        (λ _. TakesMore now now gone.now end start rest.old.items rest.new.items steps (steps + 6 * (end - start))) }
+        (λ _. VoidsMore now now gone.now end start rest.old.items rest.new.items steps (steps + 6 * (end - start))) }
 {
     let mut left = end;
     while left > start {
@@ -409,7 +409,7 @@ pub fn void_segment<L: Ledger>(
     requires full { (k : ℕ) (c : Coord) → k < end → c ≡ slice_index_or gone.now k c → 0 < word_at cells.old c }
     ensures before { IfOk result (λ start. start < end) }
     ensures taken { IfOk result
-        (λ start. TakesMore cells.old cells.new gone.now end start rest.old.items rest.new.items steps.old steps.new) }
+        (λ start. VoidsMore cells.old cells.new gone.now end start rest.old.items rest.new.items steps.old steps.new) }
 {
     let count = segment_before(gone, end);
     let start = end - usize::from(count);

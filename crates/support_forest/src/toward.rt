@@ -4,17 +4,17 @@ ghost use Rattle.vox_geom.specs.Space.{IsInSpace};
 ghost use Rattle.vox_geom.specs.declared.coordinate.Coord.{Coord};
 ghost use Rattle.support_forest.specs.Access.{LieInSpace, ReadsToward};
 ghost use Rattle.support_forest.specs.Grid.{slot_of, word_at};
-ghost use Rattle.support_forest.specs.FillingOne.{EndsBrick, IsPlaceToward, IsIndexAcross, IsWordToward, NoneToward};
+ghost use Rattle.support_forest.specs.FillingOne.{EndsBrick, IsMovedOffsetToward, IsIndexAcross, IsWordToward, NoneToward};
 ghost use Rattle.support_forest.specs.Indices.{IsReadAt, voxel_of, voxel_in};
 
-use crate::cells::{BRICK_LAYER, BRICK_WORDS, Cells, place_in_slot};
+use crate::cells::{BRICK_LAYER, BRICK_WORDS, Cells, offset_in_slot};
 use brick_arena::Chunk;
 use std::sync::ledger::Ledger;
 use vox_geom::{Coord, Steps};
 
 /// Returns the offset one step lower, or `None` if `part` is within the first step. `part` is the index modulo eight steps.
 #[inline(always)]
-fn place_below(part: usize, at: usize, step: usize) -> Option<usize>
+fn offset_below(part: usize, at: usize, step: usize) -> Option<usize>
     requires { step ≤ part → step ≤ at }
     ensures { MatchOption result (part < step) (λ i. (step ≤ part) × (i + step ≡ at)) }
 {
@@ -26,7 +26,7 @@ fn place_below(part: usize, at: usize, step: usize) -> Option<usize>
 
 /// Returns the offset one step higher, or `None` if `part` is within the last step.
 #[inline(always)]
-fn place_above(part: usize, at: usize, step: usize) -> Option<usize>
+fn offset_above(part: usize, at: usize, step: usize) -> Option<usize>
     requires { (at < 2 ^ 31) × (step ≤ 64) }
     ensures { MatchOption result (7 * step ≤ part) (λ i. (part < 7 * step) × (i ≡ at + step)) }
 {
@@ -39,20 +39,20 @@ fn place_above(part: usize, at: usize, step: usize) -> Option<usize>
 /// Returns the offset of the word of the neighbor in a direction, if it lies in the same brick. `at` is the offset of the voxel's
 /// own word.
 #[inline(always)]
-pub fn place_toward<const D: u8>(index: u32, at: usize) -> Option<usize>
+pub fn offset_toward<const D: u8>(index: u32, at: usize) -> Option<usize>
     requires direction { (0 < D) × (D ≤ 6) }
     requires own { index % 512 ≤ at }
     requires fits { at < 2 ^ 31 }
     ensures { (side : ℕ) → MatchOption result (EndsBrick (voxel_of side index) D)
-        (IsPlaceToward (voxel_of side index) D (index % 512) at) }
+        (IsMovedOffsetToward (voxel_of side index) D (index % 512) at) }
 {
     match D {
-        1 => place_below((index % 64) as usize, at, 8),
-        2 => place_above((index % 64) as usize, at, 8),
-        3 => place_below((index % 512) as usize, at, 64),
-        4 => place_above((index % 512) as usize, at, 64),
-        5 => place_below((index % 8) as usize, at, 1),
-        _ => place_above((index % 8) as usize, at, 1),
+        1 => offset_below((index % 64) as usize, at, 8),
+        2 => offset_above((index % 64) as usize, at, 8),
+        3 => offset_below((index % 512) as usize, at, 64),
+        4 => offset_above((index % 512) as usize, at, 64),
+        5 => offset_below((index % 8) as usize, at, 1),
+        _ => offset_above((index % 8) as usize, at, 1),
     }
 }
 
@@ -127,7 +127,7 @@ pub fn word_beyond<const D: u8, L: Ledger>(cells: &Cells, index: u32, steps: &mu
     ensures { ReadsToward cells.now index D result steps.old steps.new }
 {
     cells.recall();
-    if let Some(next) = place_toward::<D>(index, index as usize) {
+    if let Some(next) = offset_toward::<D>(index, index as usize) {
         return cells.word_at_index(next as u32, steps);
     }
     word_across::<D, L>(cells, index, steps)
@@ -151,7 +151,7 @@ pub fn word_toward<const D: u8, L: Ledger>(
     ensures { ReadsToward cells.now index D result steps.old steps.new }
 {
     cells.recall();
-    if let Some(i) = place_toward::<D>(index, at) {
+    if let Some(i) = offset_toward::<D>(index, at) {
         return chunk.word(i, steps);
     }
     word_across::<D, L>(cells, index, steps)
@@ -174,7 +174,7 @@ pub fn word_beside<const D: u8, L: Ledger>(
     ensures { ReadsToward cells.now index D result steps.old steps.new }
 {
     cells.recall();
-    if let Some(i) = place_toward::<D>(index, at) {
+    if let Some(i) = offset_toward::<D>(index, at) {
         return chunk.word(i, steps);
     }
     word_apart::<D, L>(cells, index, steps)
@@ -191,5 +191,5 @@ pub fn word_over_floor<L: Ledger>(cells: &Cells, c: Coord, slot: u32, steps: &mu
     ensures touch { steps.new ≤ steps.old + 1 }
 {
     cells.recall();
-    cells.word_of(slot, place_in_slot(c) + BRICK_LAYER, steps)
+    cells.word_of(slot, offset_in_slot(c) + BRICK_LAYER, steps)
 }

@@ -6,7 +6,7 @@ ghost use Rattle.support_forest.specs.Indices.{voxel_in};
 ghost use Rattle.support_forest.specs.Words.{NoneOverhangs};
 ghost use Rattle.support_forest.specs.VoidingOne.{CanVoid, HangsNot, VoidsOrStays, TellsParent};
 
-use crate::beside::place_in_chunk;
+use crate::beside::offset_in_chunk;
 use crate::cells::Cells;
 use crate::toward::{word_beside, word_over_floor};
 use std::sync::ledger::Ledger;
@@ -29,7 +29,7 @@ fn is_parent_in<L: Ledger>(cells: &Cells, index: u32, slot: u32, steps: &mut Ste
 {
     cells.recall();
     let chunk = cells.chunk(slot);
-    let at = place_in_chunk(slot, index);
+    let at = offset_in_chunk(slot, index);
     let over = word_beside::<4, L>(cells, index, slot, chunk, at, steps);
     if hangs(over, 3) {
         return true;
@@ -121,7 +121,7 @@ fn void_without_overhangs<L: Ledger>(
 {
     cells.recall();
     let chunk = cells.chunk(slot);
-    let at = place_in_chunk(slot, index);
+    let at = offset_in_chunk(slot, index);
     let over = word_beside::<4, L>(cells, index, slot, chunk, at, steps);
     if over != 0 {
         return false;

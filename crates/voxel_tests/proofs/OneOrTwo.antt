@@ -5,7 +5,7 @@ use Rattle.std.specs.List.{AllPairs, Contains}
 use Rattle.vox_geom.specs.declared.coordinate.Coord.{Coord}
 use Rattle.vox_geom.specs.Space.{IsInSpace}
 use Rattle.nano_spec.specs.Matrix.{Matrix, is_full}
-use Rattle.support_forest.specs.Standing.{Says, MayAdd, MayRemove}
+use Rattle.support_forest.specs.ForestView.{Says, MayAdd, MayRemove}
 
 pub void_word : (m : Matrix) (c : Coord) (word : ℕ) → Says m c word → word ≡ 0 → IsFalse (is_full m c)
 void_word m c word (inl s) e = s.1

@@ -1,7 +1,7 @@
 //! Edits of a forest of `support_forest` whose preconditions a test checks, by the words of the voxels.
 ghost use Rattle.std.specs.Prelude.{◌≡◌, ◌≢◌, false, IfOk};
 ghost use Rattle.vox_geom.specs.Space.{IsInSpace};
-ghost use Rattle.support_forest.specs.Standing.{Says};
+ghost use Rattle.support_forest.specs.ForestView.{Says};
 
 use std::process::Abort;
 use std::sync::ledger::Ledger;

@@ -5,7 +5,7 @@ ghost use Rattle.nano_spec.specs.Serial.{leader_bids, serial};
 ghost use Rattle.nano_spec.specs.State.{IsWellFormed};
 ghost use Rattle.step_machine.specs.Restoring.{IsNotMade};
 ghost use Rattle.step_machine.specs.Stepped.{Stepped};
-ghost use Rattle.support_forest.specs.Standing.{MayAdd, MayRemove};
+ghost use Rattle.support_forest.specs.ForestView.{MayAdd, MayRemove};
 ghost use Rattle.step_machine.specs.Undoing.{HaveChanged, IsUndoneBy, MayUndo, matrix_before, state_before, without_filled, without_note};
 
 use super::{Machine, StepFault, StepOk, recall_step, tell_made};

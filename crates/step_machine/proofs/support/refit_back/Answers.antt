@@ -1,7 +1,7 @@
 use Rattle.std.proofs.Common.{sym, ◌∙◌, ap, arith, subst, true}
 use Rattle.nano_spec.specs.Matrix.{Matrix}
 use Rattle.nano_spec.specs.Work.{Levels}
-use Rattle.support_forest.specs.Standing.{MayAdd}
+use Rattle.support_forest.specs.ForestView.{MayAdd}
 use Rattle.system_state.specs.Painting.{with_cells}
 use Rattle.step_machine.proofs.Taking.{added_is, removed_is}
 use Rattle.step_machine.proofs.Weighing.{levels_of_all}

@@ -2,9 +2,9 @@ use Rattle.std.proofs.Common.{◌+◌, ◌≤◌, arith, refl}
 use Rattle.vox_geom.proofs.Sums.{most_cube}
 use Rattle.support_forest.specs.declared.beside.Beside.{Beside}
 use Rattle.support_forest.specs.Grid.{word_at}
-use Rattle.support_forest.specs.FillingOne.{AreBesideWords, MayStand}
+use Rattle.support_forest.specs.FillingOne.{AreBesideWords, MayBeSupported}
 use Rattle.support_forest.specs.Indices.{voxel_in}
-use Rattle.support_forest.proofs.FillingOne.{placed_over, under_small}
+use Rattle.support_forest.proofs.FillingOne.{filled_over, under_small}
 use Rattle.support_forest.proofs.fill_one.fill_by.Goals as goal
 
 pub chunk-chunk-requires : goal.chunk-chunk-requires
@@ -27,7 +27,7 @@ returns g c =
       near = c.word_beside-near.ensures.word;
       far = c.word_beside-far.ensures.word;
     } in
-    let stands : MayStand beside = record {
+    let stands : MayBeSupported beside = record {
       under = omega (arith, c.if-height-eq0.false);
       left = c.if-not-leaves_room.ensures refl;
       right = c.if-not-leaves_room-2.ensures refl;
@@ -37,7 +37,7 @@ returns g c =
     } in
     let touches : c.word_beside-far.new.steps ≤ c.args.steps.now + 6 = omega (arith, c.word_beside-under.ensures.touch, c.word_beside-left.ensures.touch, c.word_beside-right.ensures.touch, c.word_beside-over.ensures.touch, c.word_beside-near.ensures.touch, c.word_beside-far.ensures.touch) in
     record {
-      placed = placed_over c.args.cells.now c.write_at.new.self (voxel_in c.args.cells.now c.args.index) beside c.args.steps.now c.word_beside-far.new.steps c.write_at.new.steps
+      filled = filled_over c.args.cells.now c.write_at.new.self (voxel_in c.args.cells.now c.args.index) beside c.args.steps.now c.word_beside-far.new.steps c.write_at.new.steps
           c.requires.can.exact c.requires.can.within c.requires.can.void words stands c.write_at.ensures.written c.write_at.ensures.resolution touches c.write_at.ensures.touch;
       held = λ _. omega (arith, c.write_at.ensures.written.here);
     }

@@ -8,11 +8,11 @@ use Rattle.support_forest.proofs.remove.remove_region.Goals as goal
 
 pub remove_and_settle-requires : goal.remove_and_settle-requires
 remove_and_settle-requires g c =
-    subst (λ (xs : List Coord). CanRemove c.take_region.new.cells xs) (sym c.as_slice.ensures.value)
-    (can_remove_rest c.args.cells.now c.take_region.new.cells (IsInRegion c.args.b.now) (size (span c.args.b.now)) c.take_rest-rest.result.items c.take_region.new.rest.items c.take_rest-rest.ensures c.in_ok-take_region.ensures.voided)
+    subst (λ (xs : List Coord). CanRemove c.void_region.new.cells xs) (sym c.as_slice.ensures.value)
+    (can_remove_rest c.args.cells.now c.void_region.new.cells (IsInRegion c.args.b.now) (size (span c.args.b.now)) c.take_rest-rest.result.items c.void_region.new.rest.items c.take_rest-rest.ensures c.in_ok-void_region.ensures.voided)
 
 pub returns : goal.returns
 returns g c =
-    voided_and_removed c.args.cells.now c.take_region.new.cells c.remove_and_settle.new.cells (IsInRegion c.args.b.now) (size (span c.args.b.now)) c.take_rest-rest.result.items c.take_region.new.rest.items c.args.steps.now c.take_region.new.steps c.remove_and_settle.new.steps
-    c.take_rest-rest.ensures c.in_ok-take_region.ensures.voided c.in_ok-take_region.ensures.touches
-    (subst (λ (xs : List Coord). HaveRemoved c.take_region.new.cells c.remove_and_settle.new.cells xs 56 c.take_region.new.steps c.remove_and_settle.new.steps) c.as_slice.ensures.value c.in_ok-remove_and_settle.ensures)
+    voided_and_removed c.args.cells.now c.void_region.new.cells c.remove_and_settle.new.cells (IsInRegion c.args.b.now) (size (span c.args.b.now)) c.take_rest-rest.result.items c.void_region.new.rest.items c.args.steps.now c.void_region.new.steps c.remove_and_settle.new.steps
+    c.take_rest-rest.ensures c.in_ok-void_region.ensures.voided c.in_ok-void_region.ensures.touches
+    (subst (λ (xs : List Coord). HaveRemoved c.void_region.new.cells c.remove_and_settle.new.cells xs 56 c.void_region.new.steps c.remove_and_settle.new.steps) c.as_slice.ensures.value c.in_ok-remove_and_settle.ensures)

@@ -36,7 +36,7 @@ word_toward-far-requires-clause-read g c =
       slot = subst (λ (p : Coord). slot_of cells p ≡ Some c.args.own) (sym last) (sym (row_slot cells (voxel_in cells c.args.index) c.args.count (c.args.count - 1) (Some c.args.own) c.requires.row (omega arith) (sym c.requires.own)));
       space = c.requires.space;
       chunk = c.chunk-chunk.ensures;
-      at = omega (arith, c.place_in_chunk-at.ensures, c.from-2.ensures);
+      at = omega (arith, c.offset_in_chunk-at.ensures, c.from-2.ensures);
     }
 
 pub returns-then-has_no_overhangs-clause-free : goal.returns-then-has_no_overhangs-clause-free

@@ -1,7 +1,7 @@
 use Rattle.std.proofs.Common.{◌≡◌, ℕ, ◌+◌, ◌-◌, ◌*◌, ◌≤◌, get_or, arith, subst}
 use Rattle.std.proofs.lemmas.List.{get_or_default}
 use Rattle.vox_geom.specs.declared.coordinate.Coord.{Coord}
-use Rattle.support_forest.specs.Segments.{TakesMore}
+use Rattle.support_forest.specs.Segments.{VoidsMore}
 use Rattle.support_forest.proofs.Clearing.{list_more}
 use Rattle.support_forest.proofs.segment.list_voxels.Goals as goal
 
@@ -23,4 +23,4 @@ returns c =
     let at_most_left : c.args.start ≤ c.loop-left.left = invariant.0 in
     let at_end = c.loop-left-test.false in
     let left_is : c.loop-left.left ≡ c.args.start = omega arith in
-    λ now steps. subst (λ (k : ℕ). TakesMore now now c.args.gone.now c.args.end k c.args.rest.now.items c.loop-left.rest.items steps (steps + 6 * (c.args.end - k))) left_is (invariant.1.1 now steps)
+    λ now steps. subst (λ (k : ℕ). VoidsMore now now c.args.gone.now c.args.end k c.args.rest.now.items c.loop-left.rest.items steps (steps + 6 * (c.args.end - k))) left_is (invariant.1.1 now steps)

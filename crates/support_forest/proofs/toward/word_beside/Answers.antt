@@ -1,16 +1,16 @@
 use Rattle.std.proofs.Common.{arith}
 use Rattle.support_forest.specs.Grid.{side}
-use Rattle.support_forest.proofs.Store.{slot_place_below}
-use Rattle.support_forest.proofs.Within.{place_is, word_in_chunk}
+use Rattle.support_forest.proofs.Store.{slot_offset_below}
+use Rattle.support_forest.proofs.Within.{offset_is, word_in_chunk}
 use Rattle.support_forest.proofs.toward.word_beside.Goals as goal
 
 pub word-requires : goal.word-requires
 word-requires g c =
     let place = c.in-Some.ensures (side c.args.cells.now.resolution) in
-    let is = place_is c.args.cells.now c.args.index c.args.slot g.row.D c.args.at c.in-Some.i c.args.chunk.now c.requires.read place in
-    let below = slot_place_below place.toward.there in
+    let is = offset_is c.args.cells.now c.args.index c.args.slot g.row.D c.args.at c.in-Some.i c.args.chunk.now c.requires.read place in
+    let below = slot_offset_below place.toward.there in
     let full = c.requires.read.chunk.full in
-    omega (arith, place.toward.at_place)
+    omega (arith, place.toward.at_offset)
 
 pub returns-in-Some : goal.returns-in-Some
 returns-in-Some g c = record {

@@ -12,12 +12,12 @@ pub overflow_mul-result : goal.overflow_mul-result
 overflow_mul-result c = let few = few_numbers c.args.self.now.resolution c.args.at c.recall.ensures.few c.requires in let number = c.brick_number.ensures.value in omega arith
 
 pub overflow_add-result : goal.overflow_add-result
-overflow_add-result c = let few = few_numbers c.args.self.now.resolution c.args.at c.recall.ensures.few c.requires in let number = c.brick_number.ensures.value in let below = c.place_in_slot.ensures.below in omega (arith, c.from.ensures)
+overflow_add-result c = let few = few_numbers c.args.self.now.resolution c.args.at c.recall.ensures.few c.requires in let number = c.brick_number.ensures.value in let below = c.offset_in_slot.ensures.below in omega (arith, c.from.ensures)
 
 pub returns-clause-value : goal.returns-clause-value
 unfolding store_index
-returns-clause-value c = omega (arith, c.brick_number.ensures.value, c.from.ensures, c.place_in_slot.ensures.value)
+returns-clause-value c = omega (arith, c.brick_number.ensures.value, c.from.ensures, c.offset_in_slot.ensures.value)
 
 pub returns-clause-voxel : goal.returns-clause-voxel
 unfolding store_index
-returns-clause-voxel c = ap (voxel_of (side c.args.self.now.resolution)) (omega (arith, c.brick_number.ensures.value, c.from.ensures, c.place_in_slot.ensures.value)) ∙ voxel_at_index c.args.self.now.resolution c.args.at (brick_inside c.args.self.now.resolution c.args.at c.requires)
+returns-clause-voxel c = ap (voxel_of (side c.args.self.now.resolution)) (omega (arith, c.brick_number.ensures.value, c.from.ensures, c.offset_in_slot.ensures.value)) ∙ voxel_at_index c.args.self.now.resolution c.args.at (brick_inside c.args.self.now.resolution c.args.at c.requires)

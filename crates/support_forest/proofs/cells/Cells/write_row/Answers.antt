@@ -6,7 +6,7 @@ use Rattle.support_forest.specs.Indices.{voxel_in}
 use Rattle.support_forest.specs.Segments.{AreWritten}
 use Rattle.support_forest.proofs.Rowwise.{can_row, wrote_row}
 use Rattle.support_forest.proofs.Store.{index_there}
-use Rattle.support_forest.proofs.Voxels.{part_there, slot_place_at}
+use Rattle.support_forest.proofs.Voxels.{part_there, slot_offset_at}
 use Rattle.support_forest.proofs.cells.Cells.write_row.Goals as goal
 
 pub set_row-requires-clause-live : goal.set_row-requires-clause-live
@@ -20,7 +20,7 @@ invariant_of-self g c =
     let inside = c.self.inside in
     let old : Grid = record { resolution = inside.resolution; table = inside.table.items; bricks = inside.bricks } in
     let first : Coord = voxel_in c.args.self.now c.args.index in
-    let index : swapped (c.args.index % 512) ≡ word_index first = index_there first _ (sym (slot_place_at (side c.args.self.now.resolution) c.args.index)) in
+    let index : swapped (c.args.index % 512) ≡ word_index first = index_there first _ (sym (slot_offset_at (side c.args.self.now.resolution) c.args.index)) in
     let row_written = wrote_row old c.set_row.new.self first c.args.slot (swapped (c.args.index % 512)) c.args.word
     (can_row old c.args.self.now first c.args.slot (swapped (c.args.index % 512)) c.args.word c.self.view_is c.self.invariant.1.0 c.requires.row c.requires.slot index c.requires.level c.requires.levels c.set_row.ensures.written)
     c.set_row.ensures.value in
@@ -32,7 +32,7 @@ returns-clause-written g c =
     let old : Grid = record { resolution = inside.resolution; table = inside.table.items; bricks = inside.bricks } in
     let new : Grid = record { resolution = inside.resolution; table = inside.table.items; bricks = c.set_row.new.self } in
     let first : Coord = voxel_in c.args.self.now c.args.index in
-    let index : swapped (c.args.index % 512) ≡ word_index first = index_there first _ (sym (slot_place_at (side c.args.self.now.resolution) c.args.index)) in
+    let index : swapped (c.args.index % 512) ≡ word_index first = index_there first _ (sym (slot_offset_at (side c.args.self.now.resolution) c.args.index)) in
     let row_written = wrote_row old c.set_row.new.self first c.args.slot (swapped (c.args.index % 512)) c.args.word
     (can_row old c.args.self.now first c.args.slot (swapped (c.args.index % 512)) c.args.word c.self.view_is c.self.invariant.1.0 c.requires.row c.requires.slot index c.requires.level c.requires.levels c.set_row.ensures.written)
     c.set_row.ensures.value in

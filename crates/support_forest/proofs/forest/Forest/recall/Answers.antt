@@ -1,8 +1,8 @@
 use Rattle.std.proofs.Common.{◌≡◌, subst, length}
 use Rattle.nano_spec.specs.Model.{volume}
-use Rattle.support_forest.specs.Standing.{Standing}
-use Rattle.support_forest.proofs.Standing.{whole_of}
+use Rattle.support_forest.specs.ForestView.{ForestView}
+use Rattle.support_forest.proofs.ForestView.{whole_of}
 use Rattle.support_forest.proofs.forest.Forest.recall.Goals as goal
 
 pub returns : goal.returns
-returns c = record { whole = subst (λ (q : Standing). length q.matrix.voxels ≡ volume q.matrix.resolution) c.self.view_is (whole_of c.self.inside.cells) }
+returns c = record { whole = subst (λ (q : ForestView). length q.matrix.voxels ≡ volume q.matrix.resolution) c.self.view_is (whole_of c.self.inside.cells) }

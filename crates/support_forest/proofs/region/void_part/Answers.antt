@@ -4,7 +4,7 @@ use Rattle.vox_geom.specs.Space.{IsInSpace}
 use Rattle.support_forest.specs.Grid.{slot_of, word_at}
 use Rattle.support_forest.specs.Segments.{AreCleared, further, whole_row_start}
 use Rattle.support_forest.proofs.Voiding.{part_void, row_cleared_is, row_none, voided_already}
-use Rattle.support_forest.proofs.region.take_part.Goals as goal
+use Rattle.support_forest.proofs.region.void_part.Goals as goal
 
 pub slot_at-requires : goal.slot_at-requires
 slot_at-requires g c = subst (λ (p : Coord). IsInSpace c.args.cells.now.resolution p) (sym c.requires.index) c.requires.row.within

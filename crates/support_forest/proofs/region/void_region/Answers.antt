@@ -4,7 +4,7 @@ use Rattle.vox_planes.proofs.Walks.{size-walls}
 use Rattle.vox_planes.specs.Walk.{wall_size}
 use Rattle.support_forest.specs.Regions.{AreVoided, IsInRegion, IsInWalls}
 use Rattle.support_forest.proofs.Voiding.{more_steps, wall_before_region, walls_are_region}
-use Rattle.support_forest.proofs.region.take_region.Goals as goal
+use Rattle.support_forest.proofs.region.void_region.Goals as goal
 
 pub loop-x-preserved : goal.loop-x-preserved
 loop-x-preserved g c =
@@ -20,10 +20,10 @@ loop-x-preserved g c =
       (
         omega arith,
         (
-          more_steps corners.high.x difference_x (wall_size corners) c.args.steps.now c.loop-x.steps c.take_wall.new.steps (omega arith) steps_at_most c.in_ok-take_wall.ensures.touches,
-          wall_before_region c.args.cells.now c.loop-x.cells c.take_wall.new.cells corners difference_x c.args.rest.now.items c.loop-x.rest.items c.take_wall.new.rest.items (omega arith)
+          more_steps corners.high.x difference_x (wall_size corners) c.args.steps.now c.loop-x.steps c.void_wall.new.steps (omega arith) steps_at_most c.in_ok-void_wall.ensures.touches,
+          wall_before_region c.args.cells.now c.loop-x.cells c.void_wall.new.cells corners difference_x c.args.rest.now.items c.loop-x.rest.items c.void_wall.new.rest.items (omega arith)
               (subst (λ (n : ℕ). AreVoided c.args.cells.now c.loop-x.cells (IsInWalls corners n) ((corners.high.x + 1 - n) * wall_size corners) c.args.rest.now.items c.loop-x.rest.items) same_x invariant.1.1.1)
-              c.in_ok-take_wall.ensures.voided,
+              c.in_ok-void_wall.ensures.voided,
         ),
       ),
     )

@@ -1,7 +1,7 @@
 use Rattle.std.proofs.Common.{◌+◌, ◌-◌, ◌*◌, ◌≤◌}
 use Rattle.vox_planes.specs.Walk.{row_size}
 use Rattle.support_forest.specs.Regions.{AreVoided, IsInWall}
-use Rattle.support_forest.proofs.region.take_wall.Given as goal
+use Rattle.support_forest.proofs.region.void_wall.Given as goal
 
 abbrev pub invariant-loop-y : goal.invariant-loop-y
 invariant-loop-y g l = (l.b.low.y ≤ l.y) × ((l.y ≤ l.b.high.y + 1) × ((l.steps ≤ l.initial.steps + 40 * ((l.b.high.y + 1 - l.y) * row_size l.b))

@@ -1,7 +1,7 @@
 use Rattle.std.proofs.Common.{◌+◌, ◌-◌, ◌*◌, ◌≤◌}
 use Rattle.support_forest.specs.Regions.{AreVoided, IsInRow}
 use Rattle.support_forest.proofs.Voiding.{row_at}
-use Rattle.support_forest.proofs.region.take_row.Given as goal
+use Rattle.support_forest.proofs.region.void_row.Given as goal
 
 abbrev pub invariant-loop-left : goal.invariant-loop-left
 invariant-loop-left g l = (l.first.z ≤ l.left) × ((l.left ≤ l.end) × ((l.steps ≤ l.initial.steps + 40 * (l.end - l.left))

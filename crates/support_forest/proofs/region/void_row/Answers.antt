@@ -6,13 +6,13 @@ use Rattle.support_forest.specs.Indices.{voxel_of}
 use Rattle.support_forest.proofs.Voxels.{index_small, voxel_along}
 use Rattle.support_forest.specs.Regions.{AreVoided, IsInRow}
 use Rattle.support_forest.proofs.Voiding.{part_before_row, part_in_row, row_at, voided_already, whole_row_at}
-use Rattle.support_forest.proofs.region.take_row.Goals as goal
+use Rattle.support_forest.proofs.region.void_row.Goals as goal
 
 pub loop-left-init : goal.loop-left-init
 loop-left-init g c = (c.requires.order, (omega arith, (omega arith, voided_already c.args.cells.now _ _ c.args.rest.now.items c.requires.exact (λ d h. absurd (omega arith)))))
 
-pub take_part-requires-clause-row : goal.take_part-requires-clause-row
-take_part-requires-clause-row g c =
+pub void_part-requires-clause-row : goal.void_part-requires-clause-row
+void_part-requires-clause-row g c =
     let invariant = c.loop-left.invariant in
     let goes_on = c.loop-left-test.true in
     let part_ensured = c.min-part.ensures in
@@ -28,8 +28,8 @@ index_along-requires g c =
           (subst (λ (p : Coord). IsInSpace c.args.cells.now.resolution p) (sym c.index_of-line.ensures.voxel) (record { x = within.x; y = within.y; z = let along_z = within.z in omega arith }));
     }
 
-pub take_part-requires-clause-index : goal.take_part-requires-clause-index
-take_part-requires-clause-index g c =
+pub void_part-requires-clause-index : goal.void_part-requires-clause-index
+void_part-requires-clause-index g c =
     let invariant = c.loop-left.invariant in
     let goes_on = c.loop-left-test.true in
     let part_ensured = c.min-part.ensures in
@@ -55,10 +55,10 @@ loop-left-preserved g c =
       (
         omega arith,
         (
-          omega (arith, invariant.1.1.0, c.in_ok-take_part.ensures.touches),
-          part_before_row c.args.cells.now c.loop-left.cells c.take_part.new.cells c.args.first difference c.min-part.result c.args.end c.args.rest.now.items c.loop-left.rest.items c.take_part.new.rest.items (omega arith)
+          omega (arith, invariant.1.1.0, c.in_ok-void_part.ensures.touches),
+          part_before_row c.args.cells.now c.loop-left.cells c.void_part.new.cells c.args.first difference c.min-part.result c.args.end c.args.rest.now.items c.loop-left.rest.items c.void_part.new.rest.items (omega arith)
               (subst (λ (k : ℕ). AreVoided c.args.cells.now c.loop-left.cells (IsInRow (row_at c.args.first k) (c.args.end - k)) (c.args.end - k) c.args.rest.now.items c.loop-left.rest.items) left_is invariant.1.1.1)
-              c.in_ok-take_part.ensures.voided,
+              c.in_ok-void_part.ensures.voided,
         ),
       ),
     )

@@ -3,7 +3,7 @@ use Rattle.vox_geom.specs.declared.coordinate.Coord.{Coord}
 use Rattle.vox_planes.specs.Walk.{row_size}
 use Rattle.support_forest.specs.Regions.{AreVoided, IsInWall}
 use Rattle.support_forest.proofs.Voiding.{more_steps, row_before_wall, row_of_region}
-use Rattle.support_forest.proofs.region.take_wall.Goals as goal
+use Rattle.support_forest.proofs.region.void_wall.Goals as goal
 
 pub loop-y-preserved : goal.loop-y-preserved
 loop-y-preserved g c =
@@ -17,16 +17,16 @@ loop-y-preserved g c =
     let same_z = ap (λ (p : Coord). p.z) c.low-low.ensures.value in
     let z_is = ap (λ (p : Coord). p.z) c.high-high.ensures.value in
     let steps_at_most : c.loop-y.steps ≤ c.args.steps.now + 40 * ((corners.high.y + 1 - (difference_y + 1)) * row_size corners) = subst (λ (n : ℕ). c.loop-y.steps ≤ c.args.steps.now + 40 * ((corners.high.y + 1 - n) * row_size corners)) same_y invariant.1.1.0 in
-    let at_most_sum_here : c.take_row.new.steps ≤ c.loop-y.steps + 40 * row_size corners = omega (arith, same_z, z_is, c.in_ok-take_row.ensures.touches) in
+    let at_most_sum_here : c.void_row.new.steps ≤ c.loop-y.steps + 40 * row_size corners = omega (arith, same_z, z_is, c.in_ok-void_row.ensures.touches) in
     let low_along_z = c.low-low.ensures.ordered.z in (
       omega arith,
       (
         omega arith,
         (
-          more_steps corners.high.y difference_y (row_size corners) c.args.steps.now c.loop-y.steps c.take_row.new.steps (omega arith) steps_at_most at_most_sum_here,
-          row_before_wall c.args.cells.now c.loop-y.cells c.take_row.new.cells corners c.args.x difference_y c.args.rest.now.items c.loop-y.rest.items c.take_row.new.rest.items (omega arith) (omega arith) low_along_z
+          more_steps corners.high.y difference_y (row_size corners) c.args.steps.now c.loop-y.steps c.void_row.new.steps (omega arith) steps_at_most at_most_sum_here,
+          row_before_wall c.args.cells.now c.loop-y.cells c.void_row.new.cells corners c.args.x difference_y c.args.rest.now.items c.loop-y.rest.items c.void_row.new.rest.items (omega arith) (omega arith) low_along_z
               (subst (λ (n : ℕ). AreVoided c.args.cells.now c.loop-y.cells (IsInWall corners c.args.x n) ((corners.high.y + 1 - n) * row_size corners) c.args.rest.now.items c.loop-y.rest.items) same_y invariant.1.1.1)
-              (row_of_region c.loop-y.cells c.take_row.new.cells corners c.low-low.result c.high-high.result c.args.x difference_y c.loop-y.rest.items c.take_row.new.rest.items c.low-low.ensures.value c.high-high.ensures.value c.in_ok-take_row.ensures.voided),
+              (row_of_region c.loop-y.cells c.void_row.new.cells corners c.low-low.result c.high-high.result c.args.x difference_y c.loop-y.rest.items c.void_row.new.rest.items c.low-low.ensures.value c.high-high.ensures.value c.in_ok-void_row.ensures.voided),
         ),
       ),
     )
