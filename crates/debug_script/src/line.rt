@@ -13,9 +13,9 @@ use vox_geom::Coord;
 pub enum ScriptLine {
     /// Makes the next step.
     Step,
-    /// Begins the group of a leader.
+    /// Begins the group whose leader has this bid.
     Group { leader: u8 },
-    /// Drops the begun groups, or undoes the last step if there are none.
+    /// Drops all begun groups. If none is begun, undoes the last step.
     Back,
     /// Prints the active bots.
     Bots,
@@ -23,7 +23,7 @@ pub enum ScriptLine {
     Voxel { at: Coord },
 }
 
-/// Returns the first part of a line, and the rest after its space, if it has one.
+/// Returns the bytes before the first space, and the bytes after it if there is a space.
 #[tactic(auto, using(crate::proofs::Parts::one_part, crate::proofs::Parts::first_part))]
 fn cut_part(line: &[u8]) -> (&[u8], Option<&[u8]>)
     ensures { MatchOption result.1 (line_parts line.now ≡ result.0.now ∷ [])
@@ -36,7 +36,7 @@ fn cut_part(line: &[u8]) -> (&[u8], Option<&[u8]>)
     (&line[..end], Some(&line[end + 1..]))
 }
 
-/// Returns the number of a part with at most five decimal digits, without sign or leading zeros.
+/// Parses a number of at most five decimal digits, without sign or leading zeros. Returns `None` for any other text.
 fn number(part: &[u8]) -> Option<u32>
     ensures { MatchOption result ((n : ℕ) → HasFewDigits n → part.now ≡ decimal n → ⊥)
         (λ n. HasFewDigits n × (part.now ≡ decimal n)) }
@@ -57,7 +57,7 @@ fn number(part: &[u8]) -> Option<u32>
     Some(number)
 }
 
-/// Returns the line of a word without arguments.
+/// Returns the line that is this word alone, or an error if the word needs arguments.
 fn read_word(word: ScriptWord, number: u32) -> Result<ScriptLine, TextRefusal>
     ensures { (r : ℕ) → IsReadBy (PartsSay r (script_letters word ∷ [])) number result }
 {
@@ -70,7 +70,7 @@ fn read_word(word: ScriptWord, number: u32) -> Result<ScriptLine, TextRefusal>
     }
 }
 
-/// Returns the one number after a word.
+/// Returns the number if the rest of a line is exactly one number.
 fn one_number(rest: &[u8]) -> Option<u32>
     ensures { MatchOption result ((n : ℕ) → HasFewDigits n → line_parts rest.now ≡ decimal n ∷ [] → ⊥)
         (λ n. HasFewDigits n × (line_parts rest.now ≡ decimal n ∷ [])) }
@@ -82,7 +82,7 @@ fn one_number(rest: &[u8]) -> Option<u32>
     }
 }
 
-/// Returns the number after a word, and the rest after its space.
+/// Returns the number before the first space, and the bytes after it; `None` if there is no such number or no space.
 fn first_number(rest: &[u8]) -> Option<(u32, &[u8])>
     ensures { MatchOption result
         ((n : ℕ) (next : List ℕ) (more : List (List ℕ)) → HasFewDigits n
@@ -95,7 +95,7 @@ fn first_number(rest: &[u8]) -> Option<(u32, &[u8])>
     Some((number, more))
 }
 
-/// Returns the line of the word `group` and the rest.
+/// Parses what follows the word `group`: a bid from 1 to 40.
 fn read_group(rest: &[u8], number: u32) -> Result<ScriptLine, TextRefusal>
     ensures { (r : ℕ) → IsReadBy (PartsSay r (codes "group" ∷ line_parts rest.now)) number result }
 {
@@ -113,7 +113,7 @@ fn read_group(rest: &[u8], number: u32) -> Result<ScriptLine, TextRefusal>
     })
 }
 
-/// Returns the three numbers after a word.
+/// Returns the numbers if the rest of a line is exactly three numbers.
 fn three_numbers(rest: &[u8]) -> Option<(u32, u32, u32)>
     ensures { MatchOption result
         ((x y z : ℕ) → HasFewDigits x → HasFewDigits y → HasFewDigits z
@@ -127,7 +127,7 @@ fn three_numbers(rest: &[u8]) -> Option<(u32, u32, u32)>
     Some((x, y, z))
 }
 
-/// Returns the line of the word `voxel` and the rest.
+/// Parses what follows the word `voxel`: a coordinate in a matrix of this resolution.
 fn read_voxel(rest: &[u8], number: u32, resolution: u16) -> Result<ScriptLine, TextRefusal>
     ensures { IsReadBy (PartsSay resolution (codes "voxel" ∷ line_parts rest.now)) number result }
 {
@@ -152,7 +152,7 @@ fn read_voxel(rest: &[u8], number: u32, resolution: u16) -> Result<ScriptLine, T
     Ok(ScriptLine::Voxel { at })
 }
 
-/// Returns the line of a word and the rest after its space.
+/// Parses the arguments of a word, or returns an error if the word takes none.
 fn read_numbers(
     word: ScriptWord,
     rest: &[u8],
@@ -170,7 +170,7 @@ fn read_numbers(
     }
 }
 
-/// Returns the meaning of the parts of the line with this number.
+/// Parses a line as a word and its arguments. `number` is the line's number, for errors.
 fn read_parts(line: &[u8], number: u32, resolution: u16) -> Result<ScriptLine, TextRefusal>
     ensures { IsReadBy (PartsSay resolution (line_parts line.now)) number result }
 {
@@ -184,7 +184,7 @@ fn read_parts(line: &[u8], number: u32, resolution: u16) -> Result<ScriptLine, T
     }
 }
 
-/// Returns the meaning of the line with this number, which has no line feed.
+/// Parses a line without its line feed, or returns the line's first fault with its number.
 pub(crate) fn read_line(
     line: &[u8],
     number: u32,

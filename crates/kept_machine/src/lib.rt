@@ -1,5 +1,5 @@
-//! A machine that its owner keeps between steps: it makes steps of given commands and undoes the last ones, and a refused call
-//! leaves it as it was.
+//! A machine that its owner keeps between steps. It makes a step from the commands of all active bots, and undoes the last steps. A
+//! refused call leaves it unchanged.
 #![tactic(auto)]
 
 mod aim;

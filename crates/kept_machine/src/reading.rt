@@ -1,4 +1,4 @@
-//! Queries of a machine's matrix. Their touches are not reported.
+//! Queries of a machine's matrix. They do not report the touches that they make.
 ghost use Rattle.std.specs.Prelude.{◌≡◌, count_by, MatchBool};
 ghost use Rattle.nano_spec.specs.Matrix.{all_of, is_full};
 ghost use Rattle.nano_spec.specs.State.{IsWellFormed};
@@ -16,14 +16,14 @@ use step_machine::Machine;
 use vox_geom::{Coord, Steps};
 use vox_planes::Planes;
 
-/// Returns whether a coordinate is in space.
+/// Returns whether a coordinate is in a matrix of resolution `r`.
 pub(crate) fn is_in_space(c: Coord, r: u16) -> bool
     ensures { MatchBool result (IsInSpace r c) (IsInSpace r c → ⊥) }
 {
     c.x < r && c.y < r && c.z < r
 }
 
-/// Returns whether the voxel at a coordinate is full.
+/// Returns whether the voxel at a coordinate is full; false outside the matrix.
 pub(crate) fn is_full_at<L: Ledger>(matrix: &Planes, c: Coord, blank: Blank) -> bool
     requires blank { IsBlankOf blank L.name L.parts }
     ensures { result ≡ is_full matrix.now c }
@@ -44,7 +44,7 @@ pub(crate) fn count_full<L: Ledger>(matrix: &Planes, blank: Blank) -> u32
     matrix.count(&mut steps)
 }
 
-/// Returns the least coordinate at which two matrices differ.
+/// Returns the least coordinate at which two matrices differ, or `None` if they are equal.
 pub(crate) fn least_difference<L: Ledger>(
     matrix: &Planes,
     target: &Planes,
@@ -58,7 +58,7 @@ pub(crate) fn least_difference<L: Ledger>(
     matrix.equal(target, &mut steps)
 }
 
-/// Returns the level of the voxel at a coordinate.
+/// Returns the level of a voxel, or `None` if it is void or not grounded. Rebuilds a poisoned machine first.
 pub(crate) fn find_level<L: Ledger>(
     alloc: Global,
     machine: &mut Machine,

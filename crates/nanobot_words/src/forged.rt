@@ -1,4 +1,4 @@
-//! Parses the commands of forged models: `make` and `exercise`.
+//! Parses the commands that forge a model from a number: `make` and `exercise`.
 ghost use Rattle.std.specs.Prelude.{ℕ, List, MatchOption};
 ghost use Rattle.nanobot_words.specs.Rows.{exercise, make, IsRow, texts};
 ghost use Rattle.nanobot_words.specs.Parsing.{row_of};
@@ -7,7 +7,7 @@ use crate::row::Row;
 use crate::several::{four, three};
 use crate::word::{is_name, parse_number, parse_resolution};
 
-/// Returns the number, the resolution and the model after `make`.
+/// Parses `make N R M`: a number, a resolution and the name of a model. Returns `None` for any other arguments.
 pub(crate) fn parse_make(words: &[String]) -> Option<Row<'_>>
     ensures { MatchOption result ((n r : ℕ) (m : List ℕ) → IsRow (texts words.now) (make n r m) → ⊥)
         (λ row. IsRow (texts words.now) (row_of row)) }
@@ -28,7 +28,7 @@ pub(crate) fn parse_make(words: &[String]) -> Option<Row<'_>>
     })
 }
 
-/// Returns the number and the resolution after `exercise`.
+/// Parses `exercise N R`: a number and a resolution. Returns `None` for any other arguments.
 pub(crate) fn parse_exercise(words: &[String]) -> Option<Row<'_>>
     ensures { MatchOption result ((n r : ℕ) → IsRow (texts words.now) (exercise n r) → ⊥)
         (λ row. IsRow (texts words.now) (row_of row)) }

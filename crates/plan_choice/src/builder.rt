@@ -1,5 +1,6 @@
-//! Builds a model with one bot layer by layer from above, up to five voxels at each stop. A voxel is filled once it is attached,
-//! that is, on the floor or next to a full one, so all is grounded after each step. The definitions judge the proposal.
+//! Builds a model with one bot, layer by layer from the floor up. The bot moves above the layer and fills up to five voxels at each
+//! stop. It fills a voxel once that is attached, that is, on the floor or next to a full one, so that all are grounded after each
+//! step. Voxels of a layer that stay unattached are filled under High. Nothing is proved of the commands: a caller judges them.
 use crate::extent::{Extent, extent_of_layer, is_full_at};
 use crate::ways::{difference, next_end};
 use nano_spec::{Command, CommandList};
@@ -11,10 +12,10 @@ use vox_planes::Planes;
 /// More moves than any path has.
 const MOST_MOVES: u32 = 100;
 
-/// The most sweeps along a lane before the next one.
+/// The maximum number of sweeps along a lane before the bot goes on to the next lane.
 const MOST_SWEEPS: u32 = 16;
 
-/// The most passes over the lanes of a layer.
+/// The maximum number of passes over the lanes of a layer.
 const MOST_PASSES: u32 = 64;
 
 /// Returns the component shifted by a difference.
@@ -52,7 +53,7 @@ struct Builder {
 }
 
 impl Builder {
-    /// Starts before the first command.
+    /// Returns a bot at the origin with no commands yet.
     fn begin(alloc: Global, target: &Planes) -> Result<Builder, Memory> {
         Ok(Builder {
             made: Planes::empty(alloc, target.resolution())?,
@@ -87,7 +88,7 @@ impl Builder {
         Ok(())
     }
 
-    /// Returns whether the target has the voxel and it is not filled yet.
+    /// Returns whether the voxel is full in the target, and not filled yet.
     fn is_wanted(&self, target: &Planes, c: Coord) -> bool {
         is_full_at(target, c) && !is_full_at(&self.made, c)
     }
@@ -102,12 +103,12 @@ impl Builder {
             || is_full_at(&self.made, beside(c, 0, 1))
     }
 
-    /// Returns whether the voxel may be filled now.
+    /// Returns whether the voxel is still to be filled, and is attached unless voxels may `float`.
     fn may_fill(&self, target: &Planes, c: Coord, float: bool) -> bool {
         self.is_wanted(target, c) && (float || self.is_attached(c))
     }
 
-    /// Returns the next voxel to fill from above this one, on a path along z.
+    /// Returns the next voxel to fill from above `c`, on a path along z that rises if `on` is 1, and falls if it is -1.
     fn next_below(&self, target: &Planes, c: Coord, on: i16, float: bool) -> Option<Coord> {
         for (dx, dz) in [(0, on.wrapping_neg()), (-1, 0), (1, 0), (0, 0), (0, on)] {
             let it = beside(c, dx, dz);
@@ -118,14 +119,14 @@ impl Builder {
         None
     }
 
-    /// Returns whether there is more to fill from above this voxel than the next stop fills as well.
+    /// Returns whether voxels behind `c` or beside it are left to fill, which the next stop on the path does not reach.
     fn is_worth_it(&self, target: &Planes, c: Coord, on: i16, float: bool) -> bool {
         self.may_fill(target, beside(c, 0, on.wrapping_neg()), float)
             || self.is_wanted(target, beside(c, -1, 0))
             || self.is_wanted(target, beside(c, 1, 0))
     }
 
-    /// Fills a near voxel.
+    /// Fills a voxel near the bot.
     fn fill(&mut self, c: Coord) -> Result<(), Memory> {
         let r = self.made.resolution();
         if let Some(near) = Near::of(difference(self.at, c)) {
@@ -138,7 +139,7 @@ impl Builder {
         Ok(())
     }
 
-    /// Fills the voxels that may be filled from above this one.
+    /// Moves above `c` if a voxel may be filled from there, and fills up to five.
     fn stop(&mut self, target: &Planes, c: Coord, on: i16, float: bool) -> Result<(), Memory> {
         for _ in 0..5 {
             let Some(it) = self.next_below(target, c, on, float) else {
@@ -153,7 +154,7 @@ impl Builder {
         Ok(())
     }
 
-    /// Sweeps along a lane, from its nearer end.
+    /// Sweeps once along the lane around this x, from the end that is nearer to the bot.
     fn sweep(
         &mut self,
         target: &Planes,
@@ -182,7 +183,7 @@ impl Builder {
         Ok(())
     }
 
-    /// Sweeps a lane to and fro until nothing more is filled.
+    /// Sweeps a lane to and fro until a sweep fills nothing.
     fn lane(
         &mut self,
         target: &Planes,
@@ -200,7 +201,7 @@ impl Builder {
         Ok(())
     }
 
-    /// Passes over all lanes, which are three columns wide, from the nearer side.
+    /// Passes over all lanes, which are three columns wide, from the side that is nearer to the bot.
     fn pass(&mut self, target: &Planes, extent: &Extent, float: bool) -> Result<(), Memory> {
         let (low, high) = (extent.low.x, extent.high.x);
         let lanes = high.saturating_sub(low) / 3 + 1;
@@ -218,7 +219,7 @@ impl Builder {
         Ok(())
     }
 
-    /// Fills the voxels of a layer that are attached or become so.
+    /// Fills the voxels of a layer that are attached, or become attached as others are filled.
     fn attach(&mut self, target: &Planes, extent: &Extent) -> Result<(), Memory> {
         for _ in 0..MOST_PASSES {
             let before = self.left;
@@ -230,8 +231,8 @@ impl Builder {
         Ok(())
     }
 
-    /// Builds all layers, with overhanging parts under High. Returns false if High is needed but not allowed, or above `most`
-    /// commands.
+    /// Builds all layers, filling unattached voxels under High. Returns false if High is needed but not allowed, or if there are
+    /// more than `most` commands.
     fn build(&mut self, target: &Planes, may_rise: bool, most: u64) -> Result<bool, Memory> {
         for y in 0..target.resolution() {
             let extent = extent_of_layer(target, y);
@@ -253,7 +254,7 @@ impl Builder {
         Ok(true)
     }
 
-    /// Returns the commands, once the bot is home.
+    /// Moves the bot to the origin, ends High, halts, and returns all commands.
     fn finish(mut self) -> Result<CommandList, Memory> {
         let y = self.at.y;
         self.go(Coord { x: 0, y, z: 0 })?;
@@ -266,8 +267,10 @@ impl Builder {
     }
 }
 
-/// Returns the commands of one bot that builds the target, and stays under High from the first layer with an overhanging part.
-/// Returns none if High is needed but not allowed, or if there are more than `most` commands.
+/// Returns the commands of one bot that builds the target. Returns `None` if High is needed but not allowed by `may_rise`, or if
+/// there are more than `most` commands.
+///
+/// The bot stays under High from the first layer with an unattached part on.
 pub fn build_attached(
     alloc: Global,
     target: &Planes,

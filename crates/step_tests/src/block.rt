@@ -1,4 +1,4 @@
-//! A block that eight bots void at once, on a machine of `step_machine`.
+//! Eight bots void a block in one step, on a machine of `step_machine`.
 ghost use Rattle.vox_geom.specs.Counting.{IsBlankOf};
 
 use crate::asserted::{assert_goes, assert_made};
@@ -13,7 +13,7 @@ use std::test::Fail;
 use step_machine::Machine;
 use vox_geom::{Coord, Memory, Steps};
 
-/// Returns a move along y if `up`, along z otherwise.
+/// Returns the move by one along y if `up` is set, along z otherwise.
 fn move_by_one(rt: &impl Abort, up: bool) -> Command {
     let d = if up {
         long(rt, 0, 1, 0)
@@ -23,7 +23,7 @@ fn move_by_one(rt: &impl Abort, up: bool) -> Command {
     Command::SMove(d)
 }
 
-/// One bot becomes five, in their positions around a block: four by four, one side of it and the other.
+/// Makes five bots of the first one, at x = 0 and at x = 4: on the two sides of the block.
 fn five_bots<L: Ledger>(rt: &impl Abort, machine: &mut Machine, steps: &mut Steps<L>) {
     let split = [Command::Fission(near(rt, 1, 0, 0), 3)];
     assert_made(rt, machine, &split, steps);
@@ -42,7 +42,7 @@ fn five_bots<L: Ledger>(rt: &impl Abort, machine: &mut Machine, steps: &mut Step
     assert_made(rt, machine, &more, steps);
 }
 
-/// Five bots become eight, in their positions.
+/// Makes eight bots of the five, each next to a corner of the block: four on either side.
 fn eight_bots<L: Ledger>(rt: &impl Abort, machine: &mut Machine, steps: &mut Steps<L>) {
     let five = [
         Command::Wait,
@@ -75,7 +75,7 @@ fn eight_bots<L: Ledger>(rt: &impl Abort, machine: &mut Machine, steps: &mut Ste
     assert_made(rt, machine, &last, steps);
 }
 
-/// Returns a block of 3 by 3 by 3 on the floor, in the middle of a matrix of resolution 5.
+/// Returns the coordinates of a block of 3 by 3 by 3 on the floor, in the middle of a matrix of resolution 5.
 fn cube(alloc: Global) -> Result<Vec<Coord>, Memory> {
     let mut full = Vec::new(alloc);
     for x in 1..4 {
@@ -88,7 +88,7 @@ fn cube(alloc: Global) -> Result<Vec<Coord>, Memory> {
     Ok(full)
 }
 
-/// Eight bots void a block of 3 by 3 by 3 at once.
+/// Asserts that eight bots void the block in one step, and the energy after that step.
 fn block<L: Ledger>(rt: &impl Abort, blank: Blank, alloc: Global) -> Result<(), Memory>
     requires blank { IsBlankOf blank L.name L.parts }
 {

@@ -1,4 +1,4 @@
-//! Planes of `vox_planes` with ample memory, at a small resolution and at one whose rows take more than a word.
+//! Planes of `vox_planes` with ample memory: at a small resolution, and at one whose rows take more than one word each.
 ghost use Rattle.std.specs.Prelude.{◌≡◌, IfOk};
 ghost use Rattle.vox_geom.specs.Counting.{IsBlankOf};
 ghost use Rattle.vox_geom.specs.Space.{IsInSpace};
@@ -13,7 +13,7 @@ use std::test::Fail;
 use vox_geom::{Coord, Memory, Region, Steps};
 use vox_planes::{ChangeList, Planes};
 
-/// Asserts the list of the full, or the void, coordinates of a region.
+/// Asserts which coordinates of a region are listed as full, or as void if `full` is false.
 fn assert_listed<L: Ledger>(
     rt: &impl Abort,
     planes: &Planes,
@@ -36,7 +36,7 @@ fn assert_listed<L: Ledger>(
     assert_eq!(rt; list.as_slice(), want);
 }
 
-/// Asserts the first full coordinate of a region.
+/// Asserts the first full coordinate of a region, or that the region is void.
 fn assert_first<L: Ledger>(
     rt: &impl Abort,
     planes: &Planes,
@@ -72,7 +72,7 @@ pub(crate) fn assert_full<L: Ledger>(
     assert!(rt; planes.full_at(c, steps) == full);
 }
 
-/// Asserts the least coordinate at which two matrices differ.
+/// Asserts the least coordinate at which two matrices differ, or that they are equal.
 fn assert_differ<L: Ledger>(
     rt: &impl Abort,
     planes: &Planes,
@@ -100,7 +100,7 @@ fn assert_changed<L: Ledger>(
     assert!(rt; planes.set_region(b, full, steps) == count);
 }
 
-/// Two full voxels at resolution 3.
+/// Returns planes of resolution 3 with two full voxels.
 fn two_voxels<L: Ledger>(
     rt: &impl Abort,
     alloc: Global,
@@ -121,7 +121,7 @@ fn two_voxels<L: Ledger>(
     Ok(planes)
 }
 
-/// Asserts the lists of regions of the two voxels.
+/// Asserts, on the planes of `two_voxels`, the full coordinates of all space and the void ones of a region.
 fn assert_lists<L: Ledger>(
     rt: &impl Abort,
     alloc: Global,
@@ -140,7 +140,7 @@ fn assert_lists<L: Ledger>(
     Ok(())
 }
 
-/// Two full voxels at resolution 3, and a copy that differs.
+/// Tests the planes of `two_voxels`: full and void coordinates of regions, and a copy that differs.
 fn small<L: Ledger>(rt: &impl Abort, blank: Blank, alloc: Global) -> Result<(), Memory>
     requires blank { IsBlankOf blank L.name L.parts }
 {
@@ -166,7 +166,7 @@ fn small<L: Ledger>(rt: &impl Abort, blank: Blank, alloc: Global) -> Result<(), 
     Ok(())
 }
 
-/// A row of 70 voxels, whose bits are in three words, and a voxel next to it.
+/// Returns planes with four full voxels in a row of 70, whose bits are in three words, and one full voxel outside that row.
 fn wide_row<L: Ledger>(
     rt: &impl Abort,
     alloc: Global,
@@ -184,7 +184,7 @@ fn wide_row<L: Ledger>(
     Ok(planes)
 }
 
-/// Asserts the lists of that row: of all full voxels of `rows`, and of the void ones of a part.
+/// Asserts, on the planes of `wide_row`, the full coordinates of `rows` and the void ones of a part of the row.
 fn assert_wide_lists<L: Ledger>(
     rt: &impl Abort,
     alloc: Global,
@@ -204,7 +204,7 @@ fn assert_wide_lists<L: Ledger>(
     Ok(())
 }
 
-/// That row, a copy that differs, and regions of it that are filled and voided.
+/// Tests the planes of `wide_row`: lists, a copy that differs, and a region that is filled and voided.
 fn wide<L: Ledger>(rt: &impl Abort, blank: Blank, alloc: Global) -> Result<(), Memory>
     requires blank { IsBlankOf blank L.name L.parts }
 {
