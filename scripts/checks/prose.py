@@ -108,6 +108,7 @@ def rows(tree: Tree, chosen: list[str]) -> Iterator[str]:
 def fix(tree: Tree) -> None:
     """Writes the counts of today, of each part that has no more than before."""
     most, now = allowed(tree), counts(tree)
-    kept = {part: (min(most.get(part, now[part])[0], now[part][0]), min(most.get(part, now[part])[1], now[part][1])) for part in now}
+    kept = {part: tuple(map(min, most.get(part, (0, 0)), now[part])) for part in now}
+    kept = {part: it for part, it in kept.items() if any(it)}
     text = "# Part of the tree, its coined words, its long sentences (prose.py)\n"
     (tree.top / ALLOWED).write_text(text + "".join(f"{part} {words} {sentences}\n" for part, (words, sentences) in kept.items()))

@@ -318,7 +318,7 @@ class Machine:
         """Returns what `step` would, and whether no bot would be left; makes no step.
 
         Takes the same commands as `step`, and raises the same errors. The machine stays as it is. It takes as long as a step and an undo.
-        If it breaks rule 12 by other changes than one filled voxel, it also searches for the least voxel that floats: up to 0.2 s at
+        If it breaks rule 12 by other changes than one filled voxel, it also searches for the least voxel that floats: up to 0.03 s at
         resolution 250."""
         result, data = lib.JudgedReport(), self._spelled(commands)
         status = library.machine_judge(byref(self._handle), data, len(data), byref(result))
