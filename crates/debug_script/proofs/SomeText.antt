@@ -23,7 +23,7 @@ use Rattle.step_order.specs.SomeGroups.{after_some}
 use Rattle.step_order.proofs.Lists.{In, any_in, any_none, in_either, in_left, in_place, in_right, not_both}
 use Rattle.step_machine.proofs.Reaching.{level_of}
 use Rattle.step_machine.proofs.Weighing.{next_of}
-use Rattle.step_debugger.specs.Session.{AnswersLine, Back, BeginsGroup, Begun, Bots, Crew, DebugLine, DebugReport, Ended, GoesBack, Group, Made, SessionPoint, NoHistory, NoLeader, Refused, Session, Step, TakesBack, TriesGroup, TriesStep, UnlessEnded, Voxel, dropped, is_last, is_returned, made, may_begin, middle_state, most_past, next_commands, next_leaders, none_left, refused}
+use Rattle.step_debugger.specs.Session.{AnswersLine, Back, BeginsGroup, Begun, Bots, Crew, DebugLine, DebugReport, Ended, GoesBack, Group, Made, SessionPoint, NoHistory, NoLeader, Refused, Session, Step, TriesGroup, TriesStep, UnlessEnded, Voxel, dropped, is_last, is_returned, made, may_begin, middle_state, most_past, next_commands, next_leaders, refused}
 use Rattle.debug_script.specs.Printing.{printed_report}
 use Rattle.debug_script.specs.Sessions.{Prints}
 
@@ -117,7 +117,7 @@ module _ (commands : List Command) (are : AreCommands commands) (stays_ready : R
       where
         by : (o : Outcome) → Next s.point.state (next_commands commands s.point) (s.point.steps + 1) o
             → HasAnswer (TriesStep commands s)
-        by (Goes u) next = (made s u, Made (s.point.steps + 1) u.energy (none_left u.bots), (Goes u, next, (refl, refl)), is_made u next)
+        by (Goes u) next = (made s u, Made (s.point.steps + 1) u.energy (length u.bots == 0), (Goes u, next, (refl, refl)), is_made u next)
         by (Breaks b) next = (refused b.rule s, Refused b, (Breaks b, next, (refl, refl)), is_refused b.rule)
 
     unless_ended : (bots : List Bot) (P : Session → DebugReport → Type 0) → HasAnswer P
@@ -180,7 +180,7 @@ module _ (commands : List Command) (are : AreCommands commands) (stays_ready : R
 
     -- ---- the lines of a step back, of the bots and of a voxel
 
-    takes_back : (past : List SessionPoint) → s.past ≡ past → HasAnswer (TakesBack past s)
+    takes_back : (past : List SessionPoint) → s.past ≡ past → HasAnswer (GoesBack [] past s)
     takes_back [] e = (s, NoHistory, (refl, refl), orderly)
     takes_back (p ∷ past) e =
         let last_moment = last_of p past in
@@ -192,7 +192,7 @@ module _ (commands : List Command) (are : AreCommands commands) (stays_ready : R
           fresh commands last_moment.1 last_moment.0 (before last_moment.1 (in_right last_moment.1 last_moment.0 (last_moment.1 ∷ []) (inl refl))) (λ q i. before q (in_left q last_moment.0 (last_moment.1 ∷ []) i)),
         )
 
-    goes_back : (begun : List ℕ) → HasAnswer (GoesBack begun s)
+    goes_back : (begun : List ℕ) → HasAnswer (GoesBack begun s.past s)
     goes_back [] = takes_back s.past refl
     goes_back (bid ∷ begun) = (dropped s, is_returned s.point, (refl, refl), drops)
 

@@ -14,10 +14,6 @@ Prints commands (line ∷ more) s text =
     (t : Session) × (report : DebugReport) × (rest : List ℕ) × AnswersLine commands line s t report
     × Prints commands more t rest × (text ≡ printed_report report ++ rest)
 
--- the lines over the commands of a trace print this, from the opening of the source on
-abbrev pub PrintsFrom : Matrix → Profile → List Command → List DebugLine → List ℕ → Type 0
-PrintsFrom source profile commands script text = Prints commands script (opened source profile) text
-
 -- a line was answered: its printed text was appended, and allocation did not fail
 pub record IsTold (line : DebugLine) (old new : Debugging) (before after : List ℕ) : Type 0 where
   pub report : DebugReport

@@ -6,9 +6,9 @@ ghost use Rattle.nano_spec.specs.Cutting.{AreCommands};
 ghost use Rattle.nano_spec.specs.Matrix.{Matrix};
 ghost use Rattle.nano_spec.specs.Model.{volume};
 ghost use Rattle.nano_spec.specs.Reading.{FaultyLine};
-ghost use Rattle.step_debugger.specs.Session.{DebugLine};
+ghost use Rattle.step_debugger.specs.Session.{DebugLine, opened};
 ghost use Rattle.debug_script.specs.Script.{ScriptSays};
-ghost use Rattle.debug_script.specs.Sessions.{PrintsFrom};
+ghost use Rattle.debug_script.specs.Sessions.{Prints};
 ghost use Rattle.debug_script.specs.Worked.{WorkedPrints, WorkedScripts};
 
 use nano_spec::opening_is_ready;
@@ -24,7 +24,7 @@ pub fn one_script()
 /// The lines of a script print at most one text.
 pub fn one_text()
     ensures { (source : Matrix) (profile : Profile) (commands : List Command) (script : List DebugLine) (a b : List ℕ)
-        → PrintsFrom source profile commands script a → PrintsFrom source profile commands script b → a ≡ b }
+        → Prints commands script (opened source profile) a → Prints commands script (opened source profile) b → a ≡ b }
 {
     one_answer();
 }
@@ -38,7 +38,7 @@ pub fn some_script()
 pub fn some_text()
     ensures { (source : Matrix) (profile : Profile) (commands : List Command) (script : List DebugLine)
         → 1 ≤ source.resolution → length source.voxels ≡ volume source.resolution → AreCommands commands
-        → (text : List ℕ) × PrintsFrom source profile commands script text }
+        → (text : List ℕ) × Prints commands script (opened source profile) text }
 {
     opening_is_ready();
     stays_ready();

@@ -6,12 +6,12 @@ ghost use Rattle.nano_spec.specs.Matrix.{is_full};
 ghost use Rattle.nano_spec.specs.Profile.{full_profile};
 ghost use Rattle.nano_spec.specs.State.{origin};
 ghost use Rattle.step_debugger.specs.Calls.{fault_report};
-ghost use Rattle.step_debugger.specs.Session.{Back, Begun, Bots, Group, IsFull, IsVoid, Made, Step, Voxel, is_returned};
+ghost use Rattle.step_debugger.specs.Session.{Back, Begun, Bots, Group, IsFull, IsVoid, Made, Step, Voxel, is_returned, opened};
 ghost use Rattle.vox_geom.specs.Point.{point};
 ghost use Rattle.vox_geom.specs.Space.{in_space};
 ghost use Rattle.debug_script.specs.Calls.{script_line_is, lines_are};
 ghost use Rattle.debug_script.specs.Printing.{bot_line as bot_line_of, printed_report};
-ghost use Rattle.debug_script.specs.Sessions.{IsPut, IsTold, PrintsFrom};
+ghost use Rattle.debug_script.specs.Sessions.{IsPut, IsTold, Prints};
 
 use crate::broken::broken_line;
 use crate::line::ScriptLine;
@@ -259,7 +259,7 @@ pub fn print_session<L: Ledger>(
     requires grounded { FirstUngrounded source None }
     requires void { IsFalse (is_full source origin) }
     requires few { length commands < 1073741824 }
-    ensures { IfOk result (λ text. PrintsFrom source full_profile commands (lines_are script.now) text.items) }
+    ensures { IfOk result (λ text. Prints commands (lines_are script.now) (opened source full_profile) text.items) }
 {
     let mut debugger = Debugger::start(alloc, source, Profile::full(), commands, steps)?;
     let mut text = Vec::new(alloc);

@@ -1,5 +1,6 @@
 -- The replies to a command: one reply, or replies of one status if it requests a plan, and some reply if it requests
 -- none.
+use Rattle.std.specs.FinMap as finite
 use Rattle.std.proofs.Common.{◌≡◌, ℕ, ◌≤◌, List, Option, Some, None, refl, sym, ap, ◌∙◌, subst, length}
 use Rattle.std.specs.Prelude.{Ok, Err, MatchResult, IsSomeAnd, ⊤}
 use Rattle.nano_spec.specs.declared.commands.Command.{Command}
@@ -17,7 +18,8 @@ use Rattle.vox_depot.specs.Files.{Files, content}
 use Rattle.nanobot_rows.specs.declared.report.Who.TheVariants as who
 use Rattle.nanobot_rows.specs.declared.status.Status.{Status}
 use Rattle.nanobot_rows.specs.declared.status.Status.TheVariants as is
-use Rattle.nanobot_rows.specs.Answer.{AnswerOf, AnswerOfRun, AnswerOfTrace, Answers, CanPlan, Finding, Found, IsReply, ModelOf, ModelsOf, OfPlan, OfRun, OfSession, Reply, ScriptOf, Stores, StoresPlan, TextOf, TraceOf, Upon, dis_limit, facts_of, run_limit, with_file}
+use Rattle.plan_choice.specs.Planners.{byte_limit}
+use Rattle.nanobot_rows.specs.Answer.{AnswerOf, AnswerOfRun, Answers, CanPlan, Finding, Found, IsReply, ModelOf, ModelsOf, OfRun, OfSession, Reply, ScriptOf, Stores, StoresPlan, TextOf, TraceOf, Upon, dis_limit, facts_of}
 use Rattle.nanobot_rows.specs.Lines.{legal_line, stored_line}
 use Rattle.nanobot_words.specs.declared.planner.Planner.{Planner}
 use Rattle.nanobot_words.specs.Rows.{HasName, asm, check, debug, dis, exercise, plan}
@@ -77,8 +79,8 @@ of_run profile source target commands = record {
 pub run_answered : (profile : Profile) (source target : Option (List ℕ)) (trace : List ℕ)
     → IsRowAnswered (HasName source target) (AnswerOfRun profile source target trace)
 run_answered profile source target trace =
-    upon_answered (λ r. r) (HasName source target) (ModelsOf source target) (λ _. ⊤) (λ models. AnswerOfTrace profile models.0 models.1 trace) (models_once (HasName source target) source target (λ named. named)) (λ _ _ _ _ _. tt)
-    (λ models. upon_answered (λ r. r) ⊤ (TraceOf run_limit trace) (λ _. ⊤) (OfRun profile models.0 models.1) (trace_once ⊤ run_limit trace) (λ _ _ _ _ _. tt) (of_run profile models.0 models.1))
+    upon_answered (λ r. r) (HasName source target) (ModelsOf source target) (λ _. ⊤) (λ models. Upon (TraceOf byte_limit trace) (OfRun profile models.0 models.1)) (models_once (HasName source target) source target (λ named. named)) (λ _ _ _ _ _. tt)
+    (λ models. upon_answered (λ r. r) ⊤ (TraceOf byte_limit trace) (λ _. ⊤) (OfRun profile models.0 models.1) (trace_once ⊤ byte_limit trace) (λ _ _ _ _ _. tt) (of_run profile models.0 models.1))
 
 pub check_answered : (name : List ℕ) → IsRowAnswered ⊤ (AnswerOf (check name))
 check_answered name =
@@ -87,7 +89,7 @@ check_answered name =
 
 -- a file is stored
 stored : (line name bytes : List ℕ) → IsRowAnswered ⊤ (Stores line name bytes)
-stored line name bytes = this (λ r. r) ⊤ (λ files. record { status = is.Done; line = line; after = with_file files name bytes })
+stored line name bytes = this (λ r. r) ⊤ (λ files. record { status = is.Done; line = line; after = finite.insert files name bytes })
 
 pub asm_answered : (text trace : List ℕ) → IsRowAnswered ⊤ (AnswerOf (asm text trace))
 asm_answered text trace =
@@ -147,7 +149,7 @@ stores_plan planner name source target = record {
 pub plan_answered : (planner : Planner) (source target : Option (List ℕ)) (trace : List ℕ)
     → IsPlanAnswered (AnswerOf (plan planner source target trace))
 plan_answered planner source target trace =
-    upon_answered (λ r. r.status) ⊥ (ModelsOf source target) (λ _. ⊥) (λ models. OfPlan planner trace models.0 models.1) (models_once ⊥ source target (λ never. absurd never)) (λ _ never _ _ _. never)
+    upon_answered (λ r. r.status) ⊥ (ModelsOf source target) (λ _. ⊥) (λ models. Upon (CanPlan planner models.0 models.1) (λ _. StoresPlan (facts_of planner) trace models.0 models.1)) (models_once ⊥ source target (λ never. absurd never)) (λ _ never _ _ _. never)
     (λ models. upon_answered (λ r. r.status) ⊥ (CanPlan planner models.0 models.1) (λ _. ⊥) (λ _. StoresPlan (facts_of planner) trace models.0 models.1) (plan_once planner models.0 models.1) (λ _ never _ _ _. never)
     (λ _. stores_plan planner trace models.0 models.1))
 

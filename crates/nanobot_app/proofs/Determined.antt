@@ -3,10 +3,11 @@ use Rattle.std.proofs.Common.{◌≡◌, ◌⊎◌, ℕ, List, [], Some, refl, s
 use Rattle.std.specs.Prelude.{IfSome, IsSomeAnd}
 use Rattle.std.specs.Io.KnownBytes.{append_known}
 use Rattle.vox_depot.specs.Files.{Files}
+use Rattle.vox_depot.specs.Causes.{Rose}
 use Rattle.nanobot_rows.specs.declared.status.Status.{Status}
 use Rattle.nanobot_rows.specs.declared.status.Status.TheVariants as is
 use Rattle.nanobot_rows.specs.Answer.{Answer, AnswerOf, AskNoPlan, Reply, profile_of}
-use Rattle.nanobot_app.specs.Outcome.{DepotRose, IsAnswer, LacksFile, CallOutcome, Outside, SinkRose}
+use Rattle.nanobot_app.specs.Outcome.{IsAnswer, LacksFile, CallOutcome, Outside}
 use Rattle.nanobot_words.specs.Rows.{Row, asm, check, debug, dis, exercise, make, plan, run, IsRow, MakesPlans}
 use Rattle.nanobot_rows.proofs.Told.{if_some}
 use Rattle.nanobot_app.proofs.Answered.{asm_answered, check_answered, debug_answered, dis_answered, exercise_answered, plan_answered, run_answered}
@@ -60,8 +61,8 @@ abbrev pub AnswerLaw : Type 0
 AnswerLaw = (words : List (List ℕ)) (files : Files) (r s : Reply) → AskNoPlan words → Answer words files r → Answer words files s → r ≡ s
 
 pub complete : {stores : List ℕ → Type 0} (law : StatusLaw) (words : List (List ℕ)) (old new : Outside)
-    (result : Status) → CallOutcome (Answer words) stores old new result → (DepotRose old new → ⊥)
-    → (SinkRose old new → ⊥) → IfSome old.files
+    (result : Status) → CallOutcome (Answer words) stores old new result → (Rose old.depot_faults new.depot_faults → ⊥)
+    → (Rose old.sink_faults new.sink_faults → ⊥) → IfSome old.files
     (λ files. (reply : Reply) → Answer words files reply → (result ≡ reply.status) ⊎ (result ≡ is.Memory))
 complete {stores} law words old new result o no_depot no_sink = if_some old.files (λ files told reply a. by files told reply a result o)
   where
@@ -75,7 +76,7 @@ complete {stores} law words old new result o no_depot no_sink = if_some old.file
         → CallOutcome (Answer words) stores old new s → (s ≡ reply.status) ⊎ (s ≡ is.Memory)
     by files told reply a is.Depot o = inl (cause (o.depot refl))
       where
-        cause : DepotRose old new ⊎ LacksFile (Answer words) old → is.Depot ≡ reply.status
+        cause : Rose old.depot_faults new.depot_faults ⊎ LacksFile (Answer words) old → is.Depot ≡ reply.status
         cause (inl rose) = absurd (no_depot rose)
         cause (inr lacks) =
             let here = subst (λ t. IsSomeAnd t (λ files. Answer words files (record { status = is.Depot; line = []; after = files }))) told lacks in

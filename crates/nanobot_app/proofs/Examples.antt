@@ -1,5 +1,5 @@
 -- The worked examples of the headline, and of the effects of a call on the outside.
-use Rattle.std.proofs.Common.{◌≡◌, ℕ, ◌<◌, ◌≤◌, ◌∙◌, pos, List, [], ◌∷◌, length, take, None, Some, codes, refl, sym, ap, subst, inl, inr, arith}
+use Rattle.std.proofs.Common.{◌≡◌, ℕ, ◌<◌, ◌≤◌, ◌∙◌, pos, List, [], ◌∷◌, length, take, Some, codes, refl, sym, ap, subst, inl, inr, arith}
 use Rattle.std.specs.Prelude.{Option, IsSomeAnd}
 use Rattle.std.specs.Fmt.{digits}
 use Rattle.std.proofs.lemmas.List.{length-take}
@@ -11,9 +11,8 @@ use Rattle.vox_geom.specs.Point.{coord}
 use Rattle.vox_depot.specs.Files.{Files}
 use Rattle.nanobot_rows.specs.declared.status.Status.TheVariants as is
 use Rattle.nanobot_rows.specs.Answer.{Reply}
-use Rattle.nanobot_rows.specs.WorkedAnswers.{AreWorkedFiles}
 use Rattle.nanobot_rows.proofs.Others.{a_source, alone, build_commands, from_empty, halt_commands, one_file, two_files}
-use Rattle.nanobot_words.specs.Rows.{Row, asm, check, stores_of}
+use Rattle.nanobot_words.specs.Rows.{asm}
 use Rattle.nanobot_words.proofs.Examples.{an_asm, stores_none}
 use Rattle.nanobot_app.specs.Headline.{TakesBytes}
 use Rattle.nanobot_app.specs.Worked.{WorkedHeadlines, WorkedOutcomes}

@@ -1,5 +1,5 @@
 -- The results of reading files: no end of a call has status 0, at most one result is found, and one is.
-use Rattle.std.proofs.Common.{◌≡◌, ◌==◌, ℕ, ◌+◌, ◌≤◌, List, [], Option, Some, None, Bool, true, false, refl, sym, ap, ◌∙◌, subst, nat_lt, length}
+use Rattle.std.proofs.Common.{codes, ◌≡◌, ◌==◌, ℕ, ◌+◌, ◌≤◌, List, [], Option, Some, None, Bool, true, false, refl, sym, ap, ◌∙◌, subst, nat_lt, length}
 use Rattle.std.specs.Prelude.{ok_or, Result, Ok, Err, MatchOption, MatchResult, MatchBool, ⊤}
 use Rattle.vox_geom.specs.declared.coordinate.Coord.{Coord}
 use Rattle.nano_spec.specs.declared.commands.Command.{Command}
@@ -14,16 +14,17 @@ use Rattle.nano_spec.specs.Verdict.{VerdictOf}
 use Rattle.group_planner.specs.Bounds.{most_bytes}
 use Rattle.group_planner.specs.Rows.{rows, runs}
 use Rattle.low_planner.specs.Supported.{FirstUnsupported}
-use Rattle.step_debugger.specs.Session.{DebugLine}
+use Rattle.step_debugger.specs.Session.{DebugLine, opened}
 use Rattle.debug_script.specs.Script.{ScriptSays}
-use Rattle.debug_script.specs.Sessions.{PrintsFrom}
+use Rattle.debug_script.specs.Sessions.{Prints}
 use Rattle.vox_depot.specs.Files.{Files, content}
 use Rattle.nanobot_rows.specs.declared.report.Who.{Who}
 use Rattle.nanobot_rows.specs.declared.report.Who.TheVariants as who
 use Rattle.nanobot_rows.specs.declared.status.Status.{Status}
 use Rattle.nanobot_rows.specs.declared.status.Status.TheVariants as is
-use Rattle.nanobot_rows.specs.Answer.{Answers, CanPlan, DecodingOf, FileOf, FileUpTo, Finding, Found, LegalOf, ModelOf, ModelsOf, OfResult, Reply, ScriptOf, TextOf, TraceOf, Upon, With, group_limit, script_limit, text_limit}
-use Rattle.nanobot_rows.specs.Lines.{group_long_line, no_model_line, not_legal_line, resolutions_line, text_long_line, trace_line, trace_long_line, unsupported_line}
+use Rattle.plan_choice.specs.Planners.{byte_limit}
+use Rattle.nanobot_rows.specs.Answer.{Answers, CanPlan, DecodingOf, FileOf, FileUpTo, Finding, Found, LegalOf, ModelOf, ModelsOf, OfResult, Reply, ScriptOf, TextOf, TraceOf, Upon, With, script_limit}
+use Rattle.nanobot_rows.specs.Lines.{group_long_line, no_model_line, not_legal_line, resolutions_line, long_line, trace_line, long_line, unsupported_line}
 use Rattle.nanobot_rows.specs.Report.{faulty_text_line}
 use Rattle.nanobot_words.specs.declared.planner.Planner.{Planner}
 use Rattle.nanobot_words.specs.declared.planner.Planner.TheVariants.{Layer, Group, Crew, Void, Low, Swarm}
@@ -44,7 +45,8 @@ pub record SayOne : Type 0 where
   pub scripts : (r : ℕ) (bytes : List ℕ) (a b : Result (List DebugLine) FaultyLine) → ScriptSays r bytes a
       → ScriptSays r bytes b → a ≡ b
   pub sessions : (source : Matrix) (profile : Profile) (commands : List Command) (script : List DebugLine)
-      (a b : List ℕ) → PrintsFrom source profile commands script a → PrintsFrom source profile commands script b → a ≡ b
+      (a b : List ℕ) → Prints commands script (opened source profile) a
+      → Prints commands script (opened source profile) b → a ≡ b
 
 -- the model of bytes is whole, each script has a reading, and each session a text
 pub record SaySome : Type 0 where
@@ -53,7 +55,7 @@ pub record SaySome : Type 0 where
   pub scripts : (r : ℕ) (bytes : List ℕ) → (said : Result (List DebugLine) FaultyLine) × ScriptSays r bytes said
   pub texts : (source : Matrix) (profile : Profile) (commands : List Command) (script : List DebugLine)
       → 1 ≤ source.resolution → length source.voxels ≡ volume source.resolution → AreCommands commands
-      → (text : List ℕ) × PrintsFrom source profile commands script text
+      → (text : List ℕ) × Prints commands script (opened source profile) text
 
 -- ---- results of reading
 
@@ -165,19 +167,19 @@ module _ (may : Type 0) where
 
   pub trace_once : (limit : ℕ) (name : List ℕ) → IsOnce may (TraceOf limit name)
   trace_once limit name =
-      with_once may (FileUpTo limit is.Trace (trace_long_line limit) name) DecodingOf (up_to_once limit is.Trace (trace_long_line limit) name trace_other)
+      with_once may (FileUpTo limit is.Trace (long_line (codes "trace") limit) name) DecodingOf (up_to_once limit is.Trace (long_line (codes "trace") limit) name trace_other)
       (λ bytes. of_said may (Decoding bytes) (OfResult is.Trace trace_line) (λ laws. laws.decoding bytes) (λ _ _. decoding_of bytes) (λ decoding. of_result may is.Trace trace_line decoding trace_other))
 
   pub text_once : (name : List ℕ) → IsOnce may (TextOf name)
   text_once name =
-      with_once may (FileUpTo text_limit is.Text (text_long_line text_limit) name) (λ bytes. OfResult is.Text faulty_text_line (read bytes))
-      (up_to_once text_limit is.Text (text_long_line text_limit) name text_other) (λ bytes. of_result may is.Text faulty_text_line (read bytes) text_other)
+      with_once may (FileUpTo byte_limit is.Text (long_line (codes "text") byte_limit) name) (λ bytes. OfResult is.Text faulty_text_line (read bytes))
+      (up_to_once byte_limit is.Text (long_line (codes "text") byte_limit) name text_other) (λ bytes. of_result may is.Text faulty_text_line (read bytes) text_other)
 
   pub script_once : (r : ℕ) (name : List ℕ) → IsOnce may (ScriptOf r name)
   script_once r name =
-      with_once may (FileUpTo script_limit is.Text (text_long_line script_limit) name)
+      with_once may (FileUpTo script_limit is.Text (long_line (codes "text") script_limit) name)
       (λ bytes files found. (said : Result (List DebugLine) FaultyLine) × ScriptSays r bytes said × OfResult is.Text faulty_text_line said files found)
-      (up_to_once script_limit is.Text (text_long_line script_limit) name text_other)
+      (up_to_once script_limit is.Text (long_line (codes "text") script_limit) name text_other)
       (λ bytes. of_said may (ScriptSays r bytes) (OfResult is.Text faulty_text_line) (λ laws. laws.scripts r bytes) (λ laws _. laws.scripts r bytes) (λ said. of_result may is.Text faulty_text_line said text_other))
 
 -- the models of a source and a target, of which one at least has a file wherever something may be found
@@ -198,7 +200,7 @@ pub plan_once : (planner : Planner) (source target : Matrix) → IsOnce ⊥ (Can
 plan_once Layer source target = plain ⊥ (λ _. Ok tt) (λ _. tt)
 plan_once Group source target =
     let long : Status × List ℕ = (is.Model, group_long_line (runs source + runs target) (rows source + rows target)) in
-    choice ⊥ (nat_lt group_limit (most_bytes source target)) (Err long) (Ok tt) model_other tt
+    choice ⊥ (nat_lt byte_limit (most_bytes source target)) (Err long) (Ok tt) model_other tt
 plan_once Crew source target = plain ⊥ (λ _. Ok tt) (λ _. tt)
 plan_once Void source target = plain ⊥ (λ _. Ok tt) (λ _. tt)
 plan_once Low source target =

@@ -9,12 +9,14 @@ use Rattle.nano_spec.specs.Matrix.{Matrix}
 use Rattle.nano_spec.specs.Profile.{full_profile}
 use Rattle.nano_spec.specs.Verdict.{VerdictOf}
 use Rattle.vox_depot.specs.Files.{Files, content}
+use Rattle.vox_depot.specs.Causes.{Rose}
 use Rattle.nanobot_rows.specs.declared.report.Report.TheVariants as report
 use Rattle.nanobot_rows.specs.declared.status.Status.{Status}
 use Rattle.nanobot_rows.specs.declared.status.Status.TheVariants as is
-use Rattle.nanobot_rows.specs.Answer.{Answer, AnswerOf, AnswerOfRun, AnswerOfTrace, Answers, AskNoPlan, Found, ModelsOf, OfRun, Reply, TraceOf, Upon, run_limit}
+use Rattle.plan_choice.specs.Planners.{byte_limit}
+use Rattle.nanobot_rows.specs.Answer.{Answer, AnswerOf, AnswerOfRun, Answers, AskNoPlan, Found, ModelsOf, OfRun, Reply, TraceOf, Upon}
 use Rattle.nanobot_app.specs.Headline.{IsCost, IsDoneWith, MachineTakes, TakesBytes}
-use Rattle.nanobot_app.specs.Outcome.{DepotRose, IsAnswer, CallOutcome, Outside, SinkRose}
+use Rattle.nanobot_app.specs.Outcome.{IsAnswer, CallOutcome, Outside}
 use Rattle.nanobot_rows.specs.Models.{AreModels}
 use Rattle.nanobot_rows.specs.Reading.{reply_of}
 use Rattle.nanobot_rows.specs.Lines.{accepted_line}
@@ -40,7 +42,7 @@ answers_taken files source target trace energy steps t = by (content files trace
     by (Some bytes) e h = (
       Ok (t.from, t.to),
       finds_models files source target t.from t.to t.named t.models,
-      (Ok h.1.0, finds_trace run_limit files trace h.1.0 (bytes, e, h.0, h.1.1), (verdict.Accepted energy steps, h.1.2, refl)),
+      (Ok h.1.0, finds_trace byte_limit files trace h.1.0 (bytes, e, h.0, h.1.1), (verdict.Accepted energy steps, h.1.2, refl)),
     )
 
 -- ---- answers with status 0
@@ -67,12 +69,13 @@ accepted files (verdict.Accepted energy steps) reply e done = (energy, steps, re
 accepted files (verdict.Refused broken) reply e done = absurd (let no : is.Broken ≡ is.Done = sym (ap (λ (x : Reply). x.status) e) ∙ done in cc)
 
 module _ (files : Files) (source target : Matrix) (reply : Reply) (done : reply.status ≡ is.Done) where
-  done_trace : (trace : List ℕ) → AnswerOfTrace full_profile source target trace files reply → (energy : ℤ)
-      × (steps : ℕ) × IsSomeAnd (content files trace) (λ bytes. TakesBytes source target bytes energy steps)
+  done_trace : (trace : List ℕ) → Upon (TraceOf byte_limit trace) (OfRun full_profile source target) files reply
+      → (energy : ℤ) × (steps : ℕ)
+      × IsSomeAnd (content files trace) (λ bytes. TakesBytes source target bytes energy steps)
       × (reply ≡ reply_of files (report.Accepted energy steps))
   done_trace trace h =
-      let commands = done_says (TraceOf run_limit trace) (OfRun full_profile source target) files reply (trace_once ⊥ run_limit trace).fine done h in
-      let file = trace_found run_limit files trace commands.0 commands.1 in
+      let commands = done_says (TraceOf byte_limit trace) (OfRun full_profile source target) files reply (trace_once ⊥ byte_limit trace).fine done h in
+      let file = trace_found byte_limit files trace commands.0 commands.1 in
       let told = verdict_told files commands.2.0 reply commands.2.2 in
       let is_accepted = accepted files commands.2.0 reply told done in (
         is_accepted.0,
@@ -86,7 +89,7 @@ pub takes_done : (files : Files) (source target : Option (List ℕ)) (trace : Li
     → reply.status ≡ is.Done → AnswerOf (run Full source target trace) files reply → (energy : ℤ) × (steps : ℕ)
     × MachineTakes files source target trace energy steps × (reply ≡ reply_of files (report.Accepted energy steps))
 takes_done files source target trace reply done h =
-    let the_models = done_models files source target (λ models. AnswerOfTrace full_profile models.0 models.1 trace) reply done h in
+    let the_models = done_models files source target (λ models. Upon (TraceOf byte_limit trace) (OfRun full_profile models.0 models.1)) reply done h in
     let the_trace = done_trace files the_models.0 the_models.1 reply done trace the_models.4 in
     (the_trace.0, the_trace.1, record { named = the_models.3; from = the_models.0; to = the_models.1; models = the_models.2; taken = the_trace.2 }, the_trace.3)
 
@@ -122,9 +125,9 @@ module _ {stores : List ℕ → Type 0} (one : RowLaw) (statuses : StatusLaw) (l
       × (new.files ≡ Some reply.after) × ((reply.status ≡ result) × (new.written ≡ append_known old.written reply.line))
   stood files told a = subst (λ t. IfSome t (λ files. (reply : Reply) × Answer words files reply × (new.files ≡ Some reply.after) × ((reply.status ≡ result) × (new.written ≡ append_known old.written reply.line)))) told (o.answer a)
 
-  pub headline_where : (DepotRose old new → ⊥) → (SinkRose old new → ⊥) → (result ≡ is.Memory → ⊥) → IfSome old.files
-      (λ files. (energy : ℤ) (steps : ℕ) → MachineTakes files source target trace energy steps
-      → IsDoneWith result old.written new.written energy steps)
+  pub headline_where : (Rose old.depot_faults new.depot_faults → ⊥) → (Rose old.sink_faults new.sink_faults → ⊥)
+      → (result ≡ is.Memory → ⊥) → IfSome old.files (λ files. (energy : ℤ) (steps : ℕ)
+      → MachineTakes files source target trace energy steps → IsDoneWith result old.written new.written energy steps)
   headline_where no_depot no_sink no_memory = if_some old.files (λ files told energy steps takes.
       let reply = reply_of files (report.Accepted energy steps) in
       let answer : Answer words files reply = inr (run Full source target trace, is_row, answers_taken files source target trace energy steps takes) in
@@ -155,8 +158,8 @@ module _ {stores : List ℕ → Type 0} (one : RowLaw) (statuses : StatusLaw) (l
   refusal a = weaker old.files (λ files s. (s.0, of_the_row one words (run Full source target trace) files s.0 is_row s.1, sym s.3.0, s.3.1, s.2)) (o.answer a)
 
   -- both halves, if the output is known: the line has one energy and one number of steps
-  pub headline : ApartLaw → (DepotRose old new → ⊥) → (SinkRose old new → ⊥) → (result ≡ is.Memory → ⊥) → IfSome
-      old.files (λ files. IfSome old.written (λ before. (energy : ℤ) (steps : ℕ)
+  pub headline : ApartLaw → (Rose old.depot_faults new.depot_faults → ⊥) → (Rose old.sink_faults new.sink_faults → ⊥)
+      → (result ≡ is.Memory → ⊥) → IfSome old.files (λ files. IfSome old.written (λ before. (energy : ℤ) (steps : ℕ)
       → MachineTakes files source target trace energy steps ↔ IsDoneWith result (Some before) new.written energy steps))
   headline apart no_depot no_sink no_memory = if_some old.files (λ files told. if_some old.written (λ before known energy steps. (
     (λ takes. subst (λ (w : Option (List ℕ)). IsDoneWith result w new.written energy steps) known (told_where files told energy steps takes)),

@@ -26,7 +26,7 @@ use Rattle.nano_spec.proofs.Accepted.{accepted_step}
 use Rattle.plan_tape.specs.Progress.{IsBounded}
 use Rattle.plan_tape.specs.Reaches.{HasAtMost, Reaches, starts, steps_on}
 use Rattle.vox_depot.specs.Files.{Files, content}
-use Rattle.nanobot_rows.specs.Answer.{run_limit}
+use Rattle.plan_choice.specs.Planners.{byte_limit}
 use Rattle.nanobot_rows.specs.Models.{AreModels, IsModelOf}
 use Rattle.nanobot_words.specs.Rows.{HasName}
 use Rattle.nanobot_rows.specs.Lines.{accepted_line}
@@ -149,7 +149,7 @@ module _ (laws : CostLaws) (source target : Matrix) (profile : Profile) (command
       let sum : length rest ≡ length step + length left = ap length (sym joined) ∙ length-append step left in
       (later.0, omega (arith, later.1, sum, size, there))
 
-  pub verdict_is_small : length commands ≤ run_limit → VerdictOf source target commands profile (Accepted energy steps)
+  pub verdict_is_small : length commands ≤ byte_limit → VerdictOf source target commands profile (Accepted energy steps)
       → IsCost energy steps
   verdict_is_small few h =
       let counted_here = counted [] commands (opening source profile) 0 (Accepted energy steps) refl (starts refl refl refl) refl (record { low = omega (arith, ints); high = omega (arith, ints) }) h refl in
@@ -197,4 +197,4 @@ module _ (laws : CostLaws) (files : Files) where
       by None h = absurd h
       by (Some bytes) h =
           verdict_is_small laws t.from t.to full_profile h.1.0 (omega arith) has.some has.most has.whole h.1.1.0 energy steps
-          (few_commands bytes h.1.0 run_limit h.1.1 h.0) h.1.2
+          (few_commands bytes h.1.0 byte_limit h.1.1 h.0) h.1.2

@@ -1,4 +1,5 @@
 -- The outcome of a call, from its exits.
+use Rattle.std.specs.FinMap as finite
 use Rattle.std.proofs.Common.{◌≡◌, ◌⊎◌, ℕ, ◌≤◌, List, [], Option, Some, None, refl, sym, ap, ◌∙◌, subst, inl, inr, take}
 use Rattle.std.specs.Prelude.{IfSome, IsSomeAnd}
 use Rattle.std.specs.Io.KnownBytes.{append_known}
@@ -12,9 +13,9 @@ use Rattle.nanobot_rows.specs.declared.report.Report.{Report}
 use Rattle.nanobot_rows.specs.declared.report.Report.TheVariants as report
 use Rattle.nanobot_rows.specs.declared.status.Status.{Status}
 use Rattle.nanobot_rows.specs.declared.status.Status.TheVariants as is
-use Rattle.nanobot_rows.specs.Answer.{Answer, AnswerOf, Answers, with_file}
+use Rattle.nanobot_rows.specs.Answer.{Answer, AnswerOf, Answers}
 use Rattle.nanobot_rows.specs.Effects.{IsFor, IsUnstored, bytes_by, files_with, reply_by, status_by, told_with}
-use Rattle.nanobot_app.specs.Outcome.{DepotRose, Finished, IsAnswer, LacksFile, CallOutcome, Outside, Printed, RowStores, SinkRose, SparesOthers, StoreFailed, StoredBy, Told}
+use Rattle.nanobot_app.specs.Outcome.{Finished, IsAnswer, LacksFile, CallOutcome, Outside, Printed, RowStores, SparesOthers, StoredBy, Told}
 use Rattle.nanobot_rows.specs.Reading.{reply_of}
 use Rattle.nanobot_rows.specs.Report.{report_line, status_of}
 use Rattle.nanobot_words.specs.Rows.{IsRow, Row}
@@ -60,8 +61,8 @@ module _ {answers : Answers} {stores : List ℕ → Type 0} (old new : Outside) 
       → CallOutcome answers stores old new result
   outcome_printed status result line a stands printed = by printed.cases
     where
-      by : ((result ≡ status) × (new.written ≡ append_known old.written line))
-          ⊎ ((result ≡ is.Sink) × SinkRose old new × ((n : ℕ) × (new.written ≡ append_known old.written (take n line))))
+      by : ((result ≡ status) × (new.written ≡ append_known old.written line)) ⊎ ((result ≡ is.Sink)
+          × Rose old.sink_faults new.sink_faults × ((n : ℕ) × (new.written ≡ append_known old.written (take n line))))
           → CallOutcome answers stores old new result
       by (inl done) =
           let answer_here : IsAnswer result = subst IsAnswer (sym done.0) a in
@@ -115,8 +116,9 @@ module _ {answers : Answers} {stores : List ℕ → Type 0} (old new : Outside) 
       by (inr printed) = outcome_printed (status_of r) result (report_line r) (is_answer r) stands printed
 
   -- a file could not be read or stored
-  pub outcome_lost : (result : Status) → result ≡ is.Depot → DepotRose old new ⊎ LacksFile answers old
-      → new.written ≡ old.written → SparesOthers answers stores old new → CallOutcome answers stores old new result
+  pub outcome_lost : (result : Status) → result ≡ is.Depot
+      → Rose old.depot_faults new.depot_faults ⊎ LacksFile answers old → new.written ≡ old.written
+      → SparesOthers answers stores old new → CallOutcome answers stores old new result
   outcome_lost result e cause written spared = record {
     answer = λ b. absurd (not_depot result b e);
     depot = λ _. cause;
@@ -134,7 +136,7 @@ pub outcome_finished : {answers : Answers} (stored : Option (List ℕ)) (effect 
     → CallOutcome answers (λ name. stored ≡ Some name) old new result
 outcome_finished {answers} stored effect old mid new result answer for files faults stores written sink finished = by finished.cases
   where
-    spared : StoreFailed old new → (o : Option NewFile)
+    spared : Rose old.failed_stores new.failed_stores → (o : Option NewFile)
         → IfSome o (λ file. (stored ≡ Some file.name.now) × (status_by effect.message ≡ is.Done))
         → IsUnstored o mid.files new.files → SparesOthers answers (λ name. stored ≡ Some name) old new
     spared failed None named lost = inl (lost ∙ files)
@@ -154,18 +156,18 @@ outcome_finished {answers} stored effect old mid new result answer for files fau
         × (now ≡ Some after))
     kept None o now e h = tt
     kept (Some fs) None now e h = (fs, h, e)
-    kept (Some fs) (Some file) now e h = (with_file fs file.name.now file.bytes.items, h, e)
+    kept (Some fs) (Some file) now e h = (finite.insert fs file.name.now file.bytes.items, h, e)
 
     by : ((result ≡ is.Memory) × (new.files ≡ mid.files) × (new.written ≡ mid.written)) ⊎ (((result ≡ is.Depot)
-        × DepotRose mid new × StoreFailed mid new × (new.written ≡ mid.written)
-        × IsUnstored effect.file mid.files new.files) ⊎ ((new.files ≡ told_with mid.files effect.file)
-        × Printed (status_by effect.message)
-        (bytes_by effect.message) mid.written new.written mid.sink_faults new.sink_faults result))
+        × Rose mid.depot_faults new.depot_faults × Rose mid.failed_stores new.failed_stores
+        × (new.written ≡ mid.written) × IsUnstored effect.file mid.files new.files)
+        ⊎ ((new.files ≡ told_with mid.files effect.file) × Printed (status_by effect.message) (bytes_by effect.message)
+        mid.written new.written mid.sink_faults new.sink_faults result))
         → CallOutcome answers (λ name. stored ≡ Some name) old new result
     by (inl none) = outcome_memory old new result none.0 (none.1 ∙ files) (none.2 ∙ written)
     by (inr (inl lost)) =
-        let rose : DepotRose old new = rose_since old.depot_faults mid.depot_faults new.depot_faults faults lost.1 in
-        let failed : StoreFailed old new = subst (λ n. Rose n new.failed_stores) stores lost.2 in
+        let rose : Rose old.depot_faults new.depot_faults = rose_since old.depot_faults mid.depot_faults new.depot_faults faults lost.1 in
+        let failed : Rose old.failed_stores new.failed_stores = subst (λ n. Rose n new.failed_stores) stores lost.2 in
         outcome_lost old new result lost.0 (inl rose) (lost.3 ∙ written) (spared failed effect.file for lost.4)
     by (inr (inr done)) =
         outcome_printed old new (status_by effect.message) result (bytes_by effect.message) (is_message effect.message)
@@ -185,7 +187,8 @@ outcome_of_row words row old new result written o = record {
   after_memory = o.after_memory;
 }
   where
-    cause : DepotRose old new ⊎ LacksFile (AnswerOf row) old → DepotRose old new ⊎ LacksFile (Answer words) old
+    cause : Rose old.depot_faults new.depot_faults ⊎ LacksFile (AnswerOf row) old
+        → Rose old.depot_faults new.depot_faults ⊎ LacksFile (Answer words) old
     cause (inl rose) = inl rose
     cause (inr lacks) = inr (there old.files lacks)
       where

@@ -1,4 +1,5 @@
 -- A plan that was stored is accepted by `run`.
+use Rattle.std.specs.FinMap as finite
 use Rattle.std.proofs.Common.{◌≡◌, ℕ, ◌+◌, ◌≤◌, List, Bool, true, false, cond, refl, sym, ap, ◌∙◌, subst, arith, nat_lt, length}
 use Rattle.std.specs.Prelude.{ℤ, Option, Some, None, Ok, Err, IsSomeAnd, MatchBool, MatchResult, ⊤}
 use Rattle.std.specs.FinMap.{get-insert}
@@ -22,7 +23,8 @@ use Rattle.group_planner.specs.Rows.{rows, runs}
 use Rattle.vox_depot.specs.Files.{Files, content}
 use Rattle.nanobot_rows.specs.declared.report.Report.TheVariants as report
 use Rattle.nanobot_rows.specs.declared.status.Status.TheVariants as is
-use Rattle.nanobot_rows.specs.Answer.{AnswerOf, AnswerOfRun, CanPlan, Found, IsReply, OfPlan, Reply, Stores, StoresPlan, facts_of, group_limit, profile_of, run_limit, with_file}
+use Rattle.plan_choice.specs.Planners.{byte_limit}
+use Rattle.nanobot_rows.specs.Answer.{AnswerOf, AnswerOfRun, CanPlan, Found, IsReply, Reply, Stores, StoresPlan, facts_of, profile_of, Upon}
 use Rattle.nanobot_app.specs.Plans.{IsRunOfPlan, PlansAsLight}
 use Rattle.nanobot_rows.specs.Lines.{group_long_line, planned_line}
 use Rattle.nanobot_rows.specs.Models.{AreModels, IsModelOf, IsSide}
@@ -42,28 +44,28 @@ use Rattle.nanobot_rows.proofs.Replies.{finds_models}
 
 module _ (files : Files) (name bytes : List ℕ) where
   tied : (other : List ℕ) (b : Bool) → bytes_eq other name ≡ b
-      → content (with_file files name bytes) other ≡ cond b (Some bytes) (content files other)
+      → content (finite.insert files name bytes) other ≡ cond b (Some bytes) (content files other)
   tied other b e = get-insert nat_list_cmp_total files name bytes other ∙ ap (λ t. cond t (Some bytes) (content files other)) (is_eq-slice_cmp other name ∙ e)
 
-  own_content : content (with_file files name bytes) name ≡ Some bytes
+  own_content : content (finite.insert files name bytes) name ≡ Some bytes
   own_content = tied name true ((bytes_eq-Decides name name).1 refl)
 
   same_content : (other : List ℕ) → (other ≡ name → ⊥)
-      → content (with_file files name bytes) other ≡ content files other
+      → content (finite.insert files name bytes) other ≡ content files other
   same_content other differ = by (bytes_eq other name) refl
     where
-      by : (b : Bool) → bytes_eq other name ≡ b → content (with_file files name bytes) other ≡ content files other
+      by : (b : Bool) → bytes_eq other name ≡ b → content (finite.insert files name bytes) other ≡ content files other
       by true e = absurd (differ ((bytes_eq-Decides other name).0 e))
       by false e = tied other false e
 
   -- the content of another file is unchanged
   side_stays : (side : Option (List ℕ)) (m other : Matrix) → (side ≡ Some name → ⊥) → IsSide files side m other
-      → IsSide (with_file files name bytes) side m other
+      → IsSide (finite.insert files name bytes) side m other
   side_stays None m other differ h = h
   side_stays (Some file) m other differ h = subst (λ (o : Option (List ℕ)). IsSomeAnd o (λ bytes. (model bytes ≡ Ok m) × IsLegal m)) (sym (same_content file (λ e. differ (ap Some e)))) h
 
   models_stay : (source target : Option (List ℕ)) (s t : Matrix) → (source ≡ Some name → ⊥) → (target ≡ Some name → ⊥)
-      → AreModels source target files s t → AreModels source target (with_file files name bytes) s t
+      → AreModels source target files s t → AreModels source target (finite.insert files name bytes) s t
   models_stay source target s t first second m = record {
     source_is = side_stays source s t first m.source_is;
     target_is = side_stays target t s second m.target_is;
@@ -79,12 +81,12 @@ MostLaw = (bytes : List ℕ) (m : Matrix) → model bytes ≡ Ok m → m.resolut
 runs_through : (profile : Profile) (files : Files) (source target : Option (List ℕ)) (trace : List ℕ) (s t : Matrix)
     (commands : List Command) (energy : ℤ) (steps : ℕ) → HasName source target → AreModels source target files s t
     → content files trace ≡ Some (spellings commands) → AreCommands commands
-    → VerdictOf s t commands profile (Accepted energy steps) → length (spellings commands) ≤ run_limit
+    → VerdictOf s t commands profile (Accepted energy steps) → length (spellings commands) ≤ byte_limit
     → AnswerOfRun profile source target trace files (reply_of files (report.Accepted energy steps))
 runs_through profile files source target trace s t commands energy steps named models there are accepted size = (
   Ok (s, t),
   finds_models files source target s t named models,
-  (Ok commands, finds_trace run_limit files trace commands (spellings commands, there, size, (are, refl)), (Accepted energy steps, accepted, refl)),
+  (Ok commands, finds_trace byte_limit files trace commands (spellings commands, there, size, (are, refl)), (Accepted energy steps, accepted, refl)),
 )
 
 module _ (law : MostLaw) where
@@ -108,14 +110,14 @@ abbrev MakesPlan : Planner → Matrix → Matrix → Type 0
 MakesPlan planner source target = (files : Files) × CanPlan planner source target files (Ok tt)
 
 -- a group plan that is made is not too long
-few_bytes : (s t : Matrix) → MakesPlan Group s t → most_bytes s t ≤ group_limit
-few_bytes s t made = by (nat_lt group_limit (most_bytes s t)) refl made.1
+few_bytes : (s t : Matrix) → MakesPlan Group s t → most_bytes s t ≤ byte_limit
+few_bytes s t made = by (nat_lt byte_limit (most_bytes s t)) refl made.1
   where
-    by : (long : Bool) → nat_lt group_limit (most_bytes s t) ≡ long → MatchBool long
+    by : (long : Bool) → nat_lt byte_limit (most_bytes s t) ≡ long → MatchBool long
         (◌≡◌ {A = Found ⊤} (Ok tt) (Err (is.Model, group_long_line (runs s + runs t) (rows s + rows t))))
-        (◌≡◌ {A = Found ⊤} (Ok tt) (Ok tt)) → most_bytes s t ≤ group_limit
+        (◌≡◌ {A = Found ⊤} (Ok tt) (Ok tt)) → most_bytes s t ≤ byte_limit
     by true test e = absurd (cc)
-    by false test e = not_less_by_test group_limit (most_bytes s t) test
+    by false test e = not_less_by_test byte_limit (most_bytes s t) test
 
 module _ (s t : Matrix) (commands : List Command) (energy : ℤ) (steps : ℕ) where
   are_commands : (planner : Planner) → facts_of planner s t commands energy steps → AreCommands commands
@@ -146,7 +148,7 @@ module _ (s t : Matrix) (commands : List Command) (energy : ℤ) (steps : ℕ) w
 
   -- no plan is longer than a trace that is run
   fits : (planner : Planner) → s.resolution ≤ 400 → t.resolution ≤ 400 → MakesPlan planner s t
-      → facts_of planner s t commands energy steps → length (spellings commands) ≤ run_limit
+      → facts_of planner s t commands energy steps → length (spellings commands) ≤ byte_limit
   fits Layer most most' made h = layer_fits s.resolution (length (spellings commands)) most h.bytes
   fits Group most most' made h = let few = h.few_bytes in let short = few_bytes s t made in omega (arith, few, short)
   fits Crew most most' made h = h.few_bytes
@@ -160,7 +162,7 @@ module _ (s t : Matrix) (commands : List Command) (energy : ℤ) (steps : ℕ) w
 module _ (round : Round) (source target : Option (List ℕ)) (trace : List ℕ) (files : Files) (first : source ≡ Some trace → ⊥) (second : target ≡ Some trace → ⊥) where
   run_of_stored : (s t : Matrix) (commands : List Command) (energy : ℤ) (steps : ℕ) (reply : Reply)
       → HasName source target → AreModels source target files s t → AreCommands commands
-      → VerdictOf s t commands (profile_of round) (Accepted energy steps) → length (spellings commands) ≤ run_limit
+      → VerdictOf s t commands (profile_of round) (Accepted energy steps) → length (spellings commands) ≤ byte_limit
       → Stores (planned_line energy steps (length commands) (length (spellings commands))) trace (spellings commands)
       files reply → IsRunOfPlan round source target trace reply
   run_of_stored s t commands energy steps reply named models are accepted size e =
@@ -170,7 +172,7 @@ module _ (round : Round) (source target : Option (List ℕ)) (trace : List ℕ) 
         commands = length commands;
         bytes = length (spellings commands);
         told = refl;
-        accepted = runs_through (profile_of round) (with_file files trace (spellings commands)) source target trace s t commands energy steps named
+        accepted = runs_through (profile_of round) (finite.insert files trace (spellings commands)) source target trace s t commands energy steps named
             (models_stay files trace (spellings commands) source target s t first second models) (own_content files trace (spellings commands)) are accepted size;
       })
 
@@ -182,7 +184,7 @@ pub run_of_plan : MostLaw → (round : Round) (planner : Planner)
     → AnswerOf (plan planner source target trace) files reply → reply.status ≡ is.Done
     → IsRunOfPlan round source target trace reply
 run_of_plan law round planner accepts source target trace files reply first second answer done =
-    let found = done_models files source target (λ models. OfPlan planner trace models.0 models.1) reply done answer in
+    let found = done_models files source target (λ models. Upon (CanPlan planner models.0 models.1) (λ _. StoresPlan (facts_of planner) trace models.0 models.1)) reply done answer in
     let s = found.0 in
     let t = found.1 in
     let models = found.2 in
@@ -204,7 +206,7 @@ pub plan_is_done : (laws : SayOne) (planner : Planner) (source target : Option (
     → AnswerOf (plan planner source target trace) files reply → reply.status ≡ is.Done
 plan_is_done laws planner source target trace files from to reply named are can h =
     let models = (models_once ⊥ source target (λ never. absurd never)).one laws files h.0 (Ok (from, to)) h.1 (finds_models files source target from to named are) in
-    let planned = subst (λ (x : Found (Matrix × Matrix)). MatchResult x (λ m. OfPlan planner trace m.0 m.1 files reply) (λ end. IsReply end.0 end.1 files reply)) models h.2 in
+    let planned = subst (λ (x : Found (Matrix × Matrix)). MatchResult x (λ m. Upon (CanPlan planner m.0 m.1) (λ _. StoresPlan (facts_of planner) trace m.0 m.1) files reply) (λ end. IsReply end.0 end.1 files reply)) models h.2 in
     let made = (plan_once planner from to).one laws files planned.0 (Ok tt) planned.1 can in
     let stored = subst (λ (x : Found ⊤). MatchResult x (λ _. StoresPlan (facts_of planner) trace from to files reply) (λ end. IsReply end.0 end.1 files reply)) made planned.2 in
     ap (λ (r : Reply). r.status) stored.4

@@ -10,7 +10,7 @@ use Rattle.nano_spec.specs.Verdict.{VerdictOf}
 use Rattle.vox_depot.specs.Files.{Files, content}
 use Rattle.nanobot_rows.specs.declared.status.Status.{Status}
 use Rattle.nanobot_rows.specs.declared.status.Status.TheVariants as is
-use Rattle.nanobot_rows.specs.Answer.{run_limit}
+use Rattle.plan_choice.specs.Planners.{byte_limit}
 use Rattle.nanobot_rows.specs.Models.{AreModels}
 use Rattle.nanobot_rows.specs.Lines.{accepted_line}
 use Rattle.nanobot_words.specs.Rows.{HasName}
@@ -19,7 +19,7 @@ use Rattle.nanobot_words.specs.Rows.{HasName}
 -- number of steps
 abbrev pub TakesBytes : Matrix → Matrix → List ℕ → ℤ → ℕ → Type 0
 TakesBytes source target bytes energy steps =
-    (length bytes ≤ run_limit) × ((commands : List Command) × Cutting bytes commands
+    (length bytes ≤ byte_limit) × ((commands : List Command) × Cutting bytes commands
     × VerdictOf source target commands full_profile (Accepted energy steps))
 
 -- the same for files: at least one model has a file, both are legal and of the same resolution, and the file of the trace

@@ -43,30 +43,16 @@ abbrev pub AnswerStands : Answers → Outside → Outside → (Reply → Type 0)
 AnswerStands answers old new p =
     IfSome old.files (λ files. (reply : Reply) × answers files reply × (new.files ≡ Some reply.after) × p reply)
 
-abbrev pub DepotRose : Outside → Outside → Type 0
-DepotRose old new = Rose old.depot_faults new.depot_faults
-
--- a store of the depot failed
-abbrev pub StoreFailed : Outside → Outside → Type 0
-StoreFailed old new = Rose old.failed_stores new.failed_stores
-
-abbrev pub SinkRose : Outside → Outside → Type 0
-SinkRose old new = Rose old.sink_faults new.sink_faults
-
 -- the files are known, and a file to be read does not exist
 abbrev pub LacksFile : Answers → Outside → Type 0
 LacksFile answers old =
     IsSomeAnd old.files (λ files. answers files (record { status = is.Depot; line = []; after = files }))
 
--- if the files are known, the call can succeed over them
-abbrev pub CanBeDone : Answers → Outside → Type 0
-CanBeDone answers old = IfSome old.files (λ files. (reply : Reply) × answers files reply × (reply.status ≡ is.Done))
-
--- a file could not be stored: its store failed although the call can succeed, and all files but the one to store are
--- unchanged
+-- a file could not be stored: its store failed although, if the files are known, the call can succeed over them; and all
+-- files but the one to store are unchanged
 pub record LosesFile (answers : Answers) (stores : List ℕ → Type 0) (old new : Outside) : Type 0 where
-  pub failed : StoreFailed old new
-  pub done : CanBeDone answers old
+  pub failed : Rose old.failed_stores new.failed_stores
+  pub done : IfSome old.files (λ files. (reply : Reply) × answers files reply × (reply.status ≡ is.Done))
   pub name : List ℕ
   pub stored : stores name
   pub others_are : others new.files name ≡ others old.files name
@@ -86,8 +72,8 @@ DeliveredPart old new reply = (n : ℕ) × (new.written ≡ append_known old.wri
 pub record CallOutcome (answers : Answers) (stores : List ℕ → Type 0) (old new : Outside) (result : Status)
     : Type 0 where
   pub answer : IsAnswer result → AnswerStands answers old new (Delivered result old new)
-  pub depot : result ≡ is.Depot → DepotRose old new ⊎ LacksFile answers old
-  pub sink : result ≡ is.Sink → SinkRose old new
+  pub depot : result ≡ is.Depot → Rose old.depot_faults new.depot_faults ⊎ LacksFile answers old
+  pub sink : result ≡ is.Sink → Rose old.sink_faults new.sink_faults
   pub after_depot : result ≡ is.Depot → (new.written ≡ old.written) × SparesOthers answers stores old new
   pub after_sink : result ≡ is.Sink → AnswerStands answers old new (DeliveredPart old new)
   pub after_memory : result ≡ is.Memory → (new.files ≡ old.files) × (new.written ≡ old.written)
@@ -114,7 +100,7 @@ RowStores row name = stores_of row ≡ Some name
 -- the effect was carried out: not at all, out of memory; or the file was not stored; or it was, and the line was put
 pub record Finished (effect : Effect) (old new : Outside) (result : Status) : Type 0 where
   pub cases : ((result ≡ is.Memory) × (new.files ≡ old.files) × (new.written ≡ old.written)) ⊎ (((result ≡ is.Depot)
-      × DepotRose old new × StoreFailed old new × (new.written ≡ old.written)
+      × Rose old.depot_faults new.depot_faults × Rose old.failed_stores new.failed_stores × (new.written ≡ old.written)
       × IsUnstored effect.file old.files new.files) ⊎ ((new.files ≡ told_with old.files effect.file) × Printed
       (status_by effect.message) (bytes_by effect.message) old.written new.written old.sink_faults new.sink_faults
       result))

@@ -1,5 +1,5 @@
 -- Worked examples of the headline, and of the effects of a call on the outside.
-use Rattle.std.specs.Prelude.{◌≡◌, ◌≢◌, ℕ, ◌+◌, ◌^◌, ◌<◌, ℤ, pos, List, [], ◌∷◌, length, Option, None, Some, codes, ⊤}
+use Rattle.std.specs.Prelude.{◌≡◌, ◌≢◌, ℕ, ◌+◌, ◌^◌, ◌<◌, ℤ, pos, List, [], ◌∷◌, length, None, Some, codes, ⊤}
 use Rattle.nano_spec.specs.Matrix.{Matrix}
 use Rattle.vox_depot.specs.Files.{Files}
 use Rattle.nanobot_rows.specs.declared.status.Status.TheVariants as is

@@ -1,5 +1,5 @@
 -- The worked examples of lines and answers, by computing.
-use Rattle.std.proofs.Common.{◌≡◌, ◌+◌, ◌<◌, refl, sym, subst, Bool}
+use Rattle.std.proofs.Common.{codes, ◌≡◌, ◌+◌, ◌<◌, refl, sym, subst, Bool}
 use Rattle.std.specs.Prelude.{Some, None, Ok, Err, MatchBool, ⊤}
 use Rattle.std.specs.Fmt.{digits}
 use Rattle.nano_spec.specs.Matrix.{Matrix}
@@ -11,7 +11,7 @@ use Rattle.nanobot_rows.specs.declared.report.Report.TheVariants as report
 use Rattle.nanobot_rows.specs.declared.status.Status.TheVariants as is
 use Rattle.nanobot_rows.specs.Answer.{CanPlan, Found}
 use Rattle.nanobot_words.specs.declared.planner.Planner.TheVariants.{Group}
-use Rattle.nanobot_rows.specs.Lines.{text_long_line, trace_long_line}
+use Rattle.nanobot_rows.specs.Lines.{long_line}
 use Rattle.nanobot_rows.specs.Report.{report_line}
 use Rattle.nanobot_rows.specs.Worked.{WorkedBounds, WorkedLengths, WorkedLimits, WorkedLines, WorkedStatuses}
 use Rattle.nanobot_rows.proofs.Loads.{fits}
@@ -55,11 +55,9 @@ worked_lines = record {
 
 pub worked_limits : WorkedLimits
 worked_limits = record {
-  of_a_run = refl;
+  of_a_run_a_text_and_a_plan = refl;
   of_a_printed_trace = refl;
-  of_a_text = refl;
   of_a_script = refl;
-  of_a_group_plan = refl;
 }
 
 pub worked_bounds : WorkedBounds
@@ -93,8 +91,8 @@ too_long files source target many = subst (λ (t : Bool). Choice source target t
 
 pub worked_lengths : WorkedLengths
 worked_lengths = record {
-  of_a_text = λ files name bytes commands there few reads. (Ok bytes, fits files name bytes 1073741824 is.Text (text_long_line 1073741824) there few, rw reads refl);
-  of_a_trace_of_a_session = λ files source trace script bytes m commands lines reply found there few decodes says session. (Ok m, found, (Ok commands, (Ok bytes, fits files trace bytes 50000000 is.Trace (trace_long_line 50000000) there few, (Ok commands, decodes, refl)), (Ok lines, says, session)));
+  of_a_text = λ files name bytes commands there few reads. (Ok bytes, fits files name bytes 1073741824 is.Text (long_line (codes "text") 1073741824) there few, rw reads refl);
+  of_a_trace_of_a_session = λ files source trace script bytes m commands lines reply found there few decodes says session. (Ok m, found, (Ok commands, (Ok bytes, fits files trace bytes 50000000 is.Trace (long_line (codes "trace") 50000000) there few, (Ok commands, decodes, refl)), (Ok lines, says, session)));
   of_a_group_plan = λ files source target few. subst (λ (t : Bool). Choice source target t (Ok tt)) (sym (test_not_less 1073741824 (group.most_bytes source target) few)) refl;
   of_too_long_a_group_plan = too_long;
   of_a_plan_that_is_too_long = λ files name source target many. (Err (is.Model, report_line (report.GroupLong (runs source + runs target) (rows source + rows target))), too_long files source target many, refl);

@@ -1,5 +1,5 @@
 -- The content of a loaded file, fetched up to one byte past the limit.
-use Rattle.std.proofs.Common.{◌≡◌, ℕ, ◌+◌, ◌<◌, ◌≤◌, ◌∙◌, Global, Vec, List, [], ◌∷◌, length, take, refl, sym, ap, subst, arith, Bool}
+use Rattle.std.proofs.Common.{codes, ◌≡◌, ℕ, ◌+◌, ◌<◌, ◌≤◌, ◌∙◌, Global, Vec, List, [], ◌∷◌, length, take, refl, sym, ap, subst, arith, Bool}
 use Rattle.std.specs.Prelude.{Option, Some, Result, Ok, Err, MatchBool, IfSome}
 use Rattle.std.specs.Result.{result_map_both}
 use Rattle.std.proofs.lemmas.List.{length-append, length-take, take_all}
@@ -25,12 +25,13 @@ use Rattle.step_debugger.specs.Session.{DebugLine}
 use Rattle.debug_script.specs.Calls.{lines_are}
 use Rattle.debug_script.specs.declared.line.ScriptLine.{ScriptLine}
 use Rattle.nanobot_rows.specs.declared.stop.Stop.{Stop}
-use Rattle.nanobot_rows.specs.Answer.{FileUpTo, Finding, Found, OfResult, ScriptOf, TextOf, TraceOf, script_limit, text_limit}
+use Rattle.plan_choice.specs.Planners.{byte_limit}
+use Rattle.nanobot_rows.specs.Answer.{FileUpTo, Finding, Found, OfResult, ScriptOf, TextOf, TraceOf, script_limit}
 use Rattle.nanobot_rows.specs.Report.{faulty_text_line}
 use Rattle.nanobot_rows.specs.Reading.{Finds, FindsAs, of_load, of_text, of_trace}
 use Rattle.nanobot_rows.specs.declared.status.Status.{Status}
 use Rattle.nanobot_rows.specs.declared.status.Status.TheVariants as is
-use Rattle.nanobot_rows.specs.Lines.{text_long_line, trace_long_line}
+use Rattle.nanobot_rows.specs.Lines.{long_line}
 use Rattle.nanobot_rows.proofs.Replies.{stops, unviewed, viewed}
 use Rattle.nanobot_rows.proofs.Told.{finds_file, not_loaded, weaker, with_file}
 use Rattle.nano_spec.proofs.Lengths.{spelling_some}
@@ -82,25 +83,25 @@ module _ {A : Type 0} (limit : ℕ) (status : Status) (line name : List ℕ) (X 
   bytes_stop told rose s h = stops (FileUpTo limit status line name) X told rose rose s ends (λ h. h) (unviewed {V = Vec ℕ Global} (λ bytes. bytes.items) (FileUpTo limit status line name) told rose s h)
 
 pub text_stops : (name : List ℕ) (told : Option Files) (rose : Type 0) (s : Stop)
-    → OfBytes (FileUpTo text_limit is.Text (text_long_line text_limit) name) told rose (Err s)
+    → OfBytes (FileUpTo byte_limit is.Text (long_line (codes "text") byte_limit) name) told rose (Err s)
     → Finds (TextOf name) told rose (Err s)
-text_stops name = bytes_stop text_limit is.Text (text_long_line text_limit) name (TextOf name) (λ files end h. (Err end, h, refl))
+text_stops name = bytes_stop byte_limit is.Text (long_line (codes "text") byte_limit) name (TextOf name) (λ files end h. (Err end, h, refl))
 
 pub trace_stops : (limit : ℕ) (name : List ℕ) (told : Option Files) (rose : Type 0) (s : Stop)
-    → OfBytes (FileUpTo limit is.Trace (trace_long_line limit) name) told rose (Err s)
+    → OfBytes (FileUpTo limit is.Trace (long_line (codes "trace") limit) name) told rose (Err s)
     → Finds (TraceOf limit name) told rose (Err s)
-trace_stops limit name = bytes_stop limit is.Trace (trace_long_line limit) name (TraceOf limit name) (λ files end h. (Err end, h, refl))
+trace_stops limit name = bytes_stop limit is.Trace (long_line (codes "trace") limit) name (TraceOf limit name) (λ files end h. (Err end, h, refl))
 
 -- the result for the lines of a script
 abbrev pub OfScript : ℕ → List ℕ → Option Files → Type 0 → Result (Vec ScriptLine Global) Stop → Type 0
 OfScript r name told rose result = FindsAs (λ script. lines_are script.items) (ScriptOf r name) told rose result
 
 pub script_stops : (r : ℕ) (name : List ℕ) (told : Option Files) (rose : Type 0) (s : Stop)
-    → OfBytes (FileUpTo script_limit is.Text (text_long_line script_limit) name) told rose (Err s)
+    → OfBytes (FileUpTo script_limit is.Text (long_line (codes "text") script_limit) name) told rose (Err s)
     → OfScript r name told rose (Err s)
 script_stops r name told rose s h =
     viewed {V = Vec ScriptLine Global} (λ script. lines_are script.items) (ScriptOf r name) told rose s
-    (bytes_stop script_limit is.Text (text_long_line script_limit) name (ScriptOf r name) (λ files end h. (Err end, h, refl)) told rose s h)
+    (bytes_stop script_limit is.Text (long_line (codes "text") script_limit) name (ScriptOf r name) (λ files end h. (Err end, h, refl)) told rose s h)
 
 -- ---- the contents of bytes
 
@@ -110,7 +111,7 @@ as_said : {A W : Type 0} (status : Status) (line : W → List ℕ) (files : File
 as_said status line files is_said r e = ap (λ x. result_map_both (λ a. a) (λ why. (status, line why)) x) (sym e)
 
 module _ (told : Option Files) (name v : List ℕ) where
-  module _ (whole : IfSome told (λ files. FileUpTo text_limit is.Text (text_long_line text_limit) name files (Ok v))) where
+  module _ (whole : IfSome told (λ files. FileUpTo byte_limit is.Text (long_line (codes "text") byte_limit) name files (Ok v))) where
     pub text_found : (commands : List Command) → read v ≡ Ok commands
         → IfSome told (λ files. TextOf name files (Ok commands))
     text_found commands e = weaker told (λ files h. (Ok v, h, as_said is.Text faulty_text_line files (read v) (Ok commands) e)) whole
@@ -120,7 +121,7 @@ module _ (told : Option Files) (name v : List ℕ) where
     text_refused rose (text.Refused refusal) e = weaker told (λ files h. (Ok v, h, as_said is.Text faulty_text_line files (read v) (Err (faulty_line refusal)) e)) whole
     text_refused rose text.Memory e = tt
 
-  module _ (r : ℕ) (whole : IfSome told (λ files. FileUpTo script_limit is.Text (text_long_line script_limit) name files (Ok v))) where
+  module _ (r : ℕ) (whole : IfSome told (λ files. FileUpTo script_limit is.Text (long_line (codes "text") script_limit) name files (Ok v))) where
     pub script_found : (lines : List DebugLine) → ScriptSays r v (Ok lines)
         → IfSome told (λ files. ScriptOf r name files (Ok lines))
     script_found lines says = weaker told (λ files h. (Ok v, h, (Ok lines, says, refl))) whole
@@ -130,7 +131,7 @@ module _ (told : Option Files) (name v : List ℕ) where
     script_refused rose (text.Refused refusal) says = weaker told (λ files h. (Ok v, h, (Err (faulty_line refusal), says, refl))) whole
     script_refused rose text.Memory says = tt
 
-  module _ (limit : ℕ) (whole : IfSome told (λ files. FileUpTo limit is.Trace (trace_long_line limit) name files (Ok v))) where
+  module _ (limit : ℕ) (whole : IfSome told (λ files. FileUpTo limit is.Trace (long_line (codes "trace") limit) name files (Ok v))) where
     pub trace_found : (commands : List Command) → Cutting v commands
         → IfSome told (λ files. TraceOf limit name files (Ok commands))
     trace_found commands cutting = weaker told (λ files h. (Ok v, h, (Ok commands, cutting, refl))) whole

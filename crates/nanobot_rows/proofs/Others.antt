@@ -31,8 +31,9 @@ use Rattle.plan_tape.proofs.Fissions.{few_at_most}
 use Rattle.nanobot_rows.specs.declared.report.Who.{Who}
 use Rattle.nanobot_rows.specs.declared.report.Who.TheVariants as who
 use Rattle.nanobot_rows.specs.declared.status.Status.TheVariants as is
-use Rattle.nanobot_rows.specs.Answer.{AnswerOfRun, AnswerOfTrace, FileOf, ModelOf, Reply, TellsVerdict, TraceOf}
-use Rattle.nanobot_rows.specs.Lines.{not_legal_line, text_long_line, trace_long_line}
+use Rattle.plan_choice.specs.Planners.{byte_limit}
+use Rattle.nanobot_rows.specs.Answer.{AnswerOfRun, FileOf, ModelOf, Reply, TellsVerdict, TraceOf, OfRun, Upon}
+use Rattle.nanobot_rows.specs.Lines.{not_legal_line, long_line}
 use Rattle.nanobot_rows.specs.Models.{AreModels, IsSide}
 use Rattle.nanobot_rows.specs.Touching.{AreInFront}
 use Rattle.nanobot_rows.specs.WorkedAnswers.{AreWorkedFiles, WorkedAnswers, WorkedFacts, WorkedModels, WorkedTouching}
@@ -61,10 +62,10 @@ found who files name bytes m there says legal =
 judged : {profile : Profile} {source target : Matrix} {verdict : Verdict} {reply : Reply} (files : Files)
     (b trace : List ℕ) (commands : List Command) → VerdictOf source target commands profile verdict
     → Cutting trace commands → content files b ≡ Some trace → length trace ≤ 1073741824
-    → TellsVerdict verdict files reply → AnswerOfTrace profile source target b files reply
+    → TellsVerdict verdict files reply → Upon (TraceOf byte_limit b) (OfRun profile source target) files reply
 judged {verdict = verdict} files b trace commands falls cut there few tells = (
   Ok commands,
-  (Ok trace, fits files b trace 1073741824 is.Trace (trace_long_line 1073741824) there few, (Ok commands, cut, refl)),
+  (Ok trace, fits files b trace 1073741824 is.Trace (long_line (codes "trace") 1073741824) there few, (Ok commands, cut, refl)),
   (verdict, falls, tells),
 )
 
@@ -200,7 +201,7 @@ between files w b trace commands falls cut there few tells = (
 a_trace_of : (files : Files) → AreWorkedFiles files → TraceOf 50000000 (codes "halt.nbt") files (Ok (Halt ∷ []))
 a_trace_of files w = (
   Ok (hex "FF"),
-  fits files (codes "halt.nbt") (hex "FF") 50000000 is.Trace (trace_long_line 50000000) w.halt (omega arith),
+  fits files (codes "halt.nbt") (hex "FF") 50000000 is.Trace (long_line (codes "trace") 50000000) w.halt (omega arith),
   (Ok (Halt ∷ []), halt_commands, refl),
 )
 
@@ -265,7 +266,7 @@ worked_answers = record {
     Ok (Halt ∷ []),
     (
       Ok (codes "Halt\n"),
-      fits files (codes "halt.txt") (codes "Halt\n") 1073741824 is.Text (text_long_line 1073741824) w.text (omega arith),
+      fits files (codes "halt.txt") (codes "Halt\n") 1073741824 is.Text (long_line (codes "text") 1073741824) w.text (omega arith),
       refl,
     ),
     refl,
@@ -274,7 +275,7 @@ worked_answers = record {
     Err (is.Text, codes "text 1 NotAscii line 1\n"),
     (
       Ok (hex "FF"),
-      fits files (codes "halt.nbt") (hex "FF") 1073741824 is.Text (text_long_line 1073741824) w.halt (omega arith),
+      fits files (codes "halt.nbt") (hex "FF") 1073741824 is.Text (long_line (codes "text") 1073741824) w.halt (omega arith),
       refl,
     ),
     refl,
@@ -317,7 +318,7 @@ worked_answers = record {
         Ok [],
         (
           Ok [],
-          fits files (codes "blank") [] 65536 is.Text (text_long_line 65536) w.blank (omega arith),
+          fits files (codes "blank") [] 65536 is.Text (long_line (codes "text") 65536) w.blank (omega arith),
           (Ok [], refl, refl),
         ),
         ([], refl, refl),
@@ -395,13 +396,16 @@ worked_models = record {
 
 no_shorter : AreInFront (hex "FE FF") (Wait ∷ []) → ⊥
 no_shorter h =
-    let rest : 0xFF ∷ [] ≡ h.0 = (let e : 0xFE ∷ 0xFF ∷ [] ≡ 0xFE ∷ h.0 = h.3 in cc) in
-    let few : length h.0 ≤ 0 = h.1.1 [] (Wait ∷ Halt ∷ [], (refl, (refl, tt)), refl) in
-    let some : 1 ≡ length h.0 = ap length rest in
+    let rest : 0xFF ∷ [] ≡ h.0.rest = (let e : 0xFE ∷ 0xFF ∷ [] ≡ 0xFE ∷ h.0.rest = h.0.bytes_are in cc) in
+    let few : length h.0.rest ≤ 0 = h.1.1 [] (Wait ∷ Halt ∷ [], (refl, (refl, tt)), refl) in
+    let some : 1 ≡ length h.0.rest = ap length rest in
     omega (arith, few, some)
 
 longest_front : AreInFront (hex "FE FF") (Wait ∷ Halt ∷ [])
-longest_front = ([], ((Wait ∷ Halt ∷ [], (refl, (refl, tt)), refl), λ other front. omega arith), (refl, (refl, tt)), refl)
+longest_front = (
+  record { are_commands = (refl, (refl, tt)); rest = []; bytes_are = refl },
+  ((Wait ∷ Halt ∷ [], (refl, (refl, tt)), refl), λ other front. omega arith),
+)
 
 pub worked_touching : WorkedTouching
 worked_touching = record {

@@ -20,10 +20,12 @@ use Rattle.trace_codec.specs.Decoder.{AnswersPiece, DecoderState, HasTaken, deco
 use Rattle.trace_codec.specs.declared.decoder.Fed.TheVariants.{Got, All, Bad}
 use Rattle.vox_depot.specs.Files.{Files, IfTold, IsPiece, content}
 use Rattle.vox_depot.proofs.Loading.{from_told}
-use Rattle.nanobot_rows.specs.Answer.{ModelsOf}
+use Rattle.nanobot_rows.specs.Answer.{ModelsOf, profile_of}
+use Rattle.nanobot_words.specs.declared.row.Round.{Round}
+use Rattle.nanobot_words.specs.Rows.{run as run_row}
 use Rattle.nanobot_rows.specs.Models.{AreModels, IsModelOf}
 use Rattle.nanobot_rows.specs.Reading.{RunState}
-use Rattle.nanobot_rows.specs.Touching.{AreInFront, BeginWith, HasGiven, HasPaid, IsRunWithin, IsWithinFile}
+use Rattle.nanobot_rows.specs.Touching.{AreInFront, BeginWith, HasGiven, HasPaid, IsRowWithin, IsWithinFile}
 use Rattle.nanobot_rows.proofs.Running.{AllLaw, GotLaw}
 use Rattle.nanobot_rows.proofs.Replies.{models_found}
 use Rattle.nanobot_rows.proofs.Tracing.{piece_has}
@@ -126,7 +128,7 @@ within : (law : WholeLaw) (source : Matrix) (profile : Profile) (bytes : List �
     (n : ℕ) → AreInFront bytes commands → Work source commands profile n
     → now ≤ start + 100 * n + volume source.resolution
 within law source profile bytes given p start now b paid commands n front work =
-    let goes = goes_on given commands b.rest front.0 b.are_commands front.2 (sym front.3 ∙ b.bytes_are) (front.1.1 b.rest (given, b.are_commands, b.bytes_are)) in
+    let goes = goes_on given commands b.rest front.0.rest b.are_commands front.0.are_commands (sym front.0.bytes_are ∙ b.bytes_are) (front.1.1 b.rest (given, b.are_commands, b.bytes_are)) in
     law source profile given goes.0 p start now n paid (subst (λ (xs : List Command). Work source xs profile n) goes.1 work)
 
 -- ---- a trace that is fetched piece by piece
@@ -198,19 +200,20 @@ models_once files None None s t u v named h k = absurd named
 told_is : (told : Option Files) (P : Files → Type 0) (files : Files) → told ≡ Some files → IfSome told P → P files
 told_is told P files e h = subst (λ (o : Option Files). IfSome o P) e h
 
-module _ (profile : Profile) (told : Option Files) (source target : Option (List ℕ)) (trace : List ℕ) where
+module _ (round : Round) (told : Option Files) (source target : Option (List ℕ)) (trace : List ℕ) where
   pub run_within : HasName source target → (s t : Matrix) (later : Option Files) (before now : ℕ)
       → IfSome told (λ files. ModelsOf source target files (Ok (s, t))) → later ≡ told
-      → IsWithinFile profile s later trace before now → IsRunWithin profile source target trace told before now
+      → IsWithinFile (profile_of round) s later trace before now
+      → IsRowWithin (run_row round source target trace) told before now
   run_within named s t later before now found same w = λ files from to e these.
-      let here : IsWithinFile profile s told trace before now = subst (λ (o : Option Files). IsWithinFile profile s o trace before now) same w in
-      subst (λ (m : Matrix). IsWithinFile profile m told trace before now) (models_once files source target s t from to named (models_found files source target s t (told_is told (λ files. ModelsOf source target files (Ok (s, t))) files e found)) these) here
+      let here : IsWithinFile (profile_of round) s told trace before now = subst (λ (o : Option Files). IsWithinFile (profile_of round) s o trace before now) same w in
+      subst (λ (m : Matrix). IsWithinFile (profile_of round) m told trace before now) (models_once files source target s t from to named (models_found files source target s t (told_is told (λ files. ModelsOf source target files (Ok (s, t))) files e found)) these) here
 
   pub run_untouched : (works : WorkLaw) (before now : ℕ) → now ≡ before
-      → IsRunWithin profile source target trace told before now
+      → IsRowWithin (run_row round source target trace) told before now
   run_untouched works before now same = λ files from to e these others bytes t c.
-      let works_here = works from [] profile in
+      let works_here = works from [] (profile_of round) in
       record {
-        longest = λ commands front. let works_here_too = works from commands profile in (works_here_too.0, works_here_too.1, omega (arith, same));
+        longest = λ commands front. let works_here_too = works from commands (profile_of round) in (works_here_too.0, works_here_too.1, omega (arith, same));
         given = ([], record { are_commands = tt; rest = bytes; bytes_are = refl }, (works_here.0, works_here.1, omega (arith, same)));
       }

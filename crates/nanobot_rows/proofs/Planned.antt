@@ -1,4 +1,5 @@
 -- The answers of the rows that store a plan.
+use Rattle.std.specs.FinMap as finite
 use Rattle.std.proofs.Common.{◌≡◌, ℕ, List, length, refl}
 use Rattle.std.specs.Prelude.{ℤ, Option, Some, None, Ok, Err, IfSome, IsSomeAnd}
 use Rattle.nano_spec.specs.declared.commands.Command.{Command}
@@ -16,7 +17,7 @@ use Rattle.nanobot_rows.specs.declared.report.Report.{Report}
 use Rattle.nanobot_rows.specs.declared.report.Report.TheVariants as report
 use Rattle.nanobot_rows.specs.declared.stop.Stop.{Stop}
 use Rattle.nanobot_rows.specs.declared.stop.Stop.TheVariants as stop
-use Rattle.nanobot_rows.specs.Answer.{AnswerOf, ModelsOf, Stores, StoresPlan, facts_of, with_file}
+use Rattle.nanobot_rows.specs.Answer.{AnswerOf, ModelsOf, Stores, StoresPlan, facts_of}
 use Rattle.nanobot_rows.specs.Effects.{EndsStored, KeepsPlan, bytes_by, files_with, reply_by, status_by}
 use Rattle.nanobot_rows.specs.Models.{AreModels}
 use Rattle.nanobot_rows.specs.Plans.{Plans, TakesModels}
@@ -44,7 +45,7 @@ plan_kept Is s t name commands energy steps effect is keeps files = (commands, e
         → Stores (report_line planned) name (spellings commands) files
         (record { status = status_by effect.message; line = bytes_by effect.message; after = files_with files o })
     by None h = absurd h
-    by (Some file) h = λ i. record { status = status_by (keeps.told i); line = bytes_by (keeps.told i); after = with_file files (h.0 i) (h.1 i) }
+    by (Some file) h = λ i. record { status = status_by (keeps.told i); line = bytes_by (keeps.told i); after = finite.insert files (h.0 i) (h.1 i) }
 
 -- a side without a file is the empty model
 takes_models : (planner : Planner) (source target : Option (List ℕ)) (files : Files) (s t : Matrix)

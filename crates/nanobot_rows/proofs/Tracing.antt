@@ -1,5 +1,5 @@
 -- A run of a trace that is fetched piece by piece.
-use Rattle.std.proofs.Common.{◌≡◌, ℕ, ◌+◌, ◌<◌, ◌≤◌, List, [], ◌++◌, length, take, drop, refl, sym, ap, ◌∙◌, subst, arith, length-take, length-drop}
+use Rattle.std.proofs.Common.{codes, ◌≡◌, ℕ, ◌+◌, ◌<◌, ◌≤◌, List, [], ◌++◌, length, take, drop, refl, sym, ap, ◌∙◌, subst, arith, length-take, length-drop}
 use Rattle.std.specs.Prelude.{Option, Some, Ok, Err, IfSome}
 use Rattle.std.proofs.lemmas.List.{take_all}
 use Rattle.std.proofs.Math.Seq.{take-add}
@@ -11,8 +11,9 @@ use Rattle.nanobot_rows.specs.declared.report.Report.{Report}
 use Rattle.nanobot_rows.specs.declared.report.Report.TheVariants.{TraceLong}
 use Rattle.nanobot_rows.specs.declared.status.Status.{Status}
 use Rattle.nanobot_rows.specs.declared.status.Status.TheVariants as is
-use Rattle.nanobot_rows.specs.Answer.{AnswerOfTrace, run_limit}
-use Rattle.nanobot_rows.specs.Lines.{trace_long_line}
+use Rattle.plan_choice.specs.Planners.{byte_limit}
+use Rattle.nanobot_rows.specs.Answer.{OfRun, TraceOf, Upon}
+use Rattle.nanobot_rows.specs.Lines.{long_line}
 use Rattle.nanobot_rows.specs.Reading.{AnswerOfBytes, HasRun, RunState, reply_of}
 use Rattle.nanobot_rows.proofs.Loads.{exceeds, fits}
 use Rattle.nanobot_rows.proofs.Told.{with_file}
@@ -53,22 +54,22 @@ module _ (told : Option Files) (name : List ℕ) (source : Matrix) (profile : Pr
   -- no byte came: the trace is whole
   pub underway_end : (target : Matrix) (report : Report) → 0 < length buf → n ≡ 0 → at ≤ 1073741824 → ((bytes : List ℕ)
       → HasRun source profile bytes run → (files : Files)
-      → AnswerOfBytes profile source target bytes files (reply_of files report))
-      → IfSome told (λ files. AnswerOfTrace profile source target name files (reply_of files report))
+      → AnswerOfBytes profile source target bytes files (reply_of files report)) → IfSome told
+      (λ files. Upon (TraceOf byte_limit name) (OfRun profile source target) files (reply_of files report))
   underway_end target report room none within done =
       with_file told name _ piece (λ files file t c p.
       let old = so_far.front files file t c in
       let end = p.ends none room in
       let all : take at file ≡ file = take_all at file end in
       let answer = subst (λ (b : List ℕ). AnswerOfBytes profile source target b files (reply_of files report)) all (done (take at file) old.1 files) in
-      (answer.0, (Ok file, fits files name file run_limit is.Trace (trace_long_line run_limit) c (omega (arith, end, within)), answer.1), answer.2))
+      (answer.0, (Ok file, fits files name file byte_limit is.Trace (long_line (codes "trace") byte_limit) c (omega (arith, end, within)), answer.1), answer.2))
 
   -- a byte past the limit came
-  pub underway_long : (target : Matrix) → 1073741824 < at + n
-      → IfSome told (λ files. AnswerOfTrace profile source target name files (reply_of files (TraceLong 1073741824)))
+  pub underway_long : (target : Matrix) → 1073741824 < at + n → IfSome told (λ files.
+      Upon (TraceOf byte_limit name) (OfRun profile source target) files (reply_of files (TraceLong 1073741824)))
   underway_long target past =
       with_file told name _ piece (λ files file t c p.
       let old = so_far.front files file t c in
       let size = piece_has file buf at n room_is p old.0 in
-      let end : Status × List ℕ = (is.Trace, trace_long_line run_limit) in
-      (Err end, (Err end, exceeds files name file run_limit is.Trace (trace_long_line run_limit) c (omega (arith, size, past)), refl), refl))
+      let end : Status × List ℕ = (is.Trace, long_line (codes "trace") byte_limit) in
+      (Err end, (Err end, exceeds files name file byte_limit is.Trace (long_line (codes "trace") byte_limit) c (omega (arith, size, past)), refl), refl))

@@ -1,5 +1,5 @@
 -- The answer to a command over known files: a status, a line and the files afterwards (docs/FORMATS.md, "Printed lines").
-use Rattle.std.specs.Prelude.{◌≡◌, ◌⊎◌, ℕ, ◌+◌, ℤ, nat_lt, ◌==◌, List, [], length, Option, Some, None, ok_or, Result, Ok, Err, MatchOption, MatchBool, MatchResult, ⊤}
+use Rattle.std.specs.Prelude.{codes, ◌≡◌, ◌⊎◌, ℕ, ◌+◌, ℤ, nat_lt, ◌==◌, List, [], length, Option, Some, None, ok_or, Result, Ok, Err, MatchOption, MatchBool, MatchResult, ⊤}
 use Rattle.std.specs.Result.{result_map_both}
 use Rattle.std.specs.FinMap as finite
 use Rattle.vox_geom.specs.declared.coordinate.Coord.{Coord}
@@ -21,18 +21,18 @@ use Rattle.vox_depot.specs.Files.{Files, content}
 use Rattle.group_planner.specs.Bounds as group
 use Rattle.group_planner.specs.Rows.{rows, runs}
 use Rattle.low_planner.specs.Supported.{FirstUnsupported}
-use Rattle.step_debugger.specs.Session.{DebugLine}
+use Rattle.step_debugger.specs.Session.{DebugLine, opened}
 use Rattle.debug_script.specs.Broken.{broken_line}
 use Rattle.debug_script.specs.Script.{ScriptSays}
-use Rattle.debug_script.specs.Sessions.{PrintsFrom}
+use Rattle.debug_script.specs.Sessions.{Prints}
 use Rattle.nanobot_rows.specs.declared.report.Cost.{Cost}
 use Rattle.nanobot_rows.specs.declared.report.Who.{Who}
 use Rattle.nanobot_rows.specs.declared.report.Who.TheVariants as who
 use Rattle.nanobot_rows.specs.declared.status.Status.{Status}
 use Rattle.nanobot_rows.specs.declared.status.Status.TheVariants as is
-use Rattle.plan_choice.specs.Planners.{IsCrewPlan, IsGroupPlan, IsLayerPlan, IsLowPlan, IsSwarmPlan, IsVoidPlan, PlanFacts}
+use Rattle.plan_choice.specs.Planners.{IsCrewPlan, IsGroupPlan, IsLayerPlan, IsLowPlan, IsSwarmPlan, IsVoidPlan, PlanFacts, byte_limit}
 use Rattle.nanobot_rows.specs.Report.{faulty_text_line}
-use Rattle.nanobot_rows.specs.Lines.{accepted_line, exercised_head, exercised_line, forged_line, group_long_line, legal_line, no_model_line, not_legal_line, planned_line, resolutions_line, stored_line, text_long_line, trace_line, trace_long_line, unsupported_line, words_line}
+use Rattle.nanobot_rows.specs.Lines.{accepted_line, exercised_line, forged_line, group_long_line, legal_line, no_model_line, not_legal_line, planned_line, resolutions_line, stored_line, long_line, trace_line, long_line, unsupported_line, words_line}
 use Rattle.nanobot_words.specs.declared.planner.Planner.{Planner}
 use Rattle.nanobot_words.specs.declared.planner.Planner.TheVariants.{Layer, Group, Crew, Void, Low, Swarm}
 use Rattle.nanobot_words.specs.declared.row.Round.{Round}
@@ -53,14 +53,10 @@ Answers = Files → Reply → Type 0
 abbrev pub IsReply : Status → List ℕ → Answers
 IsReply status line files reply = reply ≡ record { status = status; line = line; after = files }
 
--- the files, with these bytes as the file of the name
-abbrev pub with_file : Files → List ℕ → List ℕ → Files
-with_file files name bytes = finite.insert files name bytes
-
 -- success, with this line, and these bytes as the file of the name
 abbrev pub Stores : List ℕ → List ℕ → List ℕ → Answers
 Stores line name bytes files reply =
-    reply ≡ record { status = is.Done; line = line; after = with_file files name bytes }
+    reply ≡ record { status = is.Done; line = line; after = finite.insert files name bytes }
 
 -- ---- the contents of files
 
@@ -133,16 +129,12 @@ DecodingOf bytes files found =
 
 -- the commands of the trace of a file, if it is not too long
 abbrev pub TraceOf : ℕ → List ℕ → Finding (List Command)
-TraceOf limit name = With (FileUpTo limit is.Trace (trace_long_line limit) name) DecodingOf
-
--- the maximum length of a text in bytes
-abbrev pub text_limit : ℕ
-text_limit = 1073741824
+TraceOf limit name = With (FileUpTo limit is.Trace (long_line (codes "trace") limit) name) DecodingOf
 
 -- the commands of the text of a file
 abbrev pub TextOf : List ℕ → Finding (List Command)
 TextOf name =
-    With (FileUpTo text_limit is.Text (text_long_line text_limit) name)
+    With (FileUpTo byte_limit is.Text (long_line (codes "text") byte_limit) name)
     (λ bytes. OfResult is.Text faulty_text_line (read bytes))
 
 -- the maximum length of a script in bytes
@@ -152,7 +144,7 @@ script_limit = 65536
 -- the lines of the script of a file over a source of a resolution
 abbrev pub ScriptOf : ℕ → List ℕ → Finding (List DebugLine)
 ScriptOf r name =
-    With (FileUpTo script_limit is.Text (text_long_line script_limit) name) (λ bytes files found.
+    With (FileUpTo script_limit is.Text (long_line (codes "text") script_limit) name) (λ bytes files found.
     (said : Result (List DebugLine) FaultyLine) × ScriptSays r bytes said
     × OfResult is.Text faulty_text_line said files found)
 
@@ -179,15 +171,11 @@ facts_of Void = IsVoidPlan
 facts_of Low = IsLowPlan
 facts_of Swarm = IsSwarmPlan
 
--- the maximum length in bytes of a plan by the group planner
-abbrev pub group_limit : ℕ
-group_limit = 1073741824
-
 -- the planner can make a plan: a group plan may be too long, by the runs and rows of both models, and a part of a low
 -- plan's target may be unsupported
 abbrev pub CanPlan : Planner → Matrix → Matrix → Finding ⊤
 CanPlan Group source target files found =
-    MatchBool (nat_lt group_limit (group.most_bytes source target))
+    MatchBool (nat_lt byte_limit (group.most_bytes source target))
     (found ≡ Err (is.Model, group_long_line (runs source + runs target) (rows source + rows target))) (found ≡ Ok tt)
 CanPlan Low source target files found =
     (at : Option Coord) × FirstUnsupported target at
@@ -200,11 +188,6 @@ StoresPlan Is name source target files reply =
     (commands : List Command) × (energy : ℤ) × (steps : ℕ) × Is source target commands energy steps × Stores
     (planned_line energy steps (length commands) (length (spellings commands))) name (spellings commands) files reply
 
--- a plan of the planner is stored so, if it makes one
-abbrev pub OfPlan : Planner → List ℕ → Matrix → Matrix → Answers
-OfPlan planner name source target =
-    Upon (CanPlan planner source target) (λ _. StoresPlan (facts_of planner) name source target)
-
 -- a plan with these facts makes the target from the empty model at this cost
 abbrev pub Costs : PlanFacts → Matrix → Cost → Type 0
 Costs Is target cost = (commands : List Command) × Is (empty target.resolution) target commands cost.energy cost.steps
@@ -213,33 +196,25 @@ Costs Is target cost = (commands : List Command) × Is (empty target.resolution)
 abbrev pub OfExercise : ℕ → ℕ → Matrix → Answers
 OfExercise number resolution target files reply =
     (layer : Cost) × (group : Cost) × Costs IsLayerPlan target layer × Costs IsGroupPlan target group
-    × IsReply is.Done (exercised_line (exercised_head number resolution (full_count target)) layer group) files reply
+    × IsReply is.Done (exercised_line number resolution (full_count target) layer group) files reply
 
 -- ---- sessions
 
 -- the lines of a session over the commands from the source on
 abbrev pub OfSession : Matrix → List Command → List DebugLine → Answers
 OfSession source commands script files reply =
-    (text : List ℕ) × PrintsFrom source full_profile commands script text × IsReply is.Done text files reply
+    (text : List ℕ) × Prints commands script (opened source full_profile) text × IsReply is.Done text files reply
 
 -- ---- the rows
-
--- the maximum length of a trace to run, in bytes
-abbrev pub run_limit : ℕ
-run_limit = 1073741824
 
 -- the maximum length of a trace to print, in bytes
 abbrev pub dis_limit : ℕ
 dis_limit = 50000000
 
--- the verdict of the trace of a file from a model to another, by a profile
-abbrev pub AnswerOfTrace : Profile → Matrix → Matrix → List ℕ → Answers
-AnswerOfTrace profile source target trace = Upon (TraceOf run_limit trace) (OfRun profile source target)
-
--- the same between the models of a source and a target
+-- the verdict of the trace of a file between the models of a source and a target, by a profile
 abbrev pub AnswerOfRun : Profile → Option (List ℕ) → Option (List ℕ) → List ℕ → Answers
 AnswerOfRun profile source target trace =
-    Upon (ModelsOf source target) (λ models. AnswerOfTrace profile models.0 models.1 trace)
+    Upon (ModelsOf source target) (λ models. Upon (TraceOf byte_limit trace) (OfRun profile models.0 models.1))
 
 -- the profile of a round
 abbrev pub profile_of : Round → Profile
@@ -256,8 +231,8 @@ AnswerOf (dis trace text) = Upon (TraceOf dis_limit trace) (λ commands.
     Stores (stored_line (length commands) (length (print commands))) text (print commands))
 AnswerOf (make number resolution name) = Stores (forged_line resolution (full_count (forged number resolution))) name
     (written (forged number resolution))
-AnswerOf (plan planner source target trace) =
-    Upon (ModelsOf source target) (λ models. OfPlan planner trace models.0 models.1)
+AnswerOf (plan planner source target trace) = Upon (ModelsOf source target) (λ models.
+    Upon (CanPlan planner models.0 models.1) (λ _. StoresPlan (facts_of planner) trace models.0 models.1))
 AnswerOf (exercise number resolution) = OfExercise number resolution (forged number resolution)
 AnswerOf (debug source trace script) =
     Upon (ModelOf who.Source source) (λ m.

@@ -1,4 +1,5 @@
 -- The outcome of a command: a report, and the file to store before it is printed.
+use Rattle.std.specs.FinMap as finite
 use Rattle.std.specs.Prelude.{◌≡◌, ℕ, ℤ, List, length, Option, Some, None, IfSome, IsSomeAnd, Result, Ok, Err, ⊤}
 use Rattle.nano_spec.specs.declared.commands.Command.{Command}
 use Rattle.nano_spec.specs.Cutting.{AreCommands}
@@ -13,7 +14,7 @@ use Rattle.nanobot_rows.specs.declared.report.Report.TheVariants.{Planned}
 use Rattle.nanobot_rows.specs.declared.status.Status.{Status}
 use Rattle.nanobot_rows.specs.declared.status.Status.TheVariants as is
 use Rattle.nanobot_rows.specs.declared.stop.Stop.{Stop}
-use Rattle.nanobot_rows.specs.Answer.{Answers, Reply, with_file}
+use Rattle.nanobot_rows.specs.Answer.{Answers, Reply}
 use Rattle.nanobot_rows.specs.Reading.{Settles}
 use Rattle.nanobot_rows.specs.Report.{report_line, status_of}
 
@@ -34,7 +35,7 @@ alone (Err stop) = Err stop
 -- the files with the new one
 abbrev pub files_with : Files → Option NewFile → Files
 files_with files None = files
-files_with files (Some file) = with_file files file.name.now file.bytes.items
+files_with files (Some file) = finite.insert files file.name.now file.bytes.items
 
 -- the effect as a reply
 abbrev pub reply_by : Files → Effect → Reply

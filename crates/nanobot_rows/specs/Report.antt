@@ -1,5 +1,5 @@
 -- The status and the line of each report.
-use Rattle.std.specs.Prelude.{◌⊎◌, ℕ, List}
+use Rattle.std.specs.Prelude.{codes, ◌⊎◌, ℕ, List}
 use mathlib.Core.Logic.{inl, inr}
 use Rattle.nano_spec.specs.declared.outcomes.Verdict.{Verdict}
 use Rattle.nano_spec.specs.declared.outcomes.Verdict.TheVariants as verdict
@@ -15,7 +15,7 @@ use Rattle.nanobot_rows.specs.declared.status.Status.TheVariants as is
 use Rattle.nanobot_rows.specs.declared.report.Report.{Report}
 use Rattle.nanobot_rows.specs.declared.report.Report.TheVariants as report
 use Rattle.nanobot_rows.specs.declared.report.Who.{Who}
-use Rattle.nanobot_rows.specs.Lines.{accepted_line, exercised_head, exercised_line, forged_line, group_long_line, legal_line, no_model_line, not_legal_line, planned_line, resolutions_line, stored_line, text_line, text_long_line, trace_line, trace_long_line, unsupported_line}
+use Rattle.nanobot_rows.specs.Lines.{accepted_line, exercised_line, forged_line, group_long_line, legal_line, no_model_line, not_legal_line, planned_line, resolutions_line, stored_line, text_line, long_line, trace_line, long_line, unsupported_line}
 
 -- the number of a status, which is the exit status of the program
 abbrev pub code_of : Status → ℕ
@@ -70,13 +70,13 @@ report_line (report.Model who refusal) = refused_line who (why_refused refusal)
 report_line (report.Resolutions source target) = resolutions_line source target
 report_line (report.TraceBad offset) = trace_line (BadAt offset)
 report_line (report.TraceCut offset) = trace_line (CutAt offset)
-report_line (report.TraceLong limit) = trace_long_line limit
+report_line (report.TraceLong limit) = long_line (codes "trace") limit
 report_line (report.Text refusal) = faulty_text_line (faulty_line refusal)
-report_line (report.TextLong limit) = text_long_line limit
+report_line (report.TextLong limit) = long_line (codes "text") limit
 report_line (report.GroupLong runs rows) = group_long_line runs rows
 report_line (report.Unsupported at) = unsupported_line at
 report_line (report.Exercised number resolution full layer group) =
-    exercised_line (exercised_head number resolution full) layer group
+    exercised_line number resolution full layer group
 
 -- the report of a verdict
 abbrev pub of_verdict : Verdict → Report

@@ -15,16 +15,15 @@ use Rattle.nanobot_words.specs.Rows.{Row, run}
 
 -- ---- the bound
 
--- the commands of the longest prefix of the bytes that is a join of spellings
-abbrev pub AreInFront : List ℕ → List Command → Type 0
-AreInFront bytes commands =
-    (rest : List ℕ) × RestOf bytes rest × AreCommands commands × (bytes ≡ spellings commands ++ rest)
-
 -- the bytes begin with the spellings of the commands
 pub record BeginWith (bytes : List ℕ) (commands : List Command) : Type 0 where
   pub are_commands : AreCommands commands
   pub rest : List ℕ
   pub bytes_are : bytes ≡ spellings commands ++ rest
+
+-- the commands are those of the longest prefix of the bytes that is a join of spellings
+abbrev pub AreInFront : List ℕ → List Command → Type 0
+AreInFront bytes commands = (front : BeginWith bytes commands) × RestOf bytes front.rest
 
 -- from before to after there are at most a hundred touches for each voxel of the source and for each unit of a work: of
 -- that of the longest such prefix of the trace, and of that of commands that the trace begins with
@@ -40,15 +39,10 @@ IsWithinFile profile source told trace before after =
     (files : Files) (bytes : List ℕ) → told ≡ Some files → content files trace ≡ Some bytes
     → IsWithinTrace profile source bytes before after
 
--- the same of the legal models of a source and a target
-abbrev pub IsRunWithin : Profile → Option (List ℕ) → Option (List ℕ) → List ℕ → Option Files → ℕ → ℕ → Type 0
-IsRunWithin profile source target trace told before after = (files : Files) (from to : Matrix) → told ≡ Some files
-    → AreModels source target files from to → IsWithinFile profile from told trace before after
-
--- the same for a command that runs a trace
+-- the same of the source of a command that runs a trace, if both its models are legal
 abbrev pub IsRowWithin : Row → Option Files → ℕ → ℕ → Type 0
-IsRowWithin (run round source target trace) told before after =
-    IsRunWithin (profile_of round) source target trace told before after
+IsRowWithin (run round source target trace) told before after = (files : Files) (from to : Matrix) → told ≡ Some files
+    → AreModels source target files from to → IsWithinFile (profile_of round) from told trace before after
 IsRowWithin row told before after = ⊤
 
 -- ---- a trace that comes in pieces

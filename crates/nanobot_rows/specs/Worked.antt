@@ -22,7 +22,8 @@ use Rattle.nanobot_rows.specs.declared.report.Report.{Report}
 use Rattle.nanobot_rows.specs.declared.report.Report.TheVariants as report
 use Rattle.nanobot_rows.specs.declared.report.Who.TheVariants as who
 use Rattle.nanobot_rows.specs.declared.status.Status.TheVariants as is
-use Rattle.nanobot_rows.specs.Answer.{AnswerOf, CanPlan, ModelOf, OfPlan, OfSession, Reply, ScriptOf, TextOf, dis_limit, group_limit, run_limit, script_limit, text_limit}
+use Rattle.plan_choice.specs.Planners.{byte_limit}
+use Rattle.nanobot_rows.specs.Answer.{AnswerOf, CanPlan, ModelOf, OfSession, Reply, ScriptOf, TextOf, dis_limit, script_limit, StoresPlan, Upon, facts_of}
 use Rattle.nanobot_rows.specs.Report.{code_of, report_line, status_of}
 use Rattle.nanobot_words.specs.declared.planner.Planner.TheVariants.{Group, Low}
 use Rattle.nanobot_words.specs.Rows.{debug}
@@ -81,13 +82,11 @@ pub record WorkedStatuses : Type 0 where
   pub exit_statuses : map code_of (is.Done ∷ is.Broken ∷ is.Words ∷ is.Model ∷ is.Trace ∷ is.Depot ∷ is.Sink ∷ is.Memory
       ∷ is.Text ∷ is.Unsupported ∷ []) ≡ numbers_below 10
 
--- the most bytes read of a file
+-- the maximum lengths in bytes
 pub record WorkedLimits : Type 0 where
-  pub of_a_run : run_limit ≡ 2 ^ 30
+  pub of_a_run_a_text_and_a_plan : byte_limit ≡ 2 ^ 30
   pub of_a_printed_trace : dis_limit ≡ 50 * 1000 * 1000
-  pub of_a_text : text_limit ≡ 2 ^ 30
   pub of_a_script : script_limit ≡ 2 ^ 16
-  pub of_a_group_plan : group_limit ≡ 2 ^ 30
 
 -- bounds of plans
 pub record WorkedBounds : Type 0 where
@@ -116,7 +115,8 @@ pub record WorkedLengths : Type 0 where
       → CanPlan Group source target files
       (Err (is.Model, report_line (report.GroupLong (runs source + runs target) (rows source + rows target))))
   pub of_a_plan_that_is_too_long : (files : Files) (name : List ℕ) (source target : Matrix)
-      → 2 ^ 30 < group.most_bytes source target → OfPlan Group name source target files (record {
+      → 2 ^ 30 < group.most_bytes source target → Upon (CanPlan Group source target)
+      (λ _. StoresPlan (facts_of Group) name source target) files (record {
         status = is.Model;
         line = report_line (report.GroupLong (runs source + runs target) (rows source + rows target));
         after = files;

@@ -1,6 +1,7 @@
 -- Worked examples of answers to commands over files: the status, the line and the files afterwards (docs/FORMATS.md,
 -- "Printed lines"), and of the touches of a run ("Levels and work").
-use Rattle.std.specs.Prelude.{◌≡◌, ℕ, ℤ, pos, List, [], ◌∷◌, codes, Option, Some, None}
+use Rattle.std.specs.FinMap as finite
+use Rattle.std.specs.Prelude.{◌≡◌, ℕ, ℤ, List, [], ◌∷◌, codes, Option, Some, None}
 use Rattle.vox_geom.specs.Point.{coord}
 use Rattle.nano_spec.specs.declared.commands.Command.{Command}
 use Rattle.nano_spec.specs.declared.commands.Command.TheVariants.{Halt, Wait}
@@ -11,10 +12,9 @@ use Rattle.trace_judge.specs.Payment.{IsWithinWorkOfRun}
 use Rattle.vox_depot.specs.Files.{Files, content}
 use Rattle.nanobot_rows.specs.declared.status.Status.{Status}
 use Rattle.nanobot_rows.specs.declared.status.Status.TheVariants as is
-use Rattle.nanobot_rows.specs.Answer.{Answer, AnswerOf, Found, ModelsOf, Reply, facts_of, with_file}
+use Rattle.nanobot_rows.specs.Answer.{Answer, AnswerOf, Found, ModelsOf, facts_of}
 use Rattle.nanobot_rows.specs.Models.{AreModels, IsSide}
 use Rattle.nanobot_rows.specs.Touching.{AreInFront, BeginWith, IsRowWithin, IsWithinTrace}
-use Rattle.nanobot_words.specs.declared.planner.Planner.{Planner}
 use Rattle.nanobot_words.specs.declared.planner.Planner.TheVariants.{Layer, Group, Crew, Void, Low, Swarm}
 use Rattle.nanobot_words.specs.declared.row.Round.TheVariants.{Full, Light}
 use Rattle.nanobot_words.specs.Rows.{Row, asm, check, debug, dis, exercise, make, plan, run}
@@ -44,7 +44,7 @@ Tells row status line = (files : Files) → AreWorkedFiles files
 -- over those files the command succeeds with this line, and stores these bytes as the file of the name
 abbrev pub Makes : Row → List ℕ → List ℕ → List ℕ → Type 0
 Makes row line name bytes = (files : Files) → AreWorkedFiles files
-    → AnswerOf row files (record { status = is.Done; line = line; after = with_file files name bytes })
+    → AnswerOf row files (record { status = is.Done; line = line; after = finite.insert files name bytes })
 
 pub record WorkedAnswers : Type 0 where
   pub a_check : Tells (check (codes "nothing.mdl")) is.Done (codes "legal resolution 3 full 0\n")

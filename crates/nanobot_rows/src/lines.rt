@@ -1,10 +1,11 @@
 //! The lines of reports.
+ghost use Rattle.std.specs.Fmt.{signed_decimal};
 ghost use Rattle.std.specs.List.{concat};
-ghost use Rattle.std.specs.Prelude.{◌≡◌, ◌∷◌, [], IfOk, codes, string_bytes};
+ghost use Rattle.std.specs.Prelude.{◌≡◌, ◌∷◌, [], IfOk, codes, decimal, string_bytes};
 ghost use Rattle.debug_script.specs.Broken.{printed_place as place_of};
 ghost use Rattle.model_file.specs.Fault.{why_refused};
 ghost use Rattle.trace_text.specs.Text.{faulty_line};
-ghost use Rattle.nanobot_rows.specs.Lines.{exercised_head as exercised_head_of, exercised_line as exercised_line_of, group_long_line as group_long_line_of, planned_line as planned_line_of, resolutions_line as resolutions_line_of, unsupported_line as unsupported_line_of};
+ghost use Rattle.nanobot_rows.specs.Lines.{exercised_line as exercised_line_of, group_long_line as group_long_line_of, planned_line as planned_line_of, resolutions_line as resolutions_line_of, unsupported_line as unsupported_line_of};
 ghost use Rattle.nanobot_rows.specs.Report.{faulty_text_line, refused_line};
 
 use crate::report::{Cost, Who};
@@ -69,24 +70,28 @@ pub(crate) fn unsupported_line(alloc: Global, at: Coord) -> Result<String, Alloc
     format!(in alloc; "unsupported at {place}\n")
 }
 
-/// Formats the line of a forged model up to the costs of its plans.
+/// Formats the numbers of a forged model.
 fn exercised_head(
     alloc: Global,
     number: u32,
     resolution: u16,
     full: u32,
 ) -> Result<String, AllocError>
-    ensures { IfOk result (λ s. string_bytes s ≡ exercised_head_of number resolution full) }
+    ensures { IfOk result
+        (λ s. string_bytes s ≡ concat (codes "exercise number " ∷ decimal number ∷ codes " resolution "
+        ∷ decimal resolution ∷ codes " full " ∷ decimal full ∷ [])) }
 {
-    format!(in alloc; "exercise number {number} resolution {resolution} full {full} layer")
+    format!(in alloc; "exercise number {number} resolution {resolution} full {full}")
 }
 
 /// Appends the costs of both plans to the head of a line.
 fn with_costs(alloc: Global, head: &str, layer: Cost, group: Cost) -> Result<String, AllocError>
-    ensures { IfOk result (λ s. string_bytes s ≡ exercised_line_of head.now layer group) }
+    ensures { IfOk result (λ s. string_bytes s ≡ concat (head.now ∷ codes " layer energy " ∷ signed_decimal layer.energy
+        ∷ codes " steps " ∷ decimal layer.steps ∷ codes " group energy " ∷ signed_decimal group.energy
+        ∷ codes " steps " ∷ decimal group.steps ∷ codes "\n" ∷ [])) }
 {
     format!(in alloc;
-        "{head} energy {} steps {} group energy {} steps {}\n",
+        "{head} layer energy {} steps {} group energy {} steps {}\n",
         layer.energy, layer.steps, group.energy, group.steps
     )
 }
@@ -100,8 +105,7 @@ pub(crate) fn exercised_line(
     layer: Cost,
     group: Cost,
 ) -> Result<String, AllocError>
-    ensures { IfOk result
-        (λ s. string_bytes s ≡ exercised_line_of (exercised_head_of number resolution full) layer group) }
+    ensures { IfOk result (λ s. string_bytes s ≡ exercised_line_of number resolution full layer group) }
 {
     let head = exercised_head(alloc, number, resolution, full)?;
     with_costs(alloc, head.as_str(), layer, group)

@@ -3,11 +3,11 @@ ghost use Rattle.std.specs.Prelude.{◌≡◌, ◌≤◌, ℕ, All, Err, IfOk, O
 ghost use Rattle.vox_depot.specs.Causes.{Rose};
 ghost use Rattle.vox_depot.specs.Files.{Files};
 ghost use Rattle.nanobot_words.specs.Parsing.{row_of, side_of};
-ghost use Rattle.nanobot_words.specs.Rows.{IsOfTable, asm as asm_row, check as check_row, dis as dis_row, make as make_row, reads_of, stores_of};
-ghost use Rattle.nanobot_rows.specs.Answer.{AnswerOf, AnswerOfRun, profile_of};
+ghost use Rattle.nanobot_words.specs.Rows.{IsOfTable, asm as asm_row, check as check_row, dis as dis_row, make as make_row, reads_of, run as run_row, stores_of};
+ghost use Rattle.nanobot_rows.specs.Answer.{AnswerOf, profile_of};
 ghost use Rattle.nanobot_rows.specs.Effects.{EndsStored, IsFor};
 ghost use Rattle.nanobot_rows.specs.Reading.{EndsUnstored, MayFetchSides, OnlyReads};
-ghost use Rattle.nanobot_rows.specs.Touching.{IsRowWithin, IsRunWithin};
+ghost use Rattle.nanobot_rows.specs.Touching.{IsRowWithin};
 
 use crate::commands::{load_text, load_trace};
 use crate::debugging::debug;
@@ -49,32 +49,6 @@ fn check<D: Depot, L: Ledger>(
     })
 }
 
-/// Judges a trace from a source to a target by a profile, and reports the verdict.
-fn judge_run<D: Depot, L: Ledger>(
-    alloc: Global,
-    depot: &mut D,
-    source: Side<'_>,
-    target: Side<'_>,
-    trace: &str,
-    profile: Profile,
-    steps: &mut Steps<L>,
-) -> Result<Report, Stop>
-    requires may_fetch { MayFetchSides D.may_fetch (side_of source) (side_of target) }
-    requires trace { D.may_fetch trace.now }
-    requires some { side_of source ≡ None → side_of target ≡ None → ⊥ }
-    requires seeds { profile.seeds ≤ 39 }
-    ensures ends { EndsUnstored (AnswerOfRun profile (side_of source.entry) (side_of target.entry) trace.now)
-        (D.files depot.old) (Rose (D.faults depot.old) (D.faults depot.new)) result }
-    ensures only_reads { OnlyReads D.files D.faults D.failed_stores depot.old depot.new }
-    ensures within { (result ≡ Err Stop.Memory → ⊥)
-        → IsRunWithin profile (side_of source.entry) (side_of target.entry) trace.now (D.files depot.old) steps.old
-        steps.new }
-{
-    every_run_has_work();
-    let (source, target) = load_models(alloc, depot, source, target)?;
-    run_trace(alloc, depot, trace, source, &target, profile, steps)
-}
-
 /// Returns the profile of a round.
 fn profile_of(round: Round) -> Profile
     ensures value { result ≡ profile_of round }
@@ -84,6 +58,33 @@ fn profile_of(round: Round) -> Profile
         Round::Full => Profile::full(),
         Round::Light => Profile::light(),
     }
+}
+
+/// Judges a trace from a source to a target in a round, and reports the verdict.
+fn judge_run<D: Depot, L: Ledger>(
+    alloc: Global,
+    depot: &mut D,
+    round: Round,
+    source: Side<'_>,
+    target: Side<'_>,
+    trace: &str,
+    steps: &mut Steps<L>,
+) -> Result<Report, Stop>
+    requires may_fetch { MayFetchSides D.may_fetch (side_of source) (side_of target) }
+    requires trace { D.may_fetch trace.now }
+    requires some { side_of source ≡ None → side_of target ≡ None → ⊥ }
+    ensures ends { EndsUnstored
+        (AnswerOf (run_row round (side_of source.entry) (side_of target.entry) trace.now)) (D.files depot.old)
+        (Rose (D.faults depot.old) (D.faults depot.new)) result }
+    ensures only_reads { OnlyReads D.files D.faults D.failed_stores depot.old depot.new }
+    ensures within { (result ≡ Err Stop.Memory → ⊥)
+        → IsRowWithin (run_row round (side_of source.entry) (side_of target.entry) trace.now) (D.files depot.old)
+        steps.old steps.new }
+{
+    every_run_has_work();
+    let (source, target) = load_models(alloc, depot, source, target)?;
+    let profile = profile_of(round);
+    run_trace(alloc, depot, trace, source, &target, profile, steps)
 }
 
 /// Implements `run`: reports the verdict on a trace from a source to a target, in a round.
@@ -100,16 +101,15 @@ fn run<'a, D: Depot, L: Ledger>(
     requires trace { D.may_fetch trace.now }
     requires some { side_of source ≡ None → side_of target ≡ None → ⊥ }
     ensures finishes { EndsStored
-        (AnswerOfRun (profile_of round) (side_of source.entry) (side_of target.entry) trace.now) (D.files depot.old)
+        (AnswerOf (run_row round (side_of source.entry) (side_of target.entry) trace.now)) (D.files depot.old)
         (Rose (D.faults depot.old) (D.faults depot.new)) result }
     ensures named { IfOk result (IsFor None) }
     ensures only_reads { OnlyReads D.files D.faults D.failed_stores depot.old depot.new }
     ensures within { (result ≡ Err Stop.Memory → ⊥)
-        → IsRunWithin (profile_of round) (side_of source.entry) (side_of target.entry) trace.now (D.files depot.old)
+        → IsRowWithin (run_row round (side_of source.entry) (side_of target.entry) trace.now) (D.files depot.old)
         steps.old steps.new }
 {
-    let profile = profile_of(round);
-    let told = judge_run(alloc, depot, source, target, trace, profile, steps);
+    let told = judge_run(alloc, depot, round, source, target, trace, steps);
     Effect::telling(told)
 }
 

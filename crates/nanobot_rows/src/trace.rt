@@ -1,8 +1,9 @@
-//! Traces of files, in pieces.
+//! Runs the trace in a file, which is read in pieces.
 ghost use Rattle.std.specs.Prelude.{◌≡◌, ◌≤◌, Err, None};
 ghost use Rattle.nano_spec.specs.Grounded.{FirstUngrounded};
 ghost use Rattle.vox_depot.specs.Causes.{Rose};
-ghost use Rattle.nanobot_rows.specs.Answer.{AnswerOfTrace};
+ghost use Rattle.plan_choice.specs.Planners.{byte_limit};
+ghost use Rattle.nanobot_rows.specs.Answer.{OfRun, TraceOf, Upon};
 ghost use Rattle.nanobot_rows.specs.Reading.{EndsUnstored, OnlyReads};
 ghost use Rattle.nanobot_rows.specs.Touching.{IsWithinFile};
 
@@ -17,13 +18,15 @@ use vox_depot::Depot;
 use vox_geom::Steps;
 use vox_planes::Planes;
 
-/// The maximum length of a trace to run, in bytes.
+/// The maximum length of a trace that is run, in bytes.
 const LIMIT: u64 = 1_073_741_824;
 
-/// The number of bytes per fetch.
+/// The maximum number of bytes that one fetch reads.
 const PIECE: usize = 65536;
 
-/// Runs the trace of a file and returns the report. Reads it in pieces to its end, or up to its first byte past the limit.
+/// Runs the trace in a file and returns the report, or an error if the depot or an allocation fails.
+///
+/// Reads the file in pieces to its end, or until it turns out to be longer than the limit, which is reported.
 pub fn run_trace<D: Depot, L: Ledger>(
     alloc: Global,
     depot: &mut D,
@@ -37,7 +40,7 @@ pub fn run_trace<D: Depot, L: Ledger>(
     requires grounded { FirstUngrounded source None }
     requires seeds { profile.seeds ≤ 39 }
     requires resolutions { source.resolution ≡ target.now.resolution }
-    ensures ends { EndsUnstored (AnswerOfTrace profile source target.now name.now) (D.files depot.old)
+    ensures ends { EndsUnstored (Upon (TraceOf byte_limit name.now) (OfRun profile source target.now)) (D.files depot.old)
         (Rose (D.faults depot.old) (D.faults depot.new)) result }
     ensures only_reads { OnlyReads D.files D.faults D.failed_stores depot.old depot.new }
     ensures within { (result ≡ Err Stop.Memory → ⊥)

@@ -73,10 +73,6 @@ stores_of (make number resolution model) = Some model
 stores_of (plan planner source target trace) = Some trace
 stores_of row = None
 
--- the names in it
-abbrev pub names_of : Row → List (List ℕ)
-names_of row = with_side (stores_of row) (reads_of row)
-
 -- one of the two is the file of a name
 abbrev pub HasName : Option (List ℕ) → Option (List ℕ) → Type 0
 HasName None None = ⊥
@@ -133,7 +129,7 @@ pub record IsRunOf (words : List (List ℕ)) (source target : Option (List ℕ))
 -- the arguments are those of this command
 pub record IsRow (words : List (List ℕ)) (row : Row) : Type 0 where
   pub written : words ≡ row_words row
-  pub named : All IsName (names_of row)
+  pub named : All IsName (with_side (stores_of row) (reads_of row))
   pub of_table : IsOfTable row
 
 -- the arguments are no command

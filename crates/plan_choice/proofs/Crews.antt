@@ -14,7 +14,7 @@ use Rattle.plan_tape.specs.Reaches.{HasAtMost}
 use Rattle.plan_choice.specs.declared.plans.LeastEnergy.{LeastEnergy}
 use Rattle.plan_choice.specs.Crew.{IsForCrew, IsLeast, IsNoMoreThan, Replaces}
 use Rattle.plan_choice.proofs.Lengths.{few_commands, four_each, layer_fits, low_fits, swarm_fits, two_each, void_fits, volume_most}
-use Rattle.plan_choice.specs.Planners.{crew_limit, IsGroupPlan, IsLayerPlan, IsLowPlan, IsNoDearer, IsSwarmPlan, IsVoidPlan, PlanFacts}
+use Rattle.plan_choice.specs.Planners.{byte_limit, IsGroupPlan, IsLayerPlan, IsLowPlan, IsNoDearer, IsSwarmPlan, IsVoidPlan, PlanFacts}
 
 -- ---- the cheaper one of two plans
 
@@ -70,7 +70,7 @@ module _ (source target : Matrix) (plan : Plan) where
     few_bytes = layer_fits source.resolution (length (spellings plan.commands)) most h.bytes;
   }
 
-  pub group_crew : most_bytes source target ≤ crew_limit
+  pub group_crew : most_bytes source target ≤ byte_limit
       → IsGroupPlan source target plan.commands plan.energy plan.steps → IsForCrew source target plan
   group_crew fits h = record {
     plan = record {

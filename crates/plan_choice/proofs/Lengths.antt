@@ -19,7 +19,7 @@ use Rattle.swarm_planner.specs.Bounds.{width}
 use Rattle.void_planner.specs.Bounds.{most_void_steps, tiles_of}
 use Rattle.plan_tape.proofs.Reached.{enough}
 use Rattle.low_planner.proofs.Alone.{plain_more}
-use Rattle.plan_choice.specs.Planners.{crew_limit}
+use Rattle.plan_choice.specs.Planners.{byte_limit}
 use Rattle.nano_spec.proofs.Lengths.{spelling_short}
 
 -- ---- commands
@@ -96,11 +96,11 @@ two_each (c ∷ more) h =
 -- ---- within the limit of a crew's plan
 
 -- a plan of the layer planner
-pub layer_fits : (r size : ℕ) → r ≤ 400 → size ≤ 8 * volume r + 200 → size ≤ crew_limit
+pub layer_fits : (r size : ℕ) → r ≤ 400 → size ≤ 8 * volume r + 200 → size ≤ byte_limit
 layer_fits r size most bound = let cube : r * r * r ≤ 400 * 400 * 400 = mul-le-mul (mul-le-mul most most) most in omega (arith, cube, bound)
 
 pub void_fits : (r steps commands size : ℕ) → r ≤ 400 → steps ≤ most_void_steps r → commands ≤ 4 * steps
-    → size ≤ 4 * commands → size ≤ crew_limit
+    → size ≤ 4 * commands → size ≤ byte_limit
 void_fits r steps commands size most few a b =
     let side : tiles_of r ≤ 13 = few_tiles r most in
     let square : tiles_of r * tiles_of r ≤ 13 * 13 = mul-le-mul side side in
@@ -113,7 +113,7 @@ void_fits r steps commands size most few a b =
     eight : (r : ℕ) → r ≤ 400 → 8 * r ≤ 3200
     eight r h = omega arith
 
-    by : (x : ℕ) → x ≤ 540800 → steps ≤ x + 8 * r + 200 → size ≤ crew_limit
+    by : (x : ℕ) → x ≤ 540800 → steps ≤ x + 8 * r + 200 → size ≤ byte_limit
     by x h few = omega (arith, h, few, most, a, b)
 
 -- a model has few voxels
@@ -121,12 +121,12 @@ pub volume_most : (r : ℕ) → r ≤ 400 → volume r ≤ 64000000
 volume_most r h = mul-le-mul (mul-le-mul h h) h
 
 pub low_fits : (cube full steps commands size : ℕ) → cube ≤ 64000000 → full ≤ cube → steps ≤ 4 * full + cube + 200
-    → commands ≤ 1 * steps → size ≤ 2 * commands → size ≤ crew_limit
+    → commands ≤ 1 * steps → size ≤ 2 * commands → size ≤ byte_limit
 low_fits cube full steps commands size most some few a b = omega arith
 
 -- a plan of the swarm planner
 pub swarm_fits : (r steps commands size : ℕ) → r ≤ 400 → steps ≤ 4 * width r * r * r + 8 * r + 2000
-    → commands ≤ 20 * steps → size ≤ 4 * commands → size ≤ crew_limit
+    → commands ≤ 20 * steps → size ≤ 4 * commands → size ≤ byte_limit
 swarm_fits r steps commands size most few a b =
     let all : 4 * width r * r * r ≤ 80 * 400 * 400 = mul-le-mul (mul-le-mul (strip r most) most) most in
     by (4 * width r * r * r) all few
@@ -134,5 +134,5 @@ swarm_fits r steps commands size most few a b =
     strip : (r : ℕ) → r ≤ 400 → 4 * width r ≤ 80
     strip r h = omega arith
 
-    by : (all : ℕ) → all ≤ 80 * 400 * 400 → steps ≤ all + 8 * r + 2000 → size ≤ crew_limit
+    by : (all : ℕ) → all ≤ 80 * 400 * 400 → steps ≤ all + 8 * r + 2000 → size ≤ byte_limit
     by all h k = omega arith

@@ -9,12 +9,12 @@ use Rattle.low_planner.specs.Supported.{FirstUnsupported}
 use Rattle.plan_tape.specs.declared.tape.Plan.{Plan}
 use Rattle.plan_choice.specs.declared.crew.Crew.{Crew}
 use Rattle.plan_choice.specs.declared.plans.LeastEnergy.{LeastEnergy}
-use Rattle.plan_choice.specs.Planners.{IsCrewPlan, IsPlan, crew_limit}
+use Rattle.plan_choice.specs.Planners.{IsCrewPlan, IsPlan, byte_limit}
 
 -- a plan of forty bots at most, whose spellings are no longer than a trace that is run
 pub record IsForCrew (source target : Matrix) (it : Plan) : Type 0 where
   pub plan : IsPlan full_profile 40 source target it.commands it.energy it.steps
-  pub few_bytes : length (spellings it.commands) ≤ crew_limit
+  pub few_bytes : length (spellings it.commands) ≤ byte_limit
 
 -- a crew's plan to a legal target, which a plan from nothing may replace if the source is empty
 pub record MayBuildInstead (from to : Matrix) (plan : Plan) : Type 0 where
@@ -43,7 +43,7 @@ IsNoMoreThan energy asked = (least : LeastEnergy) × (asked ≡ Some least) × (
 pub record IsCheapest (source target : Matrix) (crew : Crew) : Type 0 where
   pub plan : IsCrewPlan source target crew.plan.commands crew.plan.energy crew.plan.steps
   pub as_layer : crew.plan.energy ≤ℤ crew.layer.energy
-  pub as_group : most_bytes source target ≤ crew_limit → IsNoMoreThan crew.plan.energy crew.group
+  pub as_group : most_bytes source target ≤ byte_limit → IsNoMoreThan crew.plan.energy crew.group
   pub as_void : target ≡ empty target.resolution → IsNoMoreThan crew.plan.energy crew.void
   pub as_low : source ≡ empty source.resolution → FirstUnsupported target None
       → IsNoMoreThan crew.plan.energy crew.low

@@ -64,9 +64,9 @@ pub record IsSwarmPlan (source target : Matrix) (commands : List Command) (energ
   pub few_steps :
       steps ≤ 4 * width target.resolution * target.resolution * target.resolution + 8 * target.resolution + 2000
 
--- the most bytes of a crew's plan
-abbrev pub crew_limit : ℕ
-crew_limit = 1073741824
+-- the maximum length of a plan, of a trace to run and of a text, in bytes
+abbrev pub byte_limit : ℕ
+byte_limit = 1073741824
 
 -- a plan with these facts costs at least this much
 abbrev pub IsNoDearer : PlanFacts → Matrix → Matrix → ℤ → Type 0
@@ -78,9 +78,9 @@ IsNoDearer Is source target energy =
 -- long, to the empty model, or from it
 pub record IsCrewPlan (source target : Matrix) (commands : List Command) (energy : ℤ) (steps : ℕ) : Type 0 where
   pub plan : IsPlan full_profile 40 source target commands energy steps
-  pub few_bytes : length (spellings commands) ≤ crew_limit
+  pub few_bytes : length (spellings commands) ≤ byte_limit
   pub as_layer : IsNoDearer IsLayerPlan source target energy
-  pub as_group : group.most_bytes source target ≤ crew_limit → IsNoDearer IsGroupPlan source target energy
+  pub as_group : group.most_bytes source target ≤ byte_limit → IsNoDearer IsGroupPlan source target energy
   pub as_void : target ≡ empty target.resolution → IsNoDearer IsVoidPlan source target energy
   pub as_low : source ≡ empty source.resolution → FirstUnsupported target None
       → IsNoDearer IsLowPlan source target energy

@@ -6,7 +6,7 @@ ghost use Rattle.plan_tape.specs.Models.{AreLegalModels};
 ghost use Rattle.group_planner.specs.Bounds.{most_bytes};
 ghost use Rattle.low_planner.specs.Supported.{FirstUnsupported};
 ghost use Rattle.plan_choice.specs.Crew.{IsCheapest, IsForCrew, IsLeast, IsNoMoreThan, MayBuildInstead, Replaces};
-ghost use Rattle.plan_choice.specs.Planners.{crew_limit, IsCrewPlan, IsGroupPlan, IsLayerPlan, IsLowPlan, IsNoDearer, IsSwarmPlan, IsVoidPlan};
+ghost use Rattle.plan_choice.specs.Planners.{byte_limit, IsCrewPlan, IsGroupPlan, IsLayerPlan, IsLowPlan, IsNoDearer, IsSwarmPlan, IsVoidPlan};
 
 use crate::bounds::Bounds;
 use crate::many::{CREW, by_crew};
@@ -95,7 +95,7 @@ fn or_group(alloc: Global, source: &Planes, target: &Planes, plan: Plan) -> Resu
     requires crew { IsForCrew source.now target.now plan }
     ensures crew { IfOk result (λ it. IsForCrew source.now target.now it.plan) }
     ensures no_dearer { IfOk result (λ it. it.plan.energy ≤ℤ plan.energy) }
-    ensures as_group { most_bytes source.now target.now ≤ crew_limit
+    ensures as_group { most_bytes source.now target.now ≤ byte_limit
         → IfOk result (λ it. IsNoDearer IsGroupPlan source.now target.now it.plan.energy
         × IsNoMoreThan it.plan.energy it.least) }
 {

@@ -10,7 +10,7 @@ use Rattle.nano_spec.specs.Next.{Breaks, Goes, Outcome}
 use Rattle.nano_spec.specs.Rules.{broken}
 use Rattle.nano_spec.specs.State.{State}
 use Rattle.nano_spec.proofs.Unique.{Level-unique, Next-unique}
-use Rattle.step_debugger.specs.Session.{AnswersLine, Back, BeginsGroup, Begun, Bots, Crew, FollowsStep, GoesBack, Group, IsBack, IsFull, IsVoid, DebugLine, NoLeader, SessionPoint, Refused, DebugReport, Session, Step, TriesStep, TakesBack, UnlessEnded, Voxel, is_last, is_returned, may_begin, middle_state, next_commands}
+use Rattle.step_debugger.specs.Session.{AnswersLine, Back, BeginsGroup, Begun, Bots, Crew, FollowsStep, GoesBack, Group, IsBack, IsFull, IsVoid, DebugLine, NoLeader, SessionPoint, Refused, DebugReport, Session, Step, TriesStep, UnlessEnded, Voxel, is_last, is_returned, may_begin, middle_state, next_commands}
 
 -- two answers are one
 abbrev pub AreOne : Session → Session → DebugReport → DebugReport → Type 0
@@ -58,13 +58,13 @@ is_back_once s t u r q h k =
     let same = same_from_push h.earlier k.earlier h.last k.last (sym h.past ∙ k.past) in
     (h.session ∙ ((λ i. record { point = same.1 i; past = same.0 i; begun = [] }) ∙ sym k.session), h.report_is ∙ (ap is_returned same.1 ∙ sym k.report_is))
 
-takes_back_once : (past : List SessionPoint) (s t u : Session) (r q : DebugReport) → TakesBack past s t r
-    → TakesBack past s u q → AreOne t u r q
+takes_back_once : (past : List SessionPoint) (s t u : Session) (r q : DebugReport) → GoesBack [] past s t r
+    → GoesBack [] past s u q → AreOne t u r q
 takes_back_once [] s t u r q h k = both_are t u _ r q _ h k
 takes_back_once (p ∷ past) s t u r q h k = is_back_once s t u r q h k
 
-goes_back_once : (begun : List ℕ) (s t u : Session) (r q : DebugReport) → GoesBack begun s t r → GoesBack begun s u q
-    → AreOne t u r q
+goes_back_once : (begun : List ℕ) (s t u : Session) (r q : DebugReport) → GoesBack begun s.past s t r
+    → GoesBack begun s.past s u q → AreOne t u r q
 goes_back_once [] s t u r q h k = takes_back_once s.past s t u r q h k
 goes_back_once (b ∷ begun) s t u r q h k = both_are t u _ r q _ h k
 

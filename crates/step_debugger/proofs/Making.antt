@@ -1,6 +1,7 @@
 -- An attempt at the next step.
-use Rattle.std.proofs.Common.{◌≡◌, ℕ, ◌+◌, ◌-◌, ◌≤◌, refl, sym, ◌∙◌, ap, subst, arith, List, [], ◌∷◌, ◌++◌, Bool, true, false, length, take, drop, length-drop, length-take}
+use Rattle.std.proofs.Common.{◌==◌, ◌≡◌, ℕ, ◌+◌, ◌-◌, ◌≤◌, refl, sym, ◌∙◌, ap, subst, arith, List, [], ◌∷◌, ◌++◌, Bool, true, false, length, take, drop, length-drop, length-take}
 use Rattle.std.specs.Prelude.{◌↔◌, All, Ok}
+use Rattle.std.proofs.lemmas.Bool.Decides.{nat_tests}
 use Rattle.circular_buffer.specs.Buffer.{Buffer, keep_last}
 use Rattle.nano_spec.specs.declared.commands.Command.{Command}
 use Rattle.nano_spec.specs.declared.outcomes.Broken.{Broken}
@@ -17,7 +18,7 @@ use Rattle.step_machine.specs.Undoing.{MayUndo, state_before}
 use Rattle.step_machine.specs.declared.machine.StepOk.{StepOk}
 use Rattle.step_machine.specs.declared.machine.StepFault.TheVariants as fault
 use Rattle.step_machine.specs.declared.undo.Undo.{Undo}
-use Rattle.step_debugger.specs.Session.{Made, SessionPoint, Refused, Session, TriesStep, dropped, latest, made, most_past, next_commands, none_left, refused}
+use Rattle.step_debugger.specs.Session.{Made, SessionPoint, Refused, Session, TriesStep, dropped, latest, made, most_past, next_commands, refused}
 use Rattle.step_debugger.specs.Debugging.{Debugging, debugging_of, point_before, point_of, points_of}
 use Rattle.step_debugger.specs.Kept.{Begin, Fit, IsKept, LeadTo, LeadsTo}
 use Rattle.step_debugger.specs.Touches.{IsRefusedWithin, IsWithinWorkOf}
@@ -27,9 +28,9 @@ use Rattle.step_debugger.proofs.Returning.{fit}
 take_long : (n : ℕ) (xs : List Command) → length (take n xs) ≡ n → n ≤ length xs
 take_long n xs e = let length_taken = length-take n xs in omega (arith, length_taken)
 
-halted_is : (b : Bool) (bots : List Bot) → (b ≡ true ↔ bots ≡ []) → b ≡ none_left bots
+halted_is : (b : Bool) (bots : List Bot) → (b ≡ true ↔ bots ≡ []) → b ≡ (length bots == 0)
 halted_is b [] h = h.1 refl
-halted_is false (x ∷ bots) h = refl
+halted_is false (x ∷ bots) h = let some : 1 ≤ length (x ∷ bots) = omega arith in grind (arith, nat_tests)
 halted_is true (x ∷ bots) h = let list_empty : x ∷ bots ≡ [] = h.0 refl in cc
 
 pub refused_other : (rule : Rule) (s : Session) → (rule ≡ Ungrounded → ⊥) → refused rule s ≡ s

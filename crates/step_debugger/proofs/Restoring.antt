@@ -9,7 +9,7 @@ use Rattle.nano_spec.specs.Matrix.{is_full}
 use Rattle.nano_spec.specs.Next.{Breaks, Goes, Outcome}
 use Rattle.nano_spec.specs.Rules.{broken}
 use Rattle.nano_spec.specs.State.{State}
-use Rattle.step_debugger.specs.Session.{AnswersLine, Back, BeginsGroup, Begun, Bots, Crew, Ended, FollowsStep, GoesBack, Group, IsFull, IsVoid, DebugLine, Made, NoHistory, NoLeader, SessionPoint, Refused, DebugReport, Session, Step, TriesStep, TakesBack, UnlessEnded, Voxel, is_last, is_returned, latest, made, may_begin, most_past, next_commands}
+use Rattle.step_debugger.specs.Session.{AnswersLine, Back, BeginsGroup, Begun, Bots, Crew, Ended, FollowsStep, GoesBack, Group, IsFull, IsVoid, DebugLine, Made, NoHistory, NoLeader, SessionPoint, Refused, DebugReport, Session, Step, TriesStep, UnlessEnded, Voxel, is_last, is_returned, latest, made, may_begin, most_past, next_commands}
 
 -- whether a step was made
 abbrev pub is_made : DebugReport → Bool
@@ -53,12 +53,12 @@ grouped : (commands : List Command) (bid : ℕ) (s t : Session) (r : DebugReport
 grouped commands bid s t r None m h = begun_so commands bid s t r m h
 grouped commands bid s t r (Some w) m h = absurd (never r (Refused w) h.1 m refl)
 
-went_back : (past : List SessionPoint) (s t : Session) (r : DebugReport) → is_made r ≡ true → TakesBack past s t r
+went_back : (past : List SessionPoint) (s t : Session) (r : DebugReport) → is_made r ≡ true → GoesBack [] past s t r
     → WasMade s t
 went_back [] s t r m h = absurd (never r NoHistory h.1 m refl)
 went_back (p ∷ past) s t r m h = absurd (never r (is_returned h.last) h.report_is m refl)
 
-dropped_back : (begun : List ℕ) (s t : Session) (r : DebugReport) → is_made r ≡ true → GoesBack begun s t r
+dropped_back : (begun : List ℕ) (s t : Session) (r : DebugReport) → is_made r ≡ true → GoesBack begun s.past s t r
     → WasMade s t
 dropped_back [] s t r m h = went_back s.past s t r m h
 dropped_back (b ∷ begun) s t r m h = absurd (never r (is_returned s.point) h.1 m refl)
@@ -93,7 +93,7 @@ latest_push xs x =
 -- ---- the undone step
 
 restored_past : (past : List SessionPoint) (s t u : Session) (r : DebugReport) → past ≡ t.past → (v : State)
-    → t ≡ made s v → TakesBack past t u r
+    → t ≡ made s v → GoesBack [] past t u r
     → (u ≡ record { point = s.point; past = latest 4095 s.past; begun = [] }) × (r ≡ is_returned s.point)
 restored_past [] s t u r p v e h = absurd (empty (latest 4095 s.past) (p ∙ (ap (λ (x : Session). x.past) e ∙ latest_push s.past s.point)))
   where
@@ -105,7 +105,7 @@ restored_past (q ∷ past) s t u r p v e h =
     (h.session ∙ (λ i. record { point = same.1 i; past = same.0 i; begun = [] }), h.report_is ∙ ap is_returned same.1)
 
 restored_begun : (begun : List ℕ) (s t u : Session) (r : DebugReport) → begun ≡ t.begun → (v : State) → t ≡ made s v
-    → GoesBack begun t u r
+    → GoesBack begun t.past t u r
     → (u ≡ record { point = s.point; past = latest 4095 s.past; begun = [] }) × (r ≡ is_returned s.point)
 restored_begun [] s t u r b v e h = restored_past t.past s t u r refl v e h
 restored_begun (x ∷ begun) s t u r b v e h = absurd (let list_empty : x ∷ begun ≡ [] = b ∙ ap (λ (y : Session). y.begun) e in cc)

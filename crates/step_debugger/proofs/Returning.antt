@@ -9,7 +9,7 @@ use Rattle.vox_geom.specs.Space.{IsInSpace}
 use Rattle.step_machine.specs.Situation.{Situation}
 use Rattle.step_machine.specs.Undoing.{IsUndoneBy, MayUndo, state_before}
 use Rattle.step_machine.specs.declared.undo.Undo.{Undo}
-use Rattle.step_debugger.specs.Session.{GoesBack, IsBack, SessionPoint, DebugReport, Session, TakesBack, is_returned}
+use Rattle.step_debugger.specs.Session.{GoesBack, IsBack, SessionPoint, DebugReport, Session, is_returned}
 use Rattle.step_debugger.specs.Debugging.{Debugging, debugging_of, point_before, point_of, points_of}
 use Rattle.step_debugger.specs.Kept.{Begin, Fit, IsKept, LeadTo, LeadsTo}
 use Rattle.step_debugger.specs.Touches.{IsTouchedBack}
@@ -18,7 +18,7 @@ use Rattle.step_debugger.proofs.TouchedBack.{touched_back}
 
 -- if the past has a last point
 takes_back : (past earlier : List SessionPoint) (last : SessionPoint) (s t : Session) (report : DebugReport)
-    → past ≡ earlier ++ last ∷ [] → IsBack s t report → TakesBack past s t report
+    → past ≡ earlier ++ last ∷ [] → IsBack s t report → GoesBack [] past s t report
 takes_back (p ∷ past) earlier last s t report e h = h
 takes_back [] [] last s t report e h = cc
 takes_back [] (p ∷ earlier) last s t report e h = cc
@@ -84,7 +84,8 @@ module _ (v : Situation) (notes : Buffer Undo) (commands : List Command) (taken 
           ∙ ((λ i. points_of (point_is i) (take (length notes.items - 1) notes.items) ++ point_is i ∷ [])
           ∙ ap (λ (us : List Undo). points_of (point_of w (taken - n)) us ++ point_of w (taken - n) ∷ []) (sym (ap (λ (b : Buffer Undo). b.items) popped))))
 
-      goes_back : (b : List ℕ) → b ≡ [] → GoesBack b (debugging_of v notes.items commands taken b).session
+      goes_back : (b : List ℕ) → b ≡ [] → GoesBack b (debugging_of v notes.items commands taken b).session.past
+          (debugging_of v notes.items commands taken b).session
           (debugging_of w rest.items commands (taken - n) b).session (is_returned (point_of w (taken - n)))
       goes_back (x ∷ b) f = cc
       goes_back [] f =
@@ -92,8 +93,8 @@ module _ (v : Situation) (notes : Buffer Undo) (commands : List Command) (taken 
           (record { earlier = points_of (point_of w (taken - n)) rest.items; last = point_of w (taken - n); past = past_is; session = refl; report_is = refl })
 
       pub session_back :
-          GoesBack d.session.begun d.session (debugging_of w rest.items commands (taken - n) begun).session (is_returned (point_of w (taken - n)))
-      session_back = subst (λ (x : Debugging). GoesBack x.session.begun x.session (debugging_of w rest.items commands (taken - n) begun).session (is_returned (point_of w (taken - n)))) e (goes_back begun none)
+          GoesBack d.session.begun d.session.past d.session (debugging_of w rest.items commands (taken - n) begun).session (is_returned (point_of w (taken - n)))
+      session_back = subst (λ (x : Debugging). GoesBack x.session.begun x.session.past x.session (debugging_of w rest.items commands (taken - n) begun).session (is_returned (point_of w (taken - n)))) e (goes_back begun none)
 
       pub touches_back : (began ended : ℕ) → IsUndoneBy v.state.matrix undo.filled.items undo.voided.items began ended
           → IsTouchedBack d.session.point.state.matrix w.state.matrix began ended

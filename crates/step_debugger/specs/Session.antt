@@ -1,6 +1,6 @@
 -- A session, which walks a trace forwards and backwards, step by step or group by group (docs/FORMATS.md,
 -- "Sessions").
-use Rattle.std.specs.Prelude.{◌≡◌, ℕ, ◌+◌, ◌-◌, ℤ, Bool, true, false, cond, ◌&&◌, not, ◌==◌, List, [], ◌∷◌, ◌++◌, length, take, drop, Option, Some, MatchBool, MatchOption}
+use Rattle.std.specs.Prelude.{◌≡◌, ℕ, ◌+◌, ◌-◌, ℤ, Bool, cond, ◌&&◌, not, ◌==◌, List, [], ◌∷◌, ◌++◌, length, take, drop, Option, Some, MatchBool, MatchOption}
 use Rattle.std.specs.List.{list_any}
 use Rattle.vox_geom.specs.declared.coordinate.Coord.{Coord}
 use Rattle.nano_spec.specs.declared.commands.Command.{Command}
@@ -102,14 +102,9 @@ abbrev pub refused : Rule → Session → Session
 refused Ungrounded s = dropped s
 refused rule s = s
 
--- whether no bot is left
-abbrev pub none_left : List Bot → Bool
-none_left [] = true
-none_left (bot ∷ bots) = false
-
 -- the change by an outcome of the next step, and its printed answer
 abbrev pub FollowsStep : Session → Session → DebugReport → Outcome → Type 0
-FollowsStep s t report (Goes u) = (t ≡ made s u) × (report ≡ Made (s.point.steps + 1) u.energy (none_left u.bots))
+FollowsStep s t report (Goes u) = (t ≡ made s u) × (report ≡ Made (s.point.steps + 1) u.energy (length u.bots == 0))
 FollowsStep s t report (Breaks b) = (t ≡ refused b.rule s) × (report ≡ Refused b)
 
 -- an attempt at the next step
@@ -159,22 +154,18 @@ pub record IsBack (s t : Session) (report : DebugReport) : Type 0 where
   pub session : t ≡ record { point = last; past = earlier; begun = [] }
   pub report_is : report ≡ is_returned last
 
--- if nothing is begun, the last step is undone
-abbrev pub TakesBack : List SessionPoint → Session → Session → DebugReport → Type 0
-TakesBack [] s t report = (t ≡ s) × (report ≡ NoHistory)
-TakesBack (p ∷ past) s t report = IsBack s t report
-
 -- the begun groups are dropped, or the last step is undone if there are none
-abbrev pub GoesBack : List ℕ → Session → Session → DebugReport → Type 0
-GoesBack [] s t report = TakesBack s.past s t report
-GoesBack (bid ∷ begun) s t report = (t ≡ dropped s) × (report ≡ is_returned s.point)
+abbrev pub GoesBack : List ℕ → List SessionPoint → Session → Session → DebugReport → Type 0
+GoesBack (bid ∷ begun) past s t report = (t ≡ dropped s) × (report ≡ is_returned s.point)
+GoesBack [] [] s t report = (t ≡ s) × (report ≡ NoHistory)
+GoesBack [] (p ∷ past) s t report = IsBack s t report
 
 -- the change by a line, and its printed answer
 abbrev pub AnswersLine : List Command → DebugLine → Session → Session → DebugReport → Type 0
 AnswersLine commands Step s t report = UnlessEnded s.point.state.bots s t report (TriesStep commands s t report)
 AnswersLine commands (Group bid) s t report =
     UnlessEnded s.point.state.bots s t report (TriesGroup commands bid s t report)
-AnswersLine commands Back s t report = GoesBack s.begun s t report
+AnswersLine commands Back s t report = GoesBack s.begun s.past s t report
 AnswersLine commands Bots s t report =
     (t ≡ s) × ((m : State) × (middle_state commands s ≡ Some m) × (report ≡ Crew m.bots))
 AnswersLine commands (Voxel c) s t report =

@@ -1,9 +1,10 @@
+use Rattle.std.specs.FinMap as finite
 use Rattle.std.proofs.Common.{◌∙◌, ap}
 use Rattle.nano_spec.specs.Matrix.{full_count}
 use Rattle.nano_spec.specs.Model.{written}
 use Rattle.nanobot_words.specs.Rows.{make}
 use Rattle.nanobot_rows.specs.declared.status.Status.TheVariants as is
-use Rattle.nanobot_rows.specs.Answer.{AnswerOf, with_file}
+use Rattle.nanobot_rows.specs.Answer.{AnswerOf}
 use Rattle.nanobot_rows.specs.Effects.{reply_by}
 use Rattle.nanobot_rows.specs.Lines.{forged_line}
 use Rattle.nanobot_rows.proofs.Told.{if_some}
@@ -15,4 +16,4 @@ returns-clause-finishes g c = λ told before now.
     let full = c.count.ensures.value ∙ ap full_count forged_is in
     let bytes = (c.in_ok-bytes.ensures {u = tt}) ∙ ap written forged_is in
     if_some {P = λ files. AnswerOf (make c.args.number c.args.resolution c.args.model.now) files (reply_by files c.storing.result)} told (λ files _.
-    ap (reply_by files) c.storing.ensures ∙ (λ i. record { status = is.Done; line = forged_line c.args.resolution (full i); after = with_file files c.args.model.now (bytes i) }))
+    ap (reply_by files) c.storing.ensures ∙ (λ i. record { status = is.Done; line = forged_line c.args.resolution (full i); after = finite.insert files c.args.model.now (bytes i) }))

@@ -4,7 +4,8 @@ use Rattle.vox_depot.specs.Causes.{Rose}
 use Rattle.vox_depot.specs.Files.{Files, IsMissing}
 use Rattle.vox_depot.specs.declared.depot.FetchFault.TheVariants as fetch
 use Rattle.nanobot_rows.specs.declared.status.Status.TheVariants as is
-use Rattle.nanobot_rows.specs.Answer.{AnswerOfTrace}
+use Rattle.plan_choice.specs.Planners.{byte_limit}
+use Rattle.nanobot_rows.specs.Answer.{OfRun, TraceOf, Upon}
 use Rattle.nanobot_rows.specs.Reading.{of_fetch, reply_of, reply_to}
 use Rattle.nanobot_rows.proofs.Replies.{rose_since}
 use Rattle.nanobot_rows.proofs.Told.{err_is, not_fetched}
@@ -24,7 +25,7 @@ returns-then-at-gt-LIMIT-clause-ends g c =
 pub returns-in_err-count-clause-ends : goal.returns-in_err-count-clause-ends
 returns-in_err-count-clause-ends g c =
     let name = c.args.name.now in
-    let answers = AnswerOfTrace c.args.profile c.args.source c.args.target.now name in
+    let answers = Upon (TraceOf byte_limit name) (OfRun c.args.profile c.args.source c.args.target.now) in
     let missing : c.in_err-count.field-0.0 ≡ fetch.Missing → IsMissing (g.D.Depot.files c.pieces.depot) name = λ e. search rules in
     let failed : c.in_err-count.field-0.0 ≡ fetch.Failed → Rose (g.D.Depot.faults c.pieces.depot) (g.D.Depot.faults c.fetch.new.self) = λ e. search rules in
     let same = err_is c.from_residual-in_err-count.result (of_fetch c.in_err-count.field-0.0) c.from_residual-in_err-count.ensures.1 in
