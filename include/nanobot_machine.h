@@ -13,8 +13,8 @@
  *   same time.
  * - The rules at the top of nanobot.h hold for pointers and for the program's malloc. No pointer is null, not even with a length
  *   of 0: pass NANOBOT_NONE.
- * - The thread has 64 KB of stack for each of the two starts and for a copy, and 32 KB for each other call. As in nanobot.h, these
- *   figures are measured.
+ * - The thread has 64 KB of stack for each of the two starts and for a copy, and 32 KB of stack for each other call. As in
+ *   nanobot.h, these figures are measured.
  *
  * A refused call, for whatever reason, leaves the machine unchanged for the next call. After NANOBOT_MEMORY the next call that makes
  * or judges a step, or returns a level, takes as long as a start. If the machine keeps no notes and has no target, the same holds
