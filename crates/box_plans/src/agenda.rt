@@ -1,7 +1,7 @@
-//! The boxes of a plan: which ones are ready, and what each of the others waits for.
+//! The boxes of a plan: which of them are ready to be filled, and which boxes each of the others waits for.
 //!
-//! A box waits for all boxes below it in its columns, and for those whose bots need one of its columns. What is ready is found by the
-//! columns of its corners.
+//! A box waits for all boxes below it in its columns, and for the boxes whose bots have posts in these columns. Ready boxes are
+//! found by the columns of their corners.
 use crate::blocks::{Block, CutBox};
 use crate::chains::Chains;
 use crate::positions::HOME;
@@ -9,23 +9,24 @@ use crate::site::BuildSite;
 use std::alloc::Global;
 use vox_geom::Memory;
 
-/// How many columns a bucket of boxes is wide.
+/// The width of a bucket of boxes along x and along z, in columns.
 const WIDTH: i16 = 8;
 
-/// The states of a box.
+/// The state of a box.
 #[derive(Clone, Copy, PartialEq, Eq, Debug)]
 pub(crate) enum BoxState {
-    /// It waits for others.
+    /// The box waits for other boxes.
     Waits,
-    /// A team may take it.
+    /// The box waits for no other: a team may take it.
     Ready,
-    /// A team has it.
+    /// A team has taken the box.
     Taken,
-    /// It is full.
+    /// The box is full.
     Done,
 }
 
-/// A box: how many others it waits for, when it last hung in the air, the last search that met it, and its anchors if they are known.
+/// A box: the number of boxes that it waits for, the last search that found it, the last step in which it was seen hanging in the
+/// air, and the range of its anchors if these are known.
 #[derive(Clone, Copy, Debug)]
 pub(crate) struct Item {
     pub(crate) block: Block,
@@ -36,7 +37,7 @@ pub(crate) struct Item {
     pub(crate) anchors: Option<(usize, usize)>,
 }
 
-/// No box.
+/// The result of [`Agenda::get`] for a number that no box has.
 const NONE: Item = Item {
     block: Block {
         low: HOME,
@@ -49,7 +50,8 @@ const NONE: Item = Item {
     anchors: None,
 };
 
-/// All boxes, those that wait for each, and those that are near each place.
+/// All boxes, their `users` (the boxes that wait for each), and buckets of boxes by columns, `across` of them along an axis. Then
+/// the numbers of boxes that are ready, taken and not yet full, and of searches.
 #[derive(Drop)]
 pub(crate) struct Agenda {
     items: Vec<Item>,
@@ -62,7 +64,7 @@ pub(crate) struct Agenda {
     searches: u32,
 }
 
-/// Which boxes come last in each column, and which ones need it.
+/// For each column, the last box added to it so far, and the boxes whose bots have posts in it.
 #[derive(Drop)]
 struct ColumnOrder {
     last: Vec<u32>,
@@ -70,7 +72,7 @@ struct ColumnOrder {
 }
 
 impl Agenda {
-    /// No box.
+    /// Returns an agenda without boxes, for a matrix of `side` voxels along each axis.
     fn empty(alloc: Global, side: i16) -> Result<Agenda, Memory> {
         let across = (side.max(0) / WIDTH).saturating_add(1);
         let n = across.max(0) as usize;
@@ -86,7 +88,7 @@ impl Agenda {
         })
     }
 
-    /// The boxes in an order in which each comes after all those below it.
+    /// Returns the agenda of these boxes, which are in an order in which each comes after all boxes below it.
     pub(crate) fn of(alloc: Global, site: &BuildSite, pieces: &[CutBox]) -> Result<Agenda, Memory> {
         let mut agenda = Agenda::empty(alloc, site.side())?;
         let mut columns = ColumnOrder {
@@ -105,7 +107,7 @@ impl Agenda {
         Ok(agenda)
     }
 
-    /// Adds a box, and keeps for what it waits.
+    /// Adds a box, makes it wait for earlier boxes in its columns, and records the columns of its bots' posts.
     fn add_piece(
         &mut self,
         site: &BuildSite,
@@ -129,7 +131,7 @@ impl Agenda {
         Ok(())
     }
 
-    /// Adds a box that waits for none. Returns its number.
+    /// Adds a box that waits for no other, and returns its number.
     fn add(&mut self, block: Block) -> Result<u32, Memory> {
         let number = self.items.len().min(u32::MAX as usize) as u32;
         let item = Item {
@@ -143,7 +145,7 @@ impl Agenda {
         Ok(number)
     }
 
-    /// A box waits for those that come before it in a column.
+    /// Makes a box wait for the last box of a column and for those with posts there. The box becomes the column's last one.
     fn wait_in(
         &mut self,
         columns: &mut ColumnOrder,
@@ -169,7 +171,7 @@ impl Agenda {
         Ok(())
     }
 
-    /// A box waits for another one, if it does not yet.
+    /// Makes box `number` wait for box `other`, unless it does already.
     fn wait_for(&mut self, other: u32, number: u32) -> Result<(), Memory> {
         let mark = number.saturating_add(1);
         let Some(item) = self.items.get_mut(other as usize) else {
@@ -186,7 +188,7 @@ impl Agenda {
         Ok(())
     }
 
-    /// A box.
+    /// Returns the box with this number.
     pub(crate) fn get(&self, number: u32) -> Item {
         match self.items.get(number as usize) {
             Some(item) => *item,
@@ -194,34 +196,34 @@ impl Agenda {
         }
     }
 
-    /// Changes a box.
+    /// Replaces the box with this number.
     fn put(&mut self, number: u32, item: Item) {
         if let Some(place) = self.items.get_mut(number as usize) {
             *place = item;
         }
     }
 
-    /// How many boxes there are.
+    /// Returns the number of boxes.
     pub(crate) fn count(&self) -> u32 {
         self.items.len().min(u32::MAX as usize) as u32
     }
 
-    /// How many boxes are not full.
+    /// Returns the number of boxes that are not full.
     pub(crate) fn left(&self) -> usize {
         self.left
     }
 
-    /// How many boxes a team may take.
+    /// Returns the number of boxes that are ready: teams may take them.
     pub(crate) fn ready(&self) -> usize {
         self.ready
     }
 
-    /// How many boxes teams have.
+    /// Returns the number of boxes that teams have taken.
     pub(crate) fn taken(&self) -> usize {
         self.taken
     }
 
-    /// A box waits for no other any more.
+    /// Makes a waiting box ready, and puts it into its buckets.
     fn make_ready(&mut self, number: u32) -> Result<(), Memory> {
         let item = self.get(number);
         if item.state != BoxState::Waits {
@@ -264,7 +266,7 @@ impl Agenda {
         }
     }
 
-    /// The number of a bucket.
+    /// Returns the number of a bucket, or `None` if there is no such bucket.
     fn bucket(&self, x: i16, z: i16) -> Option<usize> {
         let n = self.across;
         if x < 0 || z < 0 || x >= n || z >= n {
@@ -273,22 +275,23 @@ impl Agenda {
         Some((x as u32).wrapping_mul(n as u32).wrapping_add(z as u32) as usize)
     }
 
-    /// How many buckets there are along an axis.
+    /// Returns the number of buckets along an axis.
     pub(crate) fn across(&self) -> i16 {
         self.across
     }
 
-    /// The bucket of a component.
+    /// Returns the index of the bucket of a component, along its axis.
     pub(crate) fn bucket_of(at: i16) -> i16 {
         at / WIDTH
     }
 
-    /// Begins a search: each box is met once.
+    /// Begins a search, which finds no box twice.
     pub(crate) fn begin_search(&mut self) {
         self.searches = self.searches.saturating_add(1);
     }
 
-    /// Adds the ready boxes of a bucket that this search has not met to a list. Drops those that are full from the bucket.
+    /// Appends the ready boxes of a bucket to `found`, without those that this search has found before. Drops full boxes from the
+    /// bucket.
     pub(crate) fn collect(&mut self, x: i16, z: i16, found: &mut Vec<u32>) -> Result<(), Memory> {
         let Some(bucket) = self.bucket(x, z) else {
             return Ok(());
@@ -324,13 +327,13 @@ impl Agenda {
         Ok(())
     }
 
-    /// Keeps that a box hung in the air when it was looked at.
+    /// Records the step in which a box was seen hanging in the air.
     pub(crate) fn hang(&mut self, number: u32, step: u32) {
         let item = self.get(number);
         self.put(number, Item { hung: step, ..item });
     }
 
-    /// Keeps the range of the anchors of a box.
+    /// Records the range of the anchors of a box.
     pub(crate) fn set_anchors(&mut self, number: u32, from: usize, to: usize) {
         let item = self.get(number);
         self.put(
@@ -342,7 +345,7 @@ impl Agenda {
         );
     }
 
-    /// A team takes a box.
+    /// Marks a ready box as taken by a team.
     pub(crate) fn take(&mut self, number: u32) {
         let item = self.get(number);
         if item.state == BoxState::Ready {
@@ -358,7 +361,7 @@ impl Agenda {
         }
     }
 
-    /// A team gives a box up.
+    /// Makes a taken box ready again, because its team gives it up.
     pub(crate) fn release(&mut self, number: u32) {
         let item = self.get(number);
         if item.state == BoxState::Taken {
@@ -374,7 +377,7 @@ impl Agenda {
         }
     }
 
-    /// A box is full: those that waited for nothing else are ready.
+    /// Marks a box as full. The boxes that waited for it alone become ready.
     pub(crate) fn finish(&mut self, number: u32) -> Result<(), Memory> {
         let item = self.get(number);
         if item.state == BoxState::Done {
@@ -406,7 +409,7 @@ impl Agenda {
         Ok(())
     }
 
-    /// A box waits for one less.
+    /// Lowers the number of boxes that a box waits for by one, and makes the box ready if that is 0.
     fn wait_less(&mut self, number: u32) -> Result<(), Memory> {
         let item = self.get(number);
         let waits = item.waits.saturating_sub(1);
@@ -417,7 +420,7 @@ impl Agenda {
         Ok(())
     }
 
-    /// Cuts a ready box: what is above its lowest layer becomes a box that waits for it.
+    /// Cuts a ready box above its lowest layer. The upper part becomes a box that waits for the layer.
     pub(crate) fn split(&mut self, number: u32) -> Result<(), Memory> {
         let (lower, upper) = self.get(number).block.split_layer();
         let rest = self.add(upper)?;
@@ -434,8 +437,8 @@ impl Agenda {
         item.state == BoxState::Ready && item.block.low != item.block.high
     }
 
-    /// Cuts a ready box in halves: the lowest layer and the rest or, of a box of one layer, along its longer side. A half without
-    /// voxels of the model is done.
+    /// Cuts a ready box in two: its lowest layer and the rest. A box of one layer is cut along its longer side instead, and a half
+    /// without voxels of the model is then done.
     pub(crate) fn halve(&mut self, number: u32, site: &BuildSite) -> Result<(), Memory> {
         let block = self.get(number).block;
         if block.low.y != block.high.y {
@@ -455,7 +458,7 @@ impl Agenda {
         Ok(())
     }
 
-    /// All boxes that wait for one wait for another one too.
+    /// Makes all boxes that wait for box `number` wait for box `other` too.
     fn copy_users(&mut self, number: u32, other: u32) -> Result<(), Memory> {
         let mut at = self.users.first(number as usize);
         for _ in 0..self.users.most() {
@@ -479,7 +482,7 @@ impl Agenda {
         Ok(())
     }
 
-    /// A box becomes smaller.
+    /// Replaces a box by a part of it, whose anchors are not known yet.
     fn replace(&mut self, number: u32, block: Block) -> Result<(), Memory> {
         let item = self.get(number);
         self.put(
@@ -493,7 +496,7 @@ impl Agenda {
         self.list(number)
     }
 
-    /// The height at which the lowest box begins that is not full and waits for none.
+    /// Returns the least height at which a box begins that is ready or taken.
     pub(crate) fn lowest(&self) -> i16 {
         let mut lowest = i16::MAX;
         for item in self.items.as_slice() {
@@ -504,7 +507,7 @@ impl Agenda {
         lowest
     }
 
-    /// How many bots the boxes need that no team has, each a team of its own, up to a number that is more than enough.
+    /// Returns how many bots the boxes that no team has would need, if each box had a team of its own.
     pub(crate) fn bots_needed(&self) -> usize {
         let mut sum = 0usize;
         for item in self.items.as_slice() {

@@ -1,7 +1,7 @@
-//! Bots in the sky, their tasks in a step, and the voxels that are reserved in it.
+//! Bots in the sky, their tasks in a step, and the voxels that are reserved in that step.
 //!
-//! A step is free of collisions because each position of a bot, each voxel that is filled and each voxel of a move is reserved in it
-//! once: first all bots' positions, then what each task needs. A task that would need a reserved voxel is not given.
+//! A step is free of collisions because no voxel is reserved in it twice. First the positions of all bots are reserved, then the
+//! voxels that each task fills or moves through. A bot gets no task that would need a reserved voxel.
 use crate::positions::{HOME, Position, by, length, sign};
 use crate::record::{MOST_BOTS, Record};
 use crate::site::BuildSite;
@@ -9,11 +9,11 @@ use crate::tasks::BotTask;
 use std::alloc::Global;
 use vox_geom::{Diff, Memory};
 
-/// The most work of a schedule.
+/// The maximum of [`Airspace::work`]: a schedule is given up beyond it.
 const MOST_WORK: u64 = 800_000_000;
 
-/// A bot: its position after its task, its job with its post, how often it was blocked, how long it waited for a good box, and its first
-/// seed with the number of its seeds.
+/// A bot: its position after its task, whether it is new in this step (`fresh`), its job and post, how often it was blocked, how
+/// long it waited for a good box, whether a pole needs it (`posted`), and its first seed with the number of its seeds.
 #[derive(Clone, Copy, Debug)]
 pub(crate) struct CrewBot {
     pub(crate) at: Position,
@@ -29,7 +29,7 @@ pub(crate) struct CrewBot {
     pub(crate) seeds: u8,
 }
 
-/// A bot that is not there.
+/// An inactive bot, for numbers that no bot has.
 const NOBODY: CrewBot = CrewBot {
     at: HOME,
     active: false,
@@ -45,7 +45,7 @@ const NOBODY: CrewBot = CrewBot {
 };
 
 impl CrewBot {
-    /// Returns whether a bot was there when the step began and has no task yet.
+    /// Returns whether the bot was active when the step began and has no task yet.
     pub(crate) fn is_idle(&self) -> bool {
         let waits = match self.task {
             BotTask::Wait => true,
@@ -54,13 +54,14 @@ impl CrewBot {
         self.active && !self.fresh && waits
     }
 
-    /// Returns whether a bot is free for a team.
+    /// Returns whether the bot was active when the step began and has no job, so that a team may take it.
     pub(crate) fn is_free(&self) -> bool {
         self.active && !self.fresh && self.job.is_none()
     }
 }
 
-/// The voxels, the bots, the reservations, and the steps so far.
+/// The voxels, the steps so far and the work for them, the bots, the last step that reserved each voxel, and the state of the
+/// random generator.
 #[derive(Drop)]
 pub(crate) struct Airspace {
     pub(crate) site: BuildSite,
@@ -73,7 +74,7 @@ pub(crate) struct Airspace {
 }
 
 impl Airspace {
-    /// Before the first step, with no bot.
+    /// Returns the airspace before the first step, without bots.
     pub(crate) fn new(alloc: Global, site: BuildSite) -> Result<Airspace, Memory> {
         Ok(Airspace {
             record: Record::new(alloc),
@@ -86,7 +87,7 @@ impl Airspace {
         })
     }
 
-    /// A bot.
+    /// Returns the bot with this number; an inactive one if there is none.
     pub(crate) fn bot(&self, number: u8) -> CrewBot {
         match self.bots.get(usize::from(number)) {
             Some(bot) => *bot,
@@ -94,14 +95,14 @@ impl Airspace {
         }
     }
 
-    /// Changes a bot.
+    /// Replaces the bot with this number.
     pub(crate) fn put(&mut self, number: u8, bot: CrewBot) {
         if let Some(place) = self.bots.get_mut(usize::from(number)) {
             *place = bot;
         }
     }
 
-    /// Adds a bot with its seeds: it is there from the next step on.
+    /// Adds a bot with this number of seeds. It can get tasks from the next step on.
     pub(crate) fn arrive(&mut self, number: u8, at: Position, seeds: u8) {
         let bot = CrewBot {
             at,
@@ -114,7 +115,7 @@ impl Airspace {
         self.put(number, bot);
     }
 
-    /// How many bots there are.
+    /// Returns the number of active bots.
     pub(crate) fn count(&self) -> usize {
         let mut count = 0usize;
         for bot in self.bots.as_slice() {
@@ -123,7 +124,7 @@ impl Airspace {
         count
     }
 
-    /// How many bots have no job.
+    /// Returns the number of active bots without a job.
     pub(crate) fn count_free(&self) -> usize {
         let mut count = 0usize;
         for bot in self.bots.as_slice() {
@@ -132,7 +133,7 @@ impl Airspace {
         count
     }
 
-    /// The first bot that is there.
+    /// Returns the number of the first active bot, or 0 if none is active.
     pub(crate) fn first(&self) -> u8 {
         for number in 0..MOST_BOTS {
             if self.bot(number).active {
@@ -142,7 +143,7 @@ impl Airspace {
         0
     }
 
-    /// The bot at a position, if there is one.
+    /// Returns the number of the bot at a position, if there is one.
     pub(crate) fn bot_at(&self, at: Position) -> Option<u8> {
         for number in 0..MOST_BOTS {
             let bot = self.bot(number);
@@ -159,12 +160,12 @@ impl Airspace {
         self.put(number, CrewBot { task, ..bot });
     }
 
-    /// Returns whether more work was done than is worth it.
+    /// Returns whether the work so far exceeds the maximum.
     pub(crate) fn is_over(&self) -> bool {
         self.work > MOST_WORK
     }
 
-    /// Begins a step: all positions of bots are reserved.
+    /// Begins a step: reserves the positions of all bots, none of which has a task yet.
     pub(crate) fn begin_step(&mut self) {
         self.step = self.step.saturating_add(1);
         self.work = self.work.saturating_add(1000);
@@ -182,7 +183,7 @@ impl Airspace {
         }
     }
 
-    /// Ends a step: its tasks are kept.
+    /// Ends a step, and records the tasks of all bots.
     pub(crate) fn end_step(&mut self) -> Result<(), Memory> {
         for number in 0..MOST_BOTS {
             let task = self.bot(number).task;
@@ -201,7 +202,7 @@ impl Airspace {
         }
     }
 
-    /// Returns whether a voxel is reserved in this step.
+    /// Returns whether a voxel is reserved in this step; true outside the matrix.
     pub(crate) fn is_reserved(&self, c: Position) -> bool {
         let Some(index) = self.site.index(c) else {
             return true;
@@ -212,7 +213,7 @@ impl Airspace {
         }
     }
 
-    /// A number below a bound, from a generator with a fixed start: a plan depends on the models alone.
+    /// Returns a random number below a bound. The generator has a fixed start, so that a plan depends on the models alone.
     pub(crate) fn draw(&mut self, bound: u64) -> u64 {
         self.random = self
             .random
@@ -244,7 +245,7 @@ impl Airspace {
         }
     }
 
-    /// A bot moves by one or two legs if they are clear. Returns whether it does.
+    /// Moves a bot by two legs if both are clear, and returns whether it did. The second leg may be empty.
     pub(crate) fn go(&mut self, number: u8, first: Diff, second: Diff) -> bool {
         let bot = self.bot(number);
         let bend = bot.at.plus(first);
@@ -268,12 +269,12 @@ impl Airspace {
         true
     }
 
-    /// A bot moves along one axis if that is clear. Returns whether it does.
+    /// Moves a bot along one axis if that is clear, and returns whether it did.
     pub(crate) fn go_straight(&mut self, number: u8, d: Diff) -> bool {
         self.go(number, d, by(0, 0, 0))
     }
 
-    /// A bot moves some way up or aside, whichever is clear. Returns whether it does.
+    /// Tries up to six random moves of a bot, up or sideways, and makes the first that is clear. Returns whether the bot moved.
     pub(crate) fn dodge(&mut self, number: u8) -> bool {
         for _ in 0..6 {
             let kind = self.draw(6);

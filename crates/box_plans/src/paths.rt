@@ -1,22 +1,22 @@
-//! Paths through the sky: up, across along x and z in either order, and down.
+//! Paths through the sky: up, then along x and z in either order, then down.
 use crate::airspace::{Airspace, CrewBot};
 use crate::positions::{LONG, NOWHERE, Position, SHORT, apart, by, length};
 use vox_geom::Diff;
 
-/// The most paths between two positions that are compared.
+/// The maximum number of paths between two positions that are compared.
 const MOST_PATHS: usize = 4;
 
-/// A part of a path along one axis.
+/// A part of a path along one axis (0 for x, 1 for y, 2 for z): `way` is its signed length.
 #[derive(Clone, Copy, Debug)]
 struct PathLeg {
     axis: u8,
     way: i16,
 }
 
-/// No way.
+/// A leg of length 0.
 const STAY: PathLeg = PathLeg { axis: 0, way: 0 };
 
-/// The first move of a path, in one or two legs, and how many moves it takes.
+/// A path: the number of its moves, and the first of them, in one or two legs.
 #[derive(Clone, Copy, Debug)]
 struct Path {
     moves: i32,
@@ -24,26 +24,26 @@ struct Path {
     second: Diff,
 }
 
-/// No path.
+/// A path without moves.
 const NO_PATH: Path = Path {
     moves: 0,
     first: NOWHERE,
     second: NOWHERE,
 };
 
-/// Some paths, the shortest first.
+/// Paths between two positions, the shortest first.
 #[derive(Clone, Copy, Debug)]
 struct Paths {
     paths: [Path; MOST_PATHS],
     count: usize,
 }
 
-/// The most that one leg of a move goes of a way.
+/// Returns the signed length `way`, cut to at most `most` in either direction.
 fn limited(way: i16, most: i16) -> i16 {
     way.max(most.wrapping_neg()).min(most)
 }
 
-/// A difference along an axis.
+/// Returns the difference of this signed length along an axis.
 fn along(axis: u8, way: i16) -> Diff {
     match axis {
         0 => by(way, 0, 0),
@@ -52,7 +52,7 @@ fn along(axis: u8, way: i16) -> Diff {
     }
 }
 
-/// The legs that are not empty, with neighbors along one axis joined, and how many there are.
+/// Returns the legs that are not empty, consecutive ones along one axis joined, and the number of these.
 fn joined(legs: [PathLeg; 4]) -> ([PathLeg; 4], usize) {
     let mut joined = [STAY; 4];
     let mut count = 0usize;
@@ -75,7 +75,7 @@ fn joined(legs: [PathLeg; 4]) -> ([PathLeg; 4], usize) {
     (joined, count)
 }
 
-/// A leg by its number.
+/// Returns the leg at an index, or an empty one if there is none.
 fn nth_leg(legs: &[PathLeg; 4], i: usize) -> PathLeg {
     match legs.get(i) {
         Some(leg) => *leg,
@@ -83,13 +83,14 @@ fn nth_leg(legs: &[PathLeg; 4], i: usize) -> PathLeg {
     }
 }
 
-/// How many longest moves a way has, and what is left of it.
+/// Returns the number of moves of the greatest length that this signed length takes, and the length that is left.
 fn parts_of(way: i16) -> (i16, i16) {
     let far = apart(way, 0);
     (far / LONG, far % LONG)
 }
 
-/// How many moves legs take: each at most 15 along one axis, or at most 5 along two axes that follow one another.
+/// Returns the number of moves that the legs take. A move goes at most 15 along one axis, or at most 5 along each of two
+/// consecutive legs.
 fn count_moves(legs: &[PathLeg; 4], count: usize) -> i32 {
     let mut moves = 0i32;
     let mut covered = 0i16;
@@ -109,7 +110,7 @@ fn count_moves(legs: &[PathLeg; 4], count: usize) -> i32 {
     moves
 }
 
-/// The path along some legs. None if they lead nowhere.
+/// Returns the path along these legs, or `None` if they lead nowhere.
 fn path_along(legs: [PathLeg; 4]) -> Option<Path> {
     let (legs, count) = joined(legs);
     let moves = count_moves(&legs, count);
@@ -133,7 +134,7 @@ fn path_along(legs: [PathLeg; 4]) -> Option<Path> {
 }
 
 impl Paths {
-    /// A path by its number.
+    /// Returns the path at an index, if there is one.
     fn get(&self, i: usize) -> Option<Path> {
         if i >= self.count {
             return None;
@@ -144,7 +145,7 @@ impl Paths {
         }
     }
 
-    /// Adds a path behind those that are no longer.
+    /// Inserts a path before the first longer one. If there is no room, drops the longest.
     fn add(&mut self, path: Path) {
         let mut new = path;
         for i in 0..MOST_PATHS {
@@ -166,7 +167,7 @@ impl Paths {
 }
 
 impl Airspace {
-    /// The highest beginning of the sky in a row of columns along x.
+    /// Returns the lowest height that is in the sky of all columns of a row along x.
     fn highest_along_x(&self, from: i16, to: i16, z: i16) -> i16 {
         let mut highest = 0;
         for x in from.min(to)..=from.max(to) {
@@ -175,7 +176,7 @@ impl Airspace {
         highest
     }
 
-    /// The highest beginning of the sky in a row of columns along z.
+    /// Returns the lowest height that is in the sky of all columns of a row along z.
     fn highest_along_z(&self, x: i16, from: i16, to: i16) -> i16 {
         let mut highest = 0;
         for z in from.min(to)..=from.max(to) {
@@ -184,7 +185,7 @@ impl Airspace {
         highest
     }
 
-    /// Adds the path at a height, along x first or along z first.
+    /// Adds the path that goes along x and z at height `y`, unless that is outside the matrix.
     fn add_path(&self, paths: &mut Paths, from: Position, to: Position, y: i16, z_first: bool) {
         if y >= self.site.side() {
             return;
@@ -212,7 +213,8 @@ impl Airspace {
         }
     }
 
-    /// Adds the paths along x first or along z first: at the heights of both ends, if they are in the sky all along, else right above all.
+    /// Adds the paths along x first or along z first, at the heights of both ends. A height that is not in the sky all along is
+    /// raised to the lowest one that is.
     fn add_paths(&self, paths: &mut Paths, from: Position, to: Position, z_first: bool) {
         let highest = if z_first {
             self.highest_along_z(from.x, from.z, to.z)
@@ -229,7 +231,7 @@ impl Airspace {
         }
     }
 
-    /// The paths between two positions.
+    /// Returns the paths between two positions.
     fn paths(&self, from: Position, to: Position) -> Paths {
         let mut paths = Paths {
             paths: [NO_PATH; MOST_PATHS],
@@ -242,7 +244,8 @@ impl Airspace {
         paths
     }
 
-    /// A bot makes the first move of a path that is about as short as the shortest, if one is clear.
+    /// Makes the first move of a path that takes at most two moves more than the shortest, if one is clear. Returns whether the bot
+    /// moved.
     fn follow(&mut self, number: u8, paths: &Paths) -> bool {
         let most = match paths.get(0) {
             Some(path) => path.moves.wrapping_add(2),
@@ -258,7 +261,7 @@ impl Airspace {
         false
     }
 
-    /// A bot makes a part of the first move of a path, if some part is clear.
+    /// Makes a part of the first move of a path, if some part is clear. Returns whether the bot moved.
     fn follow_in_part(&mut self, number: u8, path: Path) -> bool {
         let Path { first, second, .. } = path;
         if length(second) > 0 {
@@ -284,7 +287,7 @@ impl Airspace {
         false
     }
 
-    /// A bot flies toward a position. One that is blocked again and again dodges.
+    /// Makes a bot's next move toward a position. A bot that is blocked more than twice in a row dodges.
     pub(crate) fn fly(&mut self, number: u8, to: Position) {
         let bot = self.bot(number);
         if bot.at == to {

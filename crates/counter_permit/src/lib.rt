@@ -1,8 +1,8 @@
 //! The permit to open a counter of touches.
 //!
-//! [`CounterPermit`] is an argument of `Steps::new` of `vox_geom`. A crate can name it only if its line in `crates.txt`
-//! lists `counter_permit`, and the crates of the machine and of the judge do not: their functions count in the counter
-//! that their caller hands down, and cannot open one of their own in which reads would go unseen.
+//! [`CounterPermit`] is an argument of `Steps::new` of `vox_geom`. A crate can name the permit only if the crate's line in
+//! `crates.txt` lists `counter_permit`. The crates of the machine and of the judge do not list it. So their functions
+//! count in the counter that the caller passes, and cannot open another one, whose touches the caller would not see.
 #![tactic(auto)]
 
 /// Permits its holder to open a counter of touches.

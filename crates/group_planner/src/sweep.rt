@@ -1,4 +1,4 @@
-//! Fills or voids runs, rows and layers of a model, from one layer above.
+//! Fills or voids runs, rows and layers of a model, with both bots one layer above.
 ghost use Rattle.std.specs.Prelude.{◌≡◌, ◌+◌, ◌*◌, ◌-◌, ◌<◌, ◌≤◌, false, true, OnOk};
 ghost use Rattle.plan_tape.specs.Parts.{from_layer, layer, is_in_line};
 ghost use Rattle.plan_tape.specs.Leg.{gap};
@@ -15,7 +15,7 @@ use plan_tape::Tape;
 use vox_geom::Memory;
 use vox_planes::Planes;
 
-/// Makes the voxels of a run in the row below full or void.
+/// Fills the voxels of a run in the row below the bots, or voids them if `full` is false.
 fn write_run(tape: &mut Tape, run: RowRun, full: bool) -> Result<(), Memory>
     requires pair { IsPair tape.old }
     requires above { 1 ≤ (rear_of tape.old).y }
@@ -32,7 +32,7 @@ fn write_run(tape: &mut Tape, run: RowRun, full: bool) -> Result<(), Memory>
     }
 }
 
-/// Makes the runs of the row below full or void, in ascending order.
+/// Fills or voids the runs of the row below the bots, in ascending order.
 fn write_runs(tape: &mut Tape, model: &Planes, full: bool, x: u16, y: u16) -> Result<(), Memory>
     requires ready { CanStamp tape.old model.now y }
     requires x { (rear_of tape.old).x ≡ x }
@@ -52,7 +52,7 @@ fn write_runs(tape: &mut Tape, model: &Planes, full: bool, x: u16, y: u16) -> Re
     Ok(())
 }
 
-/// Makes the runs of the row below from a z on full or void, in descending order.
+/// Fills or voids the runs of the row below the bots that begin at `z` or later, in descending order.
 fn write_runs_back(
     tape: &mut Tape,
     model: &Planes,
@@ -86,7 +86,7 @@ fn write_runs_back(
     }
 }
 
-/// Returns the distance of the bots from the ends of a run.
+/// Returns the sum of the distances along z of the bots from their ends of a run.
 fn way_to(tape: &Tape, run: RowRun) -> u16
     requires pair { IsPair tape.now }
     requires some { run.first < run.end }
@@ -96,7 +96,7 @@ fn way_to(tape: &Tape, run: RowRun) -> u16
     rear(tape).z.abs_diff(run.first) + front(tape).z.abs_diff(run.end - 1)
 }
 
-/// Returns whether the pair is nearer to the last run of the row of x and y than to the first.
+/// Returns whether the bots are nearer to the last run of the row at x and y than to the first.
 fn is_nearer_to_last(tape: &Tape, model: &Planes, x: u16, y: u16, first: RowRun) -> bool
     requires pair { IsPair tape.now }
     requires same { model.now.resolution ≡ tape.now.matrix.resolution }
@@ -107,7 +107,7 @@ fn is_nearer_to_last(tape: &Tape, model: &Planes, x: u16, y: u16, first: RowRun)
     way_to(tape, last_run(model, x, y, first)) < way_to(tape, first)
 }
 
-/// Makes the runs of the row below full or void, starting at the nearer end.
+/// Fills or voids the runs of the row below the bots, starting at the nearer end.
 fn write_line(
     tape: &mut Tape,
     model: &Planes,
@@ -134,7 +134,7 @@ fn write_line(
     }
 }
 
-/// Moves to the row of x and y and makes its runs full or void.
+/// Moves the bots above the row at x and y, and fills or voids its runs.
 fn go_and_write(
     tape: &mut Tape,
     model: &Planes,
@@ -157,7 +157,7 @@ fn go_and_write(
     write_line(tape, model, full, x, y, first)
 }
 
-/// Makes the runs of the row of x and y full or void. If there are none, the bots stay.
+/// Fills or voids the runs of the row at x and y. If there are none, the bots stay.
 fn write_row(tape: &mut Tape, model: &Planes, full: bool, x: u16, y: u16) -> Result<(), Memory>
     requires ready { CanStamp tape.old model.now y }
     requires x { x < tape.old.matrix.resolution }
@@ -172,7 +172,7 @@ fn write_row(tape: &mut Tape, model: &Planes, full: bool, x: u16, y: u16) -> Res
     }
 }
 
-/// Makes the runs of the layer of y full or void.
+/// Fills or voids the runs of the layer at y.
 fn write_layer(tape: &mut Tape, model: &Planes, full: bool, y: u16) -> Result<(), Memory>
     requires ready { CanStamp tape.old model.now y }
     requires limit { climb_to tape.old (y + 1) + stamping_steps model.now y ≤ 1073741824 }
@@ -185,7 +185,7 @@ fn write_layer(tape: &mut Tape, model: &Planes, full: bool, y: u16) -> Result<()
     Ok(())
 }
 
-/// Voids all layers of a model from the top down to one.
+/// Voids the layers of `source` from the top down to layer `low`, which is voided too.
 pub fn clear(tape: &mut Tape, source: &Planes, low: u16) -> Result<(), Memory>
     requires ready { CanVoidModel tape.old source.now }
     requires low { low < tape.old.matrix.resolution }
@@ -207,7 +207,7 @@ pub fn clear(tape: &mut Tape, source: &Planes, low: u16) -> Result<(), Memory>
     Ok(())
 }
 
-/// Fills all layers of a model from one up.
+/// Fills the layers of `target` from layer `low` up.
 pub fn build(tape: &mut Tape, target: &Planes, low: u16) -> Result<(), Memory>
     requires pair { IsPair tape.old }
     requires same { target.now.resolution ≡ tape.old.matrix.resolution }

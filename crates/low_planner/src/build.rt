@@ -1,4 +1,4 @@
-//! The steps of the bot along a sweep.
+//! Moves the bot along a sweep, and fills the voxels that the sweep visits.
 ghost use Rattle.std.specs.Prelude.{◌≡◌, ◌+◌, ◌<◌, ◌≤◌, OnOk, None, true};
 ghost use Rattle.vox_geom.specs.Space.{IsInSpace};
 ghost use Rattle.nano_spec.specs.Legal.{IsLegal};
@@ -14,7 +14,7 @@ use plan_tape::Tape;
 use vox_geom::{Coord, Memory, Near};
 use vox_planes::Planes;
 
-/// Moves to a coordinate. All three legs are void.
+/// Moves the bot to a coordinate, along three legs that must be void.
 pub fn go(tape: &mut Tape, to: Coord) -> Result<(), Memory>
     requires working { IsWorking tape.old }
     requires within { IsInSpace tape.old.matrix.resolution to }
@@ -26,7 +26,7 @@ pub fn go(tape: &mut Tape, to: Coord) -> Result<(), Memory>
     tape.go(to)
 }
 
-/// Moves to the coordinate right above a voxel.
+/// Moves the bot to the coordinate right above a voxel.
 fn go_above(tape: &mut Tape, c: Coord) -> Result<(), Memory>
     requires { CanGoAbove tape.old c }
     ensures { OnOk result
@@ -36,7 +36,7 @@ fn go_above(tape: &mut Tape, c: Coord) -> Result<(), Memory>
     go(tape, Coord { y: c.y + 1, ..c })
 }
 
-/// Moves to the coordinate right above a voxel, and fills it.
+/// Moves the bot right above a voxel, and fills that voxel.
 fn fill(tape: &mut Tape, c: Coord) -> Result<(), Memory>
     requires { CanFill tape.old c }
     ensures { OnOk result
@@ -48,7 +48,7 @@ fn fill(tape: &mut Tape, c: Coord) -> Result<(), Memory>
     tape.fill(Near::down())
 }
 
-/// Fills the voxels that the sweep visits.
+/// Moves the bot above each voxel that the sweep visits, and fills those that are not full yet.
 pub fn build(tape: &mut Tape, sweep: &mut Sweep, target: &Planes) -> Result<(), Memory>
     requires legal { IsLegal target.now }
     requires supported { FirstUnsupported target.now None }

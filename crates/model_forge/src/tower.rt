@@ -1,4 +1,4 @@
-//! The first of the tallest columns.
+//! The first of the tallest columns of a forged model.
 ghost use Rattle.std.specs.Prelude.{◌≡◌, ◌+◌, ◌<◌, ◌≤◌};
 ghost use Rattle.nano_spec.specs.Forge.{line_of_tallest, tallest};
 ghost use Rattle.model_forge.specs.Tower.{IsInside, highest, columns_of};
@@ -14,7 +14,7 @@ pub struct Tower {
 }
 
 impl Tower {
-    /// Returns the tower, or the first of the tallest columns of one x if that is higher.
+    /// Returns the first of the tallest columns at `x` if that is higher than this tower, and this tower otherwise.
     fn or_higher(self, number: u32, r: u16, x: u16) -> Tower
         requires some { 2 ≤ r }
         requires most { r ≤ MOST_R }
@@ -32,7 +32,7 @@ impl Tower {
         tower
     }
 
-    /// Returns the first of the tallest columns, by x and then by z. Its height is 0 if no column has a height.
+    /// Returns the first of the tallest columns, by x and then by z. Its height is 0 if all columns are empty.
     pub fn of(number: u32, r: u16) -> Tower
         requires some { 1 ≤ r }
         requires most { r ≤ MOST_R }

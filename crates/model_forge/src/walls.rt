@@ -1,4 +1,4 @@
-//! Walls of voxels of a forged model, those with one x, and the whole model.
+//! Forges a wall of a model, that is, the voxels with one x, and the whole model.
 ghost use Rattle.std.specs.Prelude.{◌≡◌, ◌+◌, ◌<◌, ◌≤◌, ℕ, IfOk, length};
 ghost use Rattle.nano_spec.specs.Forge.{forged};
 ghost use Rattle.nano_spec.specs.Legal.{IsLegal};
@@ -14,7 +14,7 @@ use std::alloc::Global;
 use vox_geom::{MOST_R, Memory};
 use vox_planes::Planes;
 
-/// Forges the voxels with this x, whose columns have these heights.
+/// Forges the wall at this x, whose columns have these heights.
 fn put_wall(planes: &mut Planes, heights: &[u16], tower: Tower, x: u16)
     requires x_low { 1 ≤ x }
     requires x_high { x + 1 < planes.old.resolution }
@@ -31,7 +31,7 @@ fn put_wall(planes: &mut Planes, heights: &[u16], tower: Tower, x: u16)
     }
 }
 
-/// Returns the model of a number and a resolution (docs/FORMATS.md, "The forge"). Each is legal.
+/// Returns the model of a number and a resolution (docs/FORMATS.md, "The forge"). The model is legal.
 pub fn forge(alloc: Global, number: u32, r: u16) -> Result<Planes, Memory>
     requires some { 1 ≤ r }
     requires most { r ≤ MOST_R }

@@ -1,4 +1,4 @@
-//! The step of a single bot.
+//! Judges the step of a single bot.
 ghost use Rattle.std.specs.Prelude.{◌≡◌, ◌≤◌, ◌+◌, ◌*◌, ℕ, ℤ, IfOk, IfSome, None, length, [], ◌∷◌};
 ghost use Rattle.vox_geom.specs.Point.{point, plus};
 ghost use Rattle.vox_geom.specs.Space.{IsInSpace};
@@ -18,8 +18,10 @@ use std::sync::ledger::Ledger;
 use vox_geom::{Coord, Long, Near, Steps};
 use vox_planes::Planes;
 
-/// Returns the first rule that the command of a single bot breaks, as [`crate::judge_groups`] judges it. The bot is the only group
-/// of the step, and no list of groups is made.
+/// Returns the first rule that a single bot's step breaks, as [`crate::judge_groups`] does. Makes no list of groups, because the
+/// bot is the only group.
+///
+/// Makes at most two touches for each volatile coordinate.
 pub fn judge_single<L: Ledger>(step: &Step, steps: &mut Steps<L>) -> Option<Broken>
     requires one { length step.now.bots.now ≡ 1 }
     requires step { CanBeJudged step.now }
@@ -30,7 +32,7 @@ pub fn judge_single<L: Ledger>(step: &Step, steps: &mut Steps<L>) -> Option<Brok
     judge_bots(step, &[0], steps)
 }
 
-/// Returns the end of the only bot's `SMove`, or the first rule that the step breaks. Reads the path once.
+/// Returns the end of a single bot's `SMove`, or the first rule that the step breaks. Reads the path once.
 #[inline(always)]
 pub fn judge_move<L: Ledger>(
     planes: &Planes,
@@ -56,7 +58,9 @@ pub fn judge_move<L: Ledger>(
     }
 }
 
-/// Returns the end of the only bot's `SMove` if its path is void without a search, `None` if it has to be judged.
+/// Returns the end of a single bot's `SMove` if a test without a search shows that the step breaks no rule.
+///
+/// `None` decides nothing: the step has to be judged by [`judge_move`].
 #[inline(always)]
 pub fn moves_at_once<L: Ledger>(
     planes: &Planes,
@@ -85,7 +89,9 @@ pub fn moves_at_once<L: Ledger>(
     None
 }
 
-/// Returns the voxel that the only bot fills (or voids), or the first rule that the step breaks. Reads no voxel.
+/// Returns the voxel that a single bot fills (or voids, if `full` is false), or the first rule that the step breaks.
+///
+/// Reads no voxel.
 #[inline(always)]
 pub fn judge_edit(
     planes: &Planes,
@@ -110,7 +116,7 @@ pub fn judge_edit(
     }
 }
 
-/// Returns the command that fills (or voids) the voxel at the difference.
+/// Returns the command that fills (or voids, if `full` is false) the voxel at the difference.
 #[inline(always)]
 pub fn edit(d: Near, full: bool) -> Command
     ensures { result ≡ edit_of full d }

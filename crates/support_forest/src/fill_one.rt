@@ -1,4 +1,4 @@
-//! Fills a voxel if all other levels stay as they are.
+//! Fills a void voxel if that changes the level of no other voxel.
 ghost use Rattle.std.specs.Prelude.{◌≡◌, ◌==◌, ℕ, ◌+◌, ◌<◌, ◌≤◌, IfOk, true};
 ghost use Rattle.vox_geom.specs.declared.coordinate.Coord.{Coord};
 ghost use Rattle.support_forest.specs.Grid.{word_at};
@@ -15,8 +15,8 @@ use std::alloc::AllocError;
 use std::sync::ledger::Ledger;
 use vox_geom::{Coord, Steps};
 
-/// The neighborhood of a voxel: the least height that a neighbor or the floor gives it, or 0 if none does, with the direction of
-/// that parent; the greatest height of a neighbor; and whether a full neighbor has no height.
+/// The neighborhood of a voxel: the least height that the floor or a neighbor gives the voxel (0 if none does), the direction of
+/// that parent, the greatest height of a neighbor, and whether a full neighbor has no height. A height is a level plus 1.
 #[derive(Clone, Copy)]
 pub struct Around {
     pub height: u32,
@@ -25,7 +25,7 @@ pub struct Around {
     pub is_loose: bool,
 }
 
-/// Returns the neighborhood with one more neighbor, of this word.
+/// Returns the neighborhood with one more neighbor, which is in direction `d` and has this word.
 fn with_neighbor(around: Around, d: u8, word: u32) -> Around
     ensures { (w : Coord → ℕ) (c : Coord) → IsWordToward w c d word → IsAround w c around d
         → IsAround w c result (d + 1) }
@@ -64,7 +64,7 @@ pub fn nothing_around(is_on_floor: bool) -> Around
     }
 }
 
-/// Returns the neighborhood of a voxel by the words of its neighbors.
+/// Returns the neighborhood of a voxel from the words of its six neighbors.
 pub fn look_around(is_on_floor: bool, beside: Beside) -> Around
     ensures { (w : Coord → ℕ) (c : Coord) → is_on_floor ≡ (c.y == 0) → AreBesideWords w c beside
         → IsAround w c result 7 }
@@ -157,7 +157,7 @@ pub fn look_at<L: Ledger>(
     }
 }
 
-/// Returns whether the word is that of a void voxel, or of one whose height is at least `height` and at most two above it.
+/// Returns whether the word belongs to a void voxel, or to one whose height is from `height` to `height` + 2.
 #[inline(always)]
 fn leaves_room(word: u32, height: u32) -> bool
     requires { height < 536870912 }
@@ -166,7 +166,7 @@ fn leaves_room(word: u32, height: u32) -> bool
     word == 0 || (word >= 8 * height && word - 8 * height < 24)
 }
 
-/// Returns whether a void voxel can be filled as a child of the voxel below without a change of another level.
+/// Returns whether a void voxel can be filled as a child of the voxel below without changing another level.
 #[inline(always)]
 fn may_be_supported(beside: Beside) -> bool
     ensures { result ≡ true → MayBeSupported beside }
@@ -180,7 +180,7 @@ fn may_be_supported(beside: Beside) -> bool
         && leaves_room(beside.far, height)
 }
 
-/// Returns whether the word is that of a void voxel, or of one that may stay above a voxel of the floor.
+/// Returns whether the word belongs to a void voxel, or to one whose level stays if the floor voxel below it is filled.
 #[inline(always)]
 fn may_lie_under(word: u32) -> bool
     ensures { result ≡ true → MayLieUnder word }
@@ -188,7 +188,7 @@ fn may_lie_under(word: u32) -> bool
     word == 0 || (word >= 8 && word < 24)
 }
 
-/// Like [`fill_locally`], for a voxel that neither the floor nor the voxel below can support without a change of another level.
+/// Like [`fill_locally`] in the general case, from the words of the six neighbors.
 #[inline(never)]
 fn fill_beside<L: Ledger>(
     cells: &mut Cells,
@@ -228,9 +228,9 @@ fn fill_in_void_brick<L: Ledger>(
     fill_beside(cells, c, beside, steps)
 }
 
-/// Like [`fill_locally`], on the floor.
+/// Like [`fill_locally`], for a voxel on the floor whose brick has this slot.
 ///
-/// There a full voxel has level 0, so only the level of the voxel above can change.
+/// A full voxel on the floor has level 0, so only the level of the voxel above can change.
 #[inline(always)]
 fn fill_on_floor<L: Ledger>(cells: &mut Cells, c: Coord, slot: u32, steps: &mut Steps<L>) -> bool
     requires can { CanFillOneIn cells.old c slot }
@@ -245,7 +245,7 @@ fn fill_on_floor<L: Ledger>(cells: &mut Cells, c: Coord, slot: u32, steps: &mut 
     true
 }
 
-/// Like [`fill_locally`], above the floor, for a voxel whose brick has this slot.
+/// Like [`fill_locally`], for a voxel above the floor whose brick has this slot.
 #[inline(always)]
 fn fill_above_floor<L: Ledger>(
     cells: &mut Cells,
@@ -285,7 +285,7 @@ pub fn fill_locally<L: Ledger>(
     fill_above_floor(cells, c, slot, steps)
 }
 
-/// Like [`try_fill`], above the floor, for a voxel whose brick has this slot.
+/// Like [`try_fill`], for the voxel at an index, above the floor, whose brick has this slot.
 ///
 /// Tests each word as it is read, so that none is kept.
 #[inline(always)]
@@ -334,7 +334,7 @@ fn fill_lowest<L: Ledger>(cells: &mut Cells, index: u32, slot: u32, steps: &mut 
     fill_by(cells, index, slot, steps)
 }
 
-/// Like [`fill_by`], on two paths: if the first word lies in the voxel's own brick, the chunk is looked up once.
+/// Like [`fill_by`], on two paths: if the voxel below, which is read first, is in the same brick, the chunk is looked up once.
 #[inline(always)]
 fn fill_in<L: Ledger>(cells: &mut Cells, index: u32, slot: u32, steps: &mut Steps<L>) -> bool
     requires { CanFillOneIn cells.old (voxel_in cells.old index) slot }
@@ -346,9 +346,9 @@ fn fill_in<L: Ledger>(cells: &mut Cells, index: u32, slot: u32, steps: &mut Step
     fill_by(cells, index, slot, steps)
 }
 
-/// Like [`try_fill`], above the floor in a forest without overhangs.
+/// Like [`try_fill`], for a voxel above the floor in a forest without overhangs.
 ///
-/// There each full voxel has the level of its y, so only the voxel below is read.
+/// In such a forest the level of each full voxel is its y, so only the voxel below is read.
 #[inline(always)]
 fn fill_without_overhangs<L: Ledger>(
     cells: &mut Cells,

@@ -1,4 +1,4 @@
-//! The lists that calls fill and empty.
+//! The work lists of calls on a forest.
 use crate::offer::IndexOffer;
 use crate::orphan::OrphanIndex;
 use crate::queues::Queue;
@@ -6,7 +6,8 @@ use std::alloc::Global;
 use std::mem;
 use vox_geom::Coord;
 
-/// The lists that calls fill and empty. They are kept between calls so that their memory is used again.
+/// The work lists of calls: orphans, dirty voxels (`fresh`), deferred voxels (`rest`), sources (`seeds`) and candidates (`found`).
+/// They are kept between calls so that their memory is used again.
 #[derive(Drop)]
 pub struct Lists {
     pub orphans: Vec<OrphanIndex>,
@@ -19,7 +20,7 @@ pub struct Lists {
 impl Lists {
     ghost use Rattle.std.specs.Prelude.{◌≡◌, []};
 
-    /// Returns lists without an allocation.
+    /// Returns empty lists, without allocating.
     pub fn new(alloc: Global) -> Lists {
         Lists {
             orphans: Vec::new(alloc),
@@ -30,7 +31,7 @@ impl Lists {
         }
     }
 
-    /// Takes the list of orphans out, emptied.
+    /// Takes out the list of orphans, and empties it.
     pub fn take_orphans(&mut self, alloc: Global) -> Vec<OrphanIndex>
         ensures { result.items ≡ [] }
     {
@@ -39,7 +40,7 @@ impl Lists {
         orphans
     }
 
-    /// Takes the list of the indices of dirty voxels out, emptied.
+    /// Takes out the list of the indices of dirty voxels, and empties it.
     pub fn take_fresh(&mut self, alloc: Global) -> Vec<u32>
         ensures { result.items ≡ [] }
     {
@@ -48,7 +49,7 @@ impl Lists {
         fresh
     }
 
-    /// Takes the list of deferred voxels out, emptied.
+    /// Takes out the list of deferred voxels, and empties it.
     pub fn take_rest(&mut self, alloc: Global) -> Vec<Coord>
         ensures { result.items ≡ [] }
     {
@@ -57,7 +58,7 @@ impl Lists {
         rest
     }
 
-    /// Takes the list of sources out, emptied.
+    /// Takes out the list of sources, and empties it.
     pub fn take_seeds(&mut self, alloc: Global) -> Vec<IndexOffer>
         ensures { result.items ≡ [] }
     {
@@ -66,7 +67,7 @@ impl Lists {
         seeds
     }
 
-    /// Takes the queue of candidates out, emptied.
+    /// Takes out the queue of candidates, and empties it.
     pub fn take_found(&mut self, alloc: Global) -> Queue
         ensures { result ≡ [] }
     {

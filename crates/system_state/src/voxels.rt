@@ -1,4 +1,4 @@
-//! The effect of a group on the voxels, and its cost.
+//! The effect of a group on the voxels, and the group's cost.
 ghost use Rattle.std.specs.Prelude.{◌≡◌, ◌+◌, ◌-◌, ◌≤◌, ◌∷◌, [], cond, All, IsTrue};
 ghost use Rattle.vox_geom.specs.Point.{Point, point};
 ghost use Rattle.vox_geom.specs.Region.{IsOrdered, span};
@@ -21,7 +21,7 @@ use std::sync::ledger::Ledger;
 use vox_geom::{Coord, Steps};
 use vox_planes::Planes;
 
-/// Fills or voids the cells.
+/// Fills the cells, or voids them if `full` is false.
 pub(crate) fn set_cells(matrix: &mut Planes, cells: &[Coord], full: bool)
     requires whole { IsWhole matrix.old }
     requires within { All (λ c. IsInSpace matrix.old.resolution c) cells.now }
@@ -33,14 +33,14 @@ pub(crate) fn set_cells(matrix: &mut Planes, cells: &[Coord], full: bool)
     }
 }
 
-/// The number of void and of full voxels that a command edits.
+/// The numbers of void and of full voxels that a command meets before it edits them.
 #[derive(Clone, Copy)]
 pub(crate) struct Met {
     pub(crate) void: u32,
     pub(crate) full: u32,
 }
 
-/// Fills or voids the region, and returns the number of its void and full voxels before.
+/// Fills or voids the region, and returns how many of its voxels were void and how many full.
 fn change_region<L: Ledger>(matrix: &mut Planes, edited: EditedRegion, steps: &mut Steps<L>) -> Met
     requires ordered { IsOrdered edited.region }
     requires within { IsInSpace matrix.old.resolution edited.region.high }
@@ -54,7 +54,7 @@ fn change_region<L: Ledger>(matrix: &mut Planes, edited: EditedRegion, steps: &m
     met_by(edited.region.size(), others, edited.full)
 }
 
-/// Returns the void and full voxels of a region with `others` voxels not yet full (or not yet void).
+/// Returns the counts for a region of `size` voxels, `others` of which are void (or full, if `full` is false).
 fn met_by(size: u32, others: u32, full: bool) -> Met
     requires { others ≤ size }
     ensures void { result.void ≡ cond full others (size - others) }
@@ -74,7 +74,7 @@ fn met_by(size: u32, others: u32, full: bool) -> Met
     }
 }
 
-/// Returns the cost of a group, by its leader's command.
+/// Returns the cost of a group in energy, from its leader's command and the counts of voxels that the command meets.
 fn turn_cost(command: &Command, met: Met) -> i64
     ensures cost { (m : Matrix) (p : Point) → met.void ≡ void_count m p command.now
         → met.full ≡ met_full_count m p command.now → result ≡ group_cost m p command.now }
@@ -85,7 +85,7 @@ fn turn_cost(command: &Command, met: Met) -> i64
     command_cost(*command, met.void, met.full)
 }
 
-/// Changes the voxels of a group, and returns the number of void and full ones before.
+/// Edits the voxels of a group, given its leader, and returns how many of them were void and how many full.
 fn change_voxels<L: Ledger>(
     matrix: &mut Planes,
     bot: Bot,
@@ -105,7 +105,7 @@ fn change_voxels<L: Ledger>(
     }
 }
 
-/// Changes the voxels of a group, and returns its cost.
+/// Edits the voxels of a group, given its leader, and returns the group's cost in energy.
 pub(crate) fn pay_turn<L: Ledger>(
     matrix: &mut Planes,
     bot: Bot,

@@ -1,4 +1,4 @@
-//! The twelve words.
+//! The words of the twelve commands.
 ghost use Rattle.std.specs.Prelude.{◌≡◌, find};
 ghost use Rattle.std.specs.Str.{bytes_eq};
 ghost use Rattle.nano_spec.specs.LineForm.{words};
@@ -22,7 +22,7 @@ pub(crate) enum Word {
 }
 
 impl Word {
-    /// Returns the word with these letters.
+    /// Returns the word with these letters, or `None` if no command has it.
     pub(crate) fn of(letters: &[u8]) -> Option<Word>
         ensures { word_if_any result ≡ find (λ w. bytes_eq w.letters letters.now) words }
     {

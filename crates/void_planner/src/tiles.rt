@@ -1,4 +1,4 @@
-//! The tiles of a layer.
+//! The square tiles that cover a layer.
 ghost use Rattle.std.specs.Prelude.{◌≡◌, ◌+◌, ◌*◌, ◌<◌, ◌≤◌, IsTrue};
 ghost use Rattle.void_planner.specs.Tiles.{IsVoidTile, far_of, place_of, turned as turned_of};
 ghost use Rattle.void_planner.specs.Bounds.{tiles_of};
@@ -7,10 +7,10 @@ use vox_geom::{Coord, MOST_R, Region};
 use vox_planes::Planes;
 use voxel_reads::first_full;
 
-/// The longest side of a tile in voxels.
+/// The maximum length of a tile's side, in voxels.
 const SIDE: u16 = 31;
 
-/// Returns the distance of the corners of a tile along x and along z.
+/// Returns the distance between two corners of a tile along x, which is also that along z.
 pub fn far(r: u16) -> u16
     requires { 2 ≤ r }
     ensures { result ≡ far_of r }
@@ -18,7 +18,7 @@ pub fn far(r: u16) -> u16
     if r < SIDE { r - 1 } else { SIDE - 1 }
 }
 
-/// Returns the number of tiles of a layer along x, and along z.
+/// Returns the number of tiles of a layer along x, which is also that along z.
 pub fn tiles(r: u16) -> u16
     requires { r ≤ MOST_R }
     ensures value { result ≡ tiles_of r }
@@ -27,7 +27,7 @@ pub fn tiles(r: u16) -> u16
     (r + (SIDE - 1)) / SIDE
 }
 
-/// Returns the begin of a tile along x or z. The last one may overlap the one before it.
+/// Returns the least component of the k-th tile along x or z, counted from 0. The last tile may overlap the one before it.
 pub fn place(r: u16, k: u16) -> u16
     requires some { 2 ≤ r }
     requires few { k ≤ 13 }
@@ -37,7 +37,7 @@ pub fn place(r: u16, k: u16) -> u16
     if SIDE * k < last { SIDE * k } else { last }
 }
 
-/// Returns the k-th of n, counted forward or back.
+/// Returns the k-th of the numbers below n, counted from 0 up, or from the last one down if `back` is set.
 pub fn turn_number(n: u16, back: bool, k: u16) -> u16
     requires { k < n }
     ensures { result ≡ turned_of n back k }

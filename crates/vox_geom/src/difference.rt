@@ -2,7 +2,7 @@
 ghost use Rattle.std.specs.Prelude.{◌≡◌};
 ghost use Rattle.vox_geom.specs.Difference.{mlen as manhattan_length, clen as chessboard_length};
 
-/// A difference of two coordinates, of any kind or none. `Near`, `Far`, `Short` and `Long` are those of a kind.
+/// A difference of two coordinates, whether it is of a kind or of none. The kinds are `Near`, `Far`, `Short` and `Long`.
 #[derive(Clone, Copy, PartialEq, Eq, Hash, Debug)]
 pub struct Diff {
     pub dx: i16,
@@ -11,7 +11,7 @@ pub struct Diff {
 }
 
 impl Diff {
-    /// Returns the Manhattan length: the sum of the absolute values.
+    /// Returns the Manhattan length: the sum of the components' absolute values.
     pub fn mlen(self) -> u32
         ensures { result ≡ manhattan_length self }
     {
@@ -20,7 +20,7 @@ impl Diff {
             + u32::from(self.dz.unsigned_abs())
     }
 
-    /// Returns the Chessboard length: the greatest absolute value.
+    /// Returns the Chessboard length: the greatest of the components' absolute values.
     pub fn clen(self) -> u16
         ensures { result ≡ chessboard_length self }
     {
